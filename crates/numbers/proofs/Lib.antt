@@ -1,0 +1,6 @@
+-- Laws of the conversions, for the proofs of this crate and of those above it.
+pub mod Closest
+pub mod Rounding
+pub mod Spare
+pub mod Fields
+pub mod Away

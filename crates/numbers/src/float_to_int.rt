@@ -1,0 +1,57 @@
+// A float as a whole number: Rust's `x as u64` for an `f32`, and `x.round() as u64` for an `f64`.
+ghost use mathlib.Core.Path.{_≡_};
+ghost use lib.Ieee.{binary64};
+ghost use Rattle.numbers.specs.FloatToInt.{floatToInt, roundAway};
+
+// x without its fraction; 0 for a NaN or a negative, 2^64 - 1 for what is too large.
+pub fn to_u64(x: f32) -> u64
+    ensures { λ r. ⌜ r ≡ floatToInt 64 x ⌝ }
+{
+    if x != x {
+        return 0;
+    }
+    let bits: u32 = f32::to_bits(x);
+    if bits >= 0x8000_0000 {
+        return 0;
+    }
+    let exponent: u32 = bits >> 23;
+    if exponent < 127 {
+        return 0;
+    }
+    if exponent > 190 {
+        return 0xffff_ffff_ffff_ffff;
+    }
+    let digits: u64 = ((bits & 0x7f_ffff) | 0x80_0000) as u64;
+    if exponent <= 150 {
+        digits >> (150 - exponent)
+    } else {
+        digits << (exponent - 150)
+    }
+}
+
+// x to the nearest whole number, a half away from zero; 0 for a NaN or a negative, 2^64 - 1 for
+// what is too large.
+pub fn round_to_u64(x: f64) -> u64
+    ensures { λ r. ⌜ r ≡ floatToInt 64 (roundAway binary64 x) ⌝ }
+{
+    if x != x {
+        return 0;
+    }
+    let bits: u64 = f64::to_bits(x);
+    if bits >= 0x8000_0000_0000_0000 {
+        return 0;
+    }
+    let exponent: u64 = bits >> 52;
+    if exponent < 1022 {
+        return 0;
+    }
+    if exponent > 1086 {
+        return 0xffff_ffff_ffff_ffff;
+    }
+    let digits: u64 = (bits & 0xf_ffff_ffff_ffff) | 0x10_0000_0000_0000;
+    if exponent < 1075 {
+        (digits + (1 << (1074 - exponent))) >> (1075 - exponent)
+    } else {
+        digits << (exponent - 1075)
+    }
+}
