@@ -15,7 +15,7 @@ use lib.Ieee.Nearest.{div-same}
 use lib.Ieee.Order.{drop, kept}
 use lib.Ieee.Back.{round-whole}
 use Rattle.numbers.specs.FloatToInt.{roundAway}
-use Rattle.numbers.proofs.Rounding.{whole-of, digits-exact}
+use Rattle.numbers.proofs.Rounding.{whole-of, whole-kept}
 use Rattle.numbers.proofs.Fields.{cut-value, normal-value, small-value, bits-are, nothing, cut-nothing, nothing-odd, nothing-negative, top-field, cut-inf, under-cap, over-cap}
 
 -- ---- `roundAway` loses nothing: of a value that the format holds it is the whole number itself
@@ -94,11 +94,15 @@ module _ (w : ℕ) (f : Format) (x : Float) where
   pub away-whole : (d k : ℕ) → HasValue x false (d * 2 ^ k) 1 → d < 2 ^ prec f → prec f + k ≤ suc (emax f) → toUnsigned w (roundAway f x) ≡ min (d * 2 ^ k) (2 ^ w - 1)
   away-whole d k v h g =
       ap (toUnsigned w) (away-is f x (d * 2 ^ k) 1 (pow-pos 0) v ∙ ap (λ (z : ℕ). round f false z 1) (same (d * 2 ^ k)))
-      ∙ cut-value w (round f false (d * 2 ^ k) 1) (d * 2 ^ k) 1 (pow-pos 0) (digits-exact f d k h g)
+      ∙ cut-value w (round f false (d * 2 ^ k) 1) (d * 2 ^ k) 1 (pow-pos 0)
+      (whole-kept f d k (le-of-lt h) (lt-of-lt-of-le (mul-lt-mul-of-pos-right (shl-lt (prec f) k h) (pow-pos (low f))) (le-trans (le-of-eq (sym (pow-add 2 (prec f + k) (low f)))) (pow-mono (fit (prec f) k (low f) (suc (emax f)) g)))))
       ∙ ap (λ (z : ℕ). min z (2 ^ w - 1)) (div-one (d * 2 ^ k))
     where
       same : (n : ℕ) → (n * 2 + 1) / 2 ≡ n
       same n = omega arith
+
+      fit : (p k l e : ℕ) → p + k ≤ e → p + k + l ≤ l + e
+      fit p k l e h = omega arith
 
   -- below a half
   pub away-none : (a c : ℕ) → 0 < c → HasValue x false a c → a * 2 < c → toUnsigned w (roundAway f x) ≡ 0
