@@ -4,3 +4,4 @@ pub mod Rounding
 pub mod Spare
 pub mod Fields
 pub mod Away
+pub mod Between
