@@ -5,3 +5,4 @@ pub mod Spare
 pub mod Fields
 pub mod Away
 pub mod Between
+pub mod ScaleLaws

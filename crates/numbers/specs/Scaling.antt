@@ -1,12 +1,58 @@
--- A whole number times a float, by way of a float. document 01, "Conversions and scaling": "convert n, one f32 product, convert back"; network_model.rs, `(n as f32 * g) as usize`.
-use Prim.Native.Nat.{ℕ}
-use lib.Ieee.{Float, binary32, binary64, mul}
+-- A whole number times a float, by way of a float, and the laws that the floors above cite. The laws are stated here and proved in proofs/ScaleLaws.antt and proofs/Complement.antt.
+use Prim.Native.Nat.{ℕ, _+_, _-_, _*_, _/_, _^_, _≤_, _<_}
+use mathlib.Core.Path.{_≡_}
+use mathlib.Core.Logic.{_⊎_}
+use mathlib.Core.Bool.{false}
+use lib.IntN.{pos, negsuc}
+use lib.Dec.{T}
+use lib.Ieee.{Float, fin, binary32, binary64, mul, sub, le, fits}
+use lib.Ieee.Exact.{HasValue}
 use Rattle.numbers.specs.IntToFloat.{intToFloat}
 use Rattle.numbers.specs.FloatToInt.{floatToInt, roundAway}
 
+-- document 01, "Conversions and scaling": "scale(n, g): convert n, one f32 product, convert back"; network_model.rs, `(n as f32 * g) as usize`
 unfoldable pub scaled : ℕ → Float → ℕ
 scaled n g = floatToInt 64 (mul binary32 (intToFloat binary32 n) g)
 
--- bandwidth.rs, `(n as f64 * g).round() as u64`
+-- bandwidth.rs, `Mul<f64>`: `(n as f64 * g).round() as u64`
 unfoldable pub scaledF64 : ℕ → Float → ℕ
 scaledF64 n g = floatToInt 64 (roundAway binary64 (mul binary64 (intToFloat binary64 n) g))
+
+-- ---- laws. A factor g from 0 to 1 is given as a fraction a / c that it equals
+
+-- r is the floor of a / c or its ceiling, so it differs from a / c by less than 1
+pub record FloorOrCeiling (a c r : ℕ) : Type 0 where
+  pub either : (r ≡ a / c) ⊎ (r ≡ (a + (c - 1)) / c)
+  pub not-over : r * c < a + c
+  pub not-short : a < r * c + c
+
+-- document 01: "For n at most 2^24 and g from 0 to 1 the result is the floor or the ceiling of the exact product."
+abbrev pub ScaleLaw : Type 0
+ScaleLaw = (n a c : ℕ) (g : Float) → n ≤ 2 ^ 24 → 0 < c → a ≤ c → HasValue g false a c → FloorOrCeiling (n * a) c (scaled n g)
+
+-- r differs from a / c by at most 1/2 + 2 ^ -13, which is 4097 / 8192
+pub record WithinHalf (a c r : ℕ) : Type 0 where
+  pub not-over : r * c * 8192 ≤ a * 8192 + c * 4097
+  pub not-short : a * 8192 ≤ r * c * 8192 + c * 4097
+
+-- n up to 2 ^ 40 is what document 01 lets a bandwidth be
+abbrev pub ScaleF64Law : Type 0
+ScaleF64Law = (n a c : ℕ) (g : Float) → n ≤ 2 ^ 40 → 0 < c → a ≤ c → HasValue g false a c → WithinHalf (n * a) c (scaledF64 n g) × (scaledF64 n g ≤ n)
+
+-- ---- b, the f32 1 - beta; network_model.rs, `1.0 - params.beta`
+
+abbrev pub complement : Float → Float
+complement beta = sub binary32 (fin false 1 (pos 0)) beta
+
+-- b is a whole number of 2 ^ -24 parts, at least 1/1024 and at most 1023/1024
+pub record Parts (b : Float) : Type 0 where
+  pub parts : ℕ
+  pub value : HasValue b false parts (2 ^ 24)
+  pub some : 0 < parts
+  pub not-all : parts < 2 ^ 24
+  pub at-least : 2 ^ 24 ≤ parts * 1024
+  pub at-most : parts * 1024 ≤ 1023 * 2 ^ 24
+
+-- for every f32 beta from 1/1024, `fin false 1 (negsuc 9)`, to 1023/1024
+abbrev pub ComplementLaw : Type 0
+ComplementLaw = (beta : Float) → T (fits binary32 beta) → T (le (fin false 1 (negsuc 9)) beta) → T (le beta (fin false 1023 (negsuc 9))) → Parts (complement beta)
