@@ -6,3 +6,4 @@ pub mod Fields
 pub mod Away
 pub mod Between
 pub mod ScaleLaws
+pub mod Complement
