@@ -7,10 +7,9 @@ use Prim.Native.Nat.{ℕ, zero, suc, _+_, _-_, _*_, _/_, _%_, _^_, _≤_, _<_}
 use native.Mathlib.Nat.{le-trans, le-of-eq, le-of-lt, lt-of-le-of-lt, sub-le, sub-add-cancel, mul-one, one-mul, mul-assoc, mul-comm, mul-left-comm, mul-pos, mul-le-mul-right, mul-lt-mul-of-pos-right, le-div-iff-mul-le, div-lt-iff-lt-mul}
 use native.Mathlib.Omega.{arith}
 use lib.IntN.{ℤ, pos, negsuc}
-use lib.Dec.{T, leb, ltb, eqb, ltb→lt, lit≤, lit<}
+use lib.Dec.{T, ltb, lit≤, lit<}
 use lib.Pow.{pow-pos, pow-add, pow-mono, pow-lt}
-use lib.Ieee.{Float, nan, inf, fin, Format, binary32, prec, emax, low, up, down, round, sub, add, neg, sum, le, fits, size}
-use lib.Ieee.Fits.{and-l, and-r}
+use lib.Ieee.{Float, nan, inf, fin, binary32, up, down, round, sub, add, neg, sum, le, fits, size}
 use lib.Ieee.Exact.{HasValue}
 use lib.Ieee.Nearest.{closest}
 use lib.Ieee.Order.{round-mono}
@@ -19,7 +18,7 @@ use lib.Ieee.Positive.{positive, between, le→cross}
 use borrow.Author.Tests.{le-ltb}
 use Rattle.numbers.specs.Scaling.{complement, Parts, ComplementLaw}
 use Rattle.numbers.proofs.Closest.{le-or-lt, closest-le}
-use Rattle.numbers.proofs.Rounding.{same-value, size-is}
+use Rattle.numbers.proofs.Rounding.{same-value, size-is, format-digits}
 use Rattle.numbers.proofs.Between.{values-le, units-value}
 
 -- ---- one rounding of the exact difference
@@ -96,14 +95,6 @@ module _ (m j : ℕ) (few : m < 2 ^ 24) (L : 2 ^ suc j ≤ m * 1024) (H : m * 10
       not-over c m h = omega arith
 
 -- ---- every beta of the domain is such a fraction
-few-digits : (f : Format) (m : ℕ) (e : ℤ) → T (fits f (fin false (suc m) e)) → suc m < 2 ^ prec f
-unfolding fits
-few-digits f m e h =
-    let odd = eqb (suc m % 2) 1 in
-    let few = ltb (suc m) (2 ^ prec f) in
-    let fine = leb (down e) (2 ^ low f) in
-    ltb→lt (suc m) (2 ^ prec f) (and-r odd few (and-l (odd && few) fine (and-l (odd && few && fine) (ltb (suc m * up e) (2 ^ suc (emax f) * down e)) h)))
-
 pub complement-law : ComplementLaw
 complement-law beta F lo hi = go beta F (between (fin false 1 (negsuc 9)) beta (fin false 1023 (negsuc 9)) tt tt lo hi) lo hi
   where
@@ -124,7 +115,7 @@ complement-law beta F lo hi = go beta F (between (fin false 1 (negsuc 9)) beta (
         let H : suc m * 1024 ≤ 1023 * 2 ^ suc j = subst (λ (z : ℕ). z * 1024 ≤ 1023 * 2 ^ suc j) one (le→cross x (fin false 1023 (negsuc 9)) p tt hi) in
         let is : complement x ≡ round binary32 false (2 ^ suc j - suc m) (2 ^ suc j) =
         complement-is (suc m) (negsuc j) (le-trans (le-of-eq one) (under (suc m) (2 ^ suc j) H)) ∙ ap (λ (z : ℕ). round binary32 false (2 ^ suc j - z) (2 ^ suc j)) one in
-        subst Parts (sym is) (in-parts (suc m) j (few-digits binary32 m (negsuc j) F) L H)
+        subst Parts (sym is) (in-parts (suc m) j (format-digits binary32 false m (negsuc j) F) L H)
       where
         under : (m c : ℕ) → m * 1024 ≤ 1023 * c → m ≤ c
         under m c h = omega arith

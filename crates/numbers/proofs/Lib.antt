@@ -7,3 +7,4 @@ pub mod Away
 pub mod Between
 pub mod ScaleLaws
 pub mod Complement
+pub mod Reference

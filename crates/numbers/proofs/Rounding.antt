@@ -2,16 +2,16 @@
 -- kept, times the place of the last of them, are the number's float (`of-cut`). Assumes nothing.
 use mathlib.Core.Path.{_≡_, refl, sym, ap, _∙_, subst}
 use mathlib.Core.Logic.{_⊎_, inl, inr}
-use mathlib.Core.Bool.{Bool, false, true, true≢false}
+use mathlib.Core.Bool.{Bool, false, true, _&&_, true≢false}
 use Prim.Native.Nat.{ℕ, suc, _+_, _-_, _*_, _/_, _%_, _^_, _≤_, _<_}
 use native.Mathlib.Nat.{le-trans, le-of-lt, lt-of-lt-of-le, lt-of-le-of-lt, lt-of-not-le, not-le-of-lt, eq-or-lt-of-le, mul-one, one-mul, mul-comm, mul-assoc, mul-right-comm, mul-mul-mul-comm, mul-pos, mul-le-mul-right, mul-lt-mul-of-pos-right, le-div-iff-mul-le, div-lt-iff-lt-mul, div-one, eq-of-mul-eq-mul-right, add-assoc}
 use native.Mathlib.Omega.{arith}
-use lib.IntN.{pos}
-use lib.Dec.{lit<}
+use lib.IntN.{ℤ, pos}
+use lib.Dec.{T, leb, ltb, eqb, ltb→lt, lit<}
 use lib.Pow.{pow-add, pow-pos, pow-mono, pow-lt}
-use lib.Ieee.{Float, nan, inf, fin, Format, binary32, binary64, prec, emax, low, up, down, size, round, mul, ofInt}
+use lib.Ieee.{Float, nan, inf, fin, Format, binary32, binary64, prec, emax, low, up, down, size, round, mul, ofInt, fits}
 use lib.Ieee.Digits.{size-lt, size-le}
-use lib.Ieee.Fits.{two, two-le-pos, down-pos, ofInt-fits, mul-fits}
+use lib.Ieee.Fits.{and-l, and-r, two, two-le-pos, down-pos, ofInt-fits, mul-fits}
 use lib.Ieee.Exact.{HasValue, round-exact}
 use lib.Ieee.Nearest.{closest, closest-same}
 use lib.Ieee.Order.{drop, kept}
@@ -19,6 +19,28 @@ use lib.Ieee.Scale.{round-same, grid, overflow, round-val}
 use lib.Ieee.Back.{round-whole, whole-unique}
 use Rattle.numbers.specs.IntToFloat.{Cut}
 use Rattle.numbers.proofs.Closest.{closest-below, closest-le}
+
+-- ---- what `fits` tells of a value that is not zero
+module _ (f : Format) (s : Bool) (m : ℕ) (e : ℤ) (h : T (fits f (fin s (suc m) e))) where
+  abbrev odd : Bool
+  odd = eqb (suc m % 2) 1
+
+  abbrev few : Bool
+  few = ltb (suc m) (2 ^ prec f)
+
+  abbrev fine : Bool
+  fine = leb (down e) (2 ^ low f)
+
+  abbrev small : Bool
+  small = ltb (suc m * up e) (2 ^ suc (emax f) * down e)
+
+  pub format-digits : suc m < 2 ^ prec f
+  unfolding fits
+  format-digits = ltb→lt (suc m) (2 ^ prec f) (and-r odd few (and-l (odd && few) fine (and-l (odd && few && fine) small h)))
+
+  pub format-range : suc m * up e < 2 ^ suc (emax f) * down e
+  unfolding fits
+  format-range = ltb→lt (suc m * up e) (2 ^ suc (emax f) * down e) (and-r (odd && few && fine) small h)
 
 -- ---- a value by another fraction of the same size
 pub same-value : (x : Float) (s : Bool) (a c b d : ℕ) → 0 < c → b * c ≡ a * d → HasValue x s a c → HasValue x s b d
