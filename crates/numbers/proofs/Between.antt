@@ -134,13 +134,13 @@ module _ (f : Format) (s a c : ℕ) (S : s ≤ low f) (C : 0 < c) (A : a * 2 ^ s
   round-between = elim (round-plain f a c) [
     | inl e ↦ absurd (not-inf (round f false hi (2 ^ s)) hi (2 ^ s) hi-value (subst (λ (v : Float). T (le v (round f false hi (2 ^ s)))) e below-hi))
     | inr v ↦ (
-        v .0,
-        v .1,
-        record {
-          positive = v .2;
-          not-under = values-le (round f false lo (2 ^ s)) (round f false a c) lo (2 ^ s) (v .0) (v .1) lo-value (v .3) above-lo;
-          not-over = values-le (round f false a c) (round f false hi (2 ^ s)) (v .0) (v .1) hi (2 ^ s) (v .3) hi-value below-hi;
-        },
-        v .3,
+      v .0,
+      v .1,
+      record {
+        positive = v .2;
+        not-under = values-le (round f false lo (2 ^ s)) (round f false a c) lo (2 ^ s) (v .0) (v .1) lo-value (v .3) above-lo;
+        not-over = values-le (round f false a c) (round f false hi (2 ^ s)) (v .0) (v .1) hi (2 ^ s) (v .3) hi-value below-hi;
+      },
+      v .3,
     )
   ]

@@ -8,3 +8,5 @@ pub mod Between
 pub mod ScaleLaws
 pub mod Complement
 pub mod Reference
+pub mod OneReply
+pub mod Determined

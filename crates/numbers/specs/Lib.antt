@@ -2,3 +2,4 @@
 pub mod IntToFloat
 pub mod FloatToInt
 pub mod Scaling
+pub mod Examples

@@ -1,7 +1,6 @@
 // A whole number times a float, as a whole number again.
 ghost use mathlib.Core.Path.{_≡_};
 ghost use Rattle.numbers.specs.Scaling.{scaled, scaledF64};
-
 use crate::float_to_int::round_to_u64;
 use crate::float_to_int::to_u64;
 use crate::int_to_float::to_f32;
