@@ -6,10 +6,11 @@ use Prim.Native.Nat.{ℕ, zero, suc, _+_, _-_, _*_, _/_, _%_, _^_, _≤_, _<_, m
 use native.Mathlib.Nat.{le-trans, le-of-eq, le-of-lt, lt-of-lt-of-le, lt-of-le-of-lt, le-of-suc-le-suc, eq-or-lt-of-le, mul-one, mul-assoc, mul-comm, mul-le-mul-right, le-add-right, le-div-iff-mul-le, div-lt-iff-lt-mul, mod-eq-of-lt, mod-lt, mul-div-cancel, mul-mod-left, mul-lt-mul-of-pos-right, add-zero}
 use native.Mathlib.Omega.{arith}
 use lib.Dec.{T, leb, ltb, eqb, leb→le, le→leb, eqb→eq, not-T, T-not, lit≤}
-use lib.Arith.{lt→nleb}
+use lib.Arith.{lt→nleb, le→nltb}
 use lib.Pow.{pow-add, pow-pos, pow-mono, shl-lt, shl-shr, shr-shr, shr-le, le-ones}
-use lib.Ieee.{Float, nan, inf, fin, Format, binary32, binary64, prec, emax, low, up, down, odd, hid, ones, top, ofFields, ofBits, toUnsigned, isNan}
-use lib.Ieee.Bits.{is-true, is-false, cond-no}
+use lib.Ieee.{Float, nan, inf, fin, Format, binary32, binary64, prec, emax, low, up, down, odd, hid, ones, top, ofFields, ofBits, toUnsigned, isNan, nanBits, ne}
+use lib.Ieee.Bits.{is-true, is-false, cond-no, nanBits-above}
+use lib.Ieee.Compare.{nan-differs}
 use lib.Ieee.Fits.{down-pos, eq→eqb, two}
 use lib.Ieee.Exact.{HasValue, odd-sign}
 use lib.Ieee.Nearest.{div-same}
@@ -68,6 +69,16 @@ bits-are f b h =
 pub bits-negative : (f : Format) (b : ℕ) → top f ≤ b → ofBits f b ≡ ofFields f true (b % top f / hid f) (b % hid f)
 unfolding ofBits
 bits-negative f b h = ap (λ (s : Bool). ofFields f s (b % top f / hid f) (b % hid f)) (is-true (leb (top f) b) (le→leb (top f) b h))
+
+-- ---- what is a NaN, and what is none
+pub no-nan : (x : Float) → ne x x ≡ false → T (not (isNan x))
+unfolding isNan
+no-nan nan h = absurd (true≢false (sym nan-differs ∙ h))
+no-nan (inf s) h = tt
+no-nan (fin s m e) h = tt
+
+pub plain-bits : (f : Format) (b : ℕ) → b % top f ≤ ones f * hid f → T (not (nanBits f b))
+plain-bits f b h = subst (λ (z : Bool). T (not z)) (sym (nanBits-above f b)) (le→nltb (ones f * hid f) (b % top f) h)
 
 -- ---- a NaN, and what has the sign: as an unsigned integer it is 0
 abbrev pub nothing : Float → Bool

@@ -1,12 +1,7 @@
--- What "any two replies that a contract allows coincide" means, of a function that changes no lent memory: whatever the arguments, two results that the contract's clauses hold of are equal.
--- `post` is the contract as the checker reads it, `Reads.Learnt`. Definitions only.
-use Prim.Native.Nat.{ℕ}
-use mathlib.Core.List.{List}
+-- What "any two replies that a contract allows coincide" means, of a function that changes no lent memory. A contract as the checker reads it, `Reads.Learnt` of the function, speaks of
+-- lifetimes, arguments, a reply and what is left at the exit. A definition only.
 use mathlib.Core.Path.{_≡_}
-use contract.Lifetimes.{Lfts}
-use denote.Triple.Clauses.{AtExit}
-use borrow.Fn.Kinds.{PK, RK, Dens, Out, resT, endedOf}
 
-abbrev pub OneReply : (n : ℕ) (ps : List (PK n)) (r : RK n) → Out n ps r → Type 0
-OneReply n ps r post =
-    (κs : Lfts n) (a : Dens κs ps) (x y : resT r κs .Denot) (s t : AtExit (endedOf n ps r) κs) → post κs a x s → post κs a y t → x ≡ y
+-- whatever the arguments, two replies of which the contract holds are equal
+abbrev pub OneReply : {K : Type 0} {A R E : K → Type 0} → ((κ : K) → A κ → R κ → E κ → Type 0) → Type 0
+OneReply {K} {A} {R} {E} learnt = (κ : K) (a : A κ) (x y : R κ) (s t : E κ) → learnt κ a x s → learnt κ a y t → x ≡ y

@@ -6,15 +6,13 @@ use native.Mathlib.Nat.{mul-comm, mul-le-mul-right, mul-lt-mul-of-pos-right, mod
 use native.Mathlib.Omega.{arith}
 use lib.IntN.{pos}
 use lib.Dec.{T, le→leb, lit≤}
-use lib.Arith.{le→nltb}
 use lib.Pow.{pow-pos}
 use lib.Ieee.{Format, binary32, binary64, prec, emax, hid, ones, top, ofInt, ofBits, mul, nanBits, inFloat}
-use lib.Ieee.Bits.{nanBits-above}
 use lib.Ieee.Nearest.{closest}
 use Rattle.numbers.specs.IntToFloat.{Spare}
 use Rattle.numbers.proofs.Closest.{closest-le}
 use Rattle.numbers.proofs.Rounding.{of-cut}
-use Rattle.numbers.proofs.Fields.{power-value}
+use Rattle.numbers.proofs.Fields.{plain-bits, power-value}
 
 far : (f : Format) → 64 ≤ emax f
 far binary32 = lit≤ tt
@@ -37,7 +35,7 @@ module _ (f : Format) (n k : ℕ) (s : Spare (prec f) n k) where
       let b = (emax f + k) * hid f in
       let small : b ≤ ones f * hid f = mul-le-mul-right (hid f) (below (emax f) k reach) in
       let in-half : b < top f = subst (λ (x : ℕ). b < x) (mul-comm (suc (ones f)) (hid f)) (mul-lt-mul-of-pos-right (under (emax f) k reach) (pow-pos (prec f - 1))) in
-      subst (λ (x : Bool). T (not x)) (sym (nanBits-above f b)) (le→nltb (ones f * hid f) (b % top f) (subst (λ (x : ℕ). x ≤ ones f * hid f) (sym (mod-eq-of-lt in-half)) small))
+      plain-bits f b (subst (λ (x : ℕ). x ≤ ones f * hid f) (sym (mod-eq-of-lt in-half)) small)
     where
       below : (e k : ℕ) → k ≤ e → e + k ≤ 2 * e + 1
       below e k h = omega arith

@@ -11,10 +11,10 @@ use lib.Bits.{bitAnd, bitOr, and-mask, or-shifted-r}
 use lib.Ieee.{Float, nan, inf, fin, binary64, fits, isNan, ne, toUnsigned, toBits, ofBits}
 use lib.Ieee.Bits.{ofBits-toBits}
 use lib.Ieee.Casts.{toUnsigned-lt}
-use lib.Ieee.Compare.{differs-from-itself, nan-differs}
+use lib.Ieee.Compare.{differs-from-itself}
 use mir.Facts.{fits-of-lt}
 use Rattle.numbers.specs.FloatToInt.{roundAway}
-use Rattle.numbers.proofs.Fields.{nothing, nothing-negative}
+use Rattle.numbers.proofs.Fields.{no-nan, nothing, nothing-negative}
 use Rattle.numbers.proofs.Away.{away-nothing, away-small, away-large, away-right, away-left}
 use Rattle.numbers.proofs.float_to_int.round_to_u64.Statement.{statement}
 use Rattle.numbers.proofs.float_to_int.round_to_u64.Tie as tie
@@ -28,12 +28,6 @@ held c = subst T (sym (c .good .0 .1)) tt
 
 back : (c : tie.Start) → whole (c .args .x) ≡ whole (ofBits binary64 (toBits binary64 (c .args .x)))
 back c = ap whole (sym (ofBits-toBits binary64 (c .args .x) (held c)))
-
-no-nan : (x : Float) → ne x x ≡ false → T (not (isNan x))
-unfolding isNan
-no-nan nan h = absurd (true≢false (sym nan-differs ∙ h))
-no-nan (inf s) h = tt
-no-nan (fin s m e) h = tt
 
 -- the digits with the leading one
 digits : (b : ℕ) → bitOr (bitAnd b 4503599627370495) 4503599627370496 ≡ 4503599627370496 + b % 4503599627370496

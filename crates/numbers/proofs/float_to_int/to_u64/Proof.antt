@@ -11,9 +11,9 @@ use lib.Bits.{bitAnd, bitOr, and-mask, or-shifted-r}
 use lib.Ieee.{Float, nan, inf, fin, binary32, fits, isNan, ne, toUnsigned, toBits, ofBits}
 use lib.Ieee.Bits.{ofBits-toBits}
 use lib.Ieee.Casts.{toUnsigned-lt}
-use lib.Ieee.Compare.{differs-from-itself, nan-differs}
+use lib.Ieee.Compare.{differs-from-itself}
 use mir.Facts.{fits-of-lt}
-use Rattle.numbers.proofs.Fields.{cut-negative, cut-small, cut-large, cut-right, cut-left}
+use Rattle.numbers.proofs.Fields.{no-nan, cut-negative, cut-small, cut-large, cut-right, cut-left}
 use Rattle.numbers.proofs.float_to_int.to_u64.Statement.{statement}
 use Rattle.numbers.proofs.float_to_int.to_u64.Tie as tie
 
@@ -23,12 +23,6 @@ held c = subst T (sym (c .good .0 .1)) tt
 
 back : (c : tie.Start) → ofBits binary32 (toBits binary32 (c .args .x)) ≡ c .args .x
 back c = ofBits-toBits binary32 (c .args .x) (held c)
-
-no-nan : (x : Float) → ne x x ≡ false → T (not (isNan x))
-unfolding isNan
-no-nan nan h = absurd (true≢false (sym nan-differs ∙ h))
-no-nan (inf s) h = tt
-no-nan (fin s m e) h = tt
 
 nan-cut : (x : Float) → x ≡ nan → 0 ≡ toUnsigned 64 x
 unfolding toUnsigned

@@ -1,0 +1,105 @@
+// Compares the port with fixed lists of the original's answers, and prints what was compared.
+mod bits;
+mod list;
+mod turn;
+
+use filters::Duration;
+use filters::MaxBandwidthFilter;
+use filters::MinRttFilter;
+use filters::Moment;
+use filters::RoundTripCounter;
+use filters::WindowedFilter;
+use libc::STDOUT_FILENO;
+use turn::Asked;
+
+pub struct Tally {
+    pub answers: u64,
+    pub differ: u64,
+}
+
+fn sum(a: Tally, b: Tally) -> Tally {
+    Tally {
+        answers: std::num::wrapping_add_u64(a.answers, b.answers),
+        differ: std::num::wrapping_add_u64(a.differ, b.differ),
+    }
+}
+
+// The lines of a list, counted, and those that the port answers otherwise.
+fn compared(asked: Asked, text: &[u8]) -> Tally {
+    let mut next = asked;
+    let mut at: usize = 0;
+    let mut tally = Tally {
+        answers: 0,
+        differ: 0,
+    };
+    for _ in 0u64..100_000 {
+        if text.len() <= at {
+            return tally;
+        }
+        let line = list::read_line(text, at);
+        at = line.next;
+        let numbers = line.numbers;
+        let turn = turn::turn(next, numbers);
+        next = turn.asked;
+        let differ = if turn.same { 0 } else { 1 };
+        tally = sum(tally, Tally { answers: 1, differ });
+    }
+    tally
+}
+
+// Compares the list in a file and prints its line. A list is shorter than the buffer, 65,536 bytes.
+fn list(asked: Asked, name: &[u8]) -> Tally {
+    let file = os::open_read(name);
+    if file < 0 {
+        os::fail(name);
+        return Tally {
+            answers: 0,
+            differ: 1,
+        };
+    }
+    let mut space = io::large_buffer();
+    let n = io::read_full(file, &mut space);
+    libc::close(file);
+    let tally = compared(asked, &space[..n]);
+    print(tally, name);
+    tally
+}
+
+fn print(tally: Tally, name: &[u8]) {
+    io::print_decimal(STDOUT_FILENO, tally.answers);
+    io::write_all(STDOUT_FILENO, b" answers, ");
+    io::print_decimal(STDOUT_FILENO, tally.differ);
+    io::write_all(STDOUT_FILENO, b" differ: ");
+    io::write_all(STDOUT_FILENO, name);
+    io::write_all(STDOUT_FILENO, b"\n");
+}
+
+fn conversions() -> Tally {
+    let a = list(Asked::ToF32, b"to_f32.txt");
+    let b = list(Asked::ToF64, b"to_f64.txt");
+    let c = list(Asked::ToU64, b"to_u64.txt");
+    let d = list(Asked::RoundToU64, b"round_to_u64.txt");
+    let e = list(Asked::Scale, b"scale.txt");
+    sum(sum(a, b), sum(sum(c, d), e))
+}
+
+fn bandwidths() -> Tally {
+    let a = list(Asked::BandwidthMul, b"bandwidth_mul.txt");
+    let b = list(Asked::BandwidthPeriod, b"bandwidth_period.txt");
+    let c = list(Asked::BandwidthOrder, b"bandwidth_order.txt");
+    sum(sum(a, b), c)
+}
+
+fn all_filters() -> Tally {
+    let a = list(Asked::Windowed(WindowedFilter::new(0)), b"windowed_filter.txt");
+    let b = list(Asked::MaxBandwidth(MaxBandwidthFilter::new()), b"max_bandwidth_filter.txt");
+    let c = list(Asked::MinRtt(MinRttFilter::new(Duration(0), Moment(0))), b"min_rtt_filter.txt");
+    let d = list(Asked::Rounds(RoundTripCounter::new()), b"round_trip_counter.txt");
+    sum(sum(a, b), sum(c, d))
+}
+
+fn main() {
+    io::write_all(STDOUT_FILENO, b"The original's answers, compared with the port's:\n");
+    let tally = sum(sum(conversions(), bandwidths()), all_filters());
+    print(tally, b"all lists");
+}

@@ -1,0 +1,171 @@
+// One line of a list, asked of the port.
+use crate::bits::f32_is;
+use crate::bits::f32_of;
+use crate::bits::f64_is;
+use crate::bits::f64_of;
+use filters::Bandwidth;
+use filters::Duration;
+use filters::MaxBandwidthFilter;
+use filters::MinRttFilter;
+use filters::Moment;
+use filters::Reply;
+use filters::RoundTripCounter;
+use filters::WindowedFilter;
+use filters::round_trip_counter::RoundEnd;
+use filters::windowed_filter::Held;
+
+// What a list asks, with the filter that it goes on with from line to line.
+pub enum Asked {
+    ToF32,
+    ToF64,
+    ToU64,
+    RoundToU64,
+    Scale,
+    BandwidthMul,
+    BandwidthPeriod,
+    BandwidthOrder,
+    Windowed(WindowedFilter),
+    MaxBandwidth(MaxBandwidthFilter),
+    MinRtt(MinRttFilter),
+    Rounds(RoundTripCounter),
+}
+
+pub struct Turn {
+    pub asked: Asked,
+    pub same: bool,
+}
+
+// Whether the port answers as the line has it, and what the next line asks.
+pub fn turn(asked: Asked, n: [u64; 10]) -> Turn {
+    match asked {
+        Asked::Windowed(filter) => windowed(filter, n),
+        Asked::MaxBandwidth(filter) => max_bandwidth(filter, n),
+        Asked::MinRtt(filter) => min_rtt(filter, n),
+        Asked::Rounds(counter) => rounds(counter, n),
+        _ => Turn {
+            asked,
+            same: number(asked, n),
+        },
+    }
+}
+
+// Whether a conversion or a bandwidth is as the line has it.
+fn number(asked: Asked, n: [u64; 10]) -> bool {
+    match asked {
+        Asked::ToF32 => f32_is(numbers::to_f32(n[0]), n[1]),
+        Asked::ToF64 => f64_is(numbers::to_f64(n[0]), n[1]),
+        Asked::ToU64 => numbers::to_u64(f32_of(n[0])) == n[1],
+        Asked::RoundToU64 => numbers::round_to_u64(f64_of(n[0])) == n[1],
+        Asked::Scale => numbers::scale(n[0], f32_of(n[1])) == n[2],
+        Asked::BandwidthMul => Bandwidth(n[0]).mul_f32(f32_of(n[1])).0 == n[2],
+        Asked::BandwidthPeriod => Bandwidth(n[0]).to_bytes_per_period(Duration(n[1])) == n[2],
+        Asked::BandwidthOrder => order(Bandwidth(n[0]), Bandwidth(n[1]), n),
+        _ => false,
+    }
+}
+
+fn order(a: Bandwidth, b: Bandwidth, n: [u64; 10]) -> bool {
+    (a.lt(b) == (n[2] == 1)) & (a.max(b).0 == n[3]) & (a.min(b).0 == n[4])
+}
+
+fn windowed(filter: WindowedFilter, n: [u64; 10]) -> Turn {
+    let op = n[0];
+    let next = match op {
+        0 => WindowedFilter::new(n[1]),
+        1 => filter.reset(n[1], n[2]),
+        2 => updated(filter, n[1], n[2]),
+        _ => filter.clear(),
+    };
+    Turn {
+        asked: Asked::Windowed(next),
+        same: holds(next, n),
+    }
+}
+
+// The filter after an update; an empty one where it is refused, which no line expects.
+fn updated(filter: WindowedFilter, sample: u64, time: u64) -> WindowedFilter {
+    let answer = filter.update(sample, time);
+    let reply = answer.reply;
+    match reply {
+        Reply::Done => answer.filter,
+        _ => filter.clear(),
+    }
+}
+
+fn holds(filter: WindowedFilter, n: [u64; 10]) -> bool {
+    let held = filter.held;
+    match held {
+        Held::Empty => n[3] == 0,
+        Held::Full(e) => {
+            (n[3] == 1)
+                & (e.best.sample == n[4])
+                & (e.best.time == n[5])
+                & (e.second.sample == n[6])
+                & (e.second.time == n[7])
+                & (e.third.sample == n[8])
+                & (e.third.time == n[9])
+        }
+    }
+}
+
+fn max_bandwidth(filter: MaxBandwidthFilter, n: [u64; 10]) -> Turn {
+    let op = n[0];
+    let next = match op {
+        0 => MaxBandwidthFilter::new(),
+        1 => filter.update(Bandwidth(n[1])),
+        _ => filter.advance(),
+    };
+    Turn {
+        asked: Asked::MaxBandwidth(next),
+        same: (next.slot0.0 == n[2]) & (next.slot1.0 == n[3]) & (next.get().0 == n[4]),
+    }
+}
+
+fn min_rtt(filter: MinRttFilter, n: [u64; 10]) -> Turn {
+    let rtt = Duration(n[1]);
+    let now = Moment(n[2]);
+    let op = n[0];
+    let next = match op {
+        0 => MinRttFilter::new(rtt, now),
+        1 => filter.update(rtt, now),
+        _ => filter.force_update(rtt, now),
+    };
+    Turn {
+        asked: Asked::MinRtt(next),
+        same: (next.get().0 == n[3]) & (next.get_timestamps().0 == n[4]),
+    }
+}
+
+fn rounds(counter: RoundTripCounter, n: [u64; 10]) -> Turn {
+    let op = n[0];
+    let next = match op {
+        0 => RoundTripCounter::new(),
+        1 => counter.on_packet_sent(n[2]),
+        2 => return acked(counter, n),
+        _ => counter.restart_round(),
+    };
+    Turn {
+        asked: Asked::Rounds(next),
+        same: (n[5] == 0) & stands(next, n),
+    }
+}
+
+fn acked(counter: RoundTripCounter, n: [u64; 10]) -> Turn {
+    let packets = [n[2], n[3], n[4]];
+    let few = n[1] % 4;
+    let answer = counter.on_packets_acked(&packets[..(few as usize)]);
+    let next = answer.counter;
+    Turn {
+        asked: Asked::Rounds(next),
+        same: (answer.ended == (n[5] == 1)) & stands(next, n),
+    }
+}
+
+fn stands(counter: RoundTripCounter, n: [u64; 10]) -> bool {
+    let end = counter.end;
+    let set = match end {
+        RoundEnd::NotSet => n[8] == 0,
+        RoundEnd::At(packet) => (n[8] == 1) & (packet == n[9]),
+    };
+    (counter.count == n[6]) & (counter.sent == n[7]) & set
+}

@@ -1,0 +1,3 @@
+-- Theorems about the contracts and the definitions.
+pub mod Determined
+pub mod Examples

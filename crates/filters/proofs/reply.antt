@@ -1,0 +1,2 @@
+-- What the numbers of replies say.
+pub mod Number

@@ -1,0 +1,1 @@
+// Stands for src/recovery/gcongestion/pacer.rs: nothing of it is used.
