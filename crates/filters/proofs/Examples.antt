@@ -1,50 +1,13 @@
--- Document 01's marked examples 9 and 10, both halves of each: one list of facts with one proof, which antt computes.
-use Prim.Native.Nat.{ℕ}
-use mathlib.Core.Bool.{Bool, true, false, _&&_}
-use mathlib.Core.List.{List, [], _∷_, foldr}
+-- document 01's marked examples 1 to 7, 9 and 10: one list of facts, one proof, which antt computes.
+use mathlib.Core.Bool.{true}
 use mathlib.Core.Path.{_≡_, refl}
-use lib.Dec.{eqb}
-use Rattle.filters.specs.declared.max_bandwidth_filter.MaxBandwidthFilter.{MaxBandwidthFilter}
-use Rattle.filters.specs.declared.windowed_filter.Held.{Held}
-use Rattle.filters.specs.declared.windowed_filter.Held.the-variants.{Empty, Full}
-use Rattle.filters.specs.declared.windowed_filter.WindowedFilter.{WindowedFilter}
+use lib.Ieee as Ieee
+use Rattle.numbers.specs.Scaling.{scaled}
+use Rattle.numbers.specs.Examples.{all, conversions}
+use Rattle.filters.specs.Examples.{filterExamples, examples}
 use Rattle.filters.specs.MaxBandwidthFilter.{maxAdvance}
-use Rattle.filters.specs.WindowedFilter.{isReplaced, raised, shifted, lingers, renewed, aged, windowedNew, windowedReset, windowedNumber, windowedUpdate}
+use Rattle.filters.specs.WindowedFilter.{isReplaced, raised, shifted, lingers, renewed, aged, windowedReset, windowedNumber, windowedUpdate}
 
-abbrev same : List ℕ → List ℕ → Bool
-same [] [] = true
-same (a ∷ l) (b ∷ k) = eqb a b && same l k
-same [] (b ∷ k) = false
-same (a ∷ l) [] = false
-
--- the samples, each with its time
-abbrev held : Held → List ℕ
-held Empty = []
-held (Full e) = e .best .sample ∷ e .best .time ∷ e .second .sample ∷ e .second .time ∷ e .third .sample ∷ e .third .time ∷ []
-
-abbrev start : WindowedFilter
-start = windowedReset (windowedNew 8) 5 0
-
--- the reply to 5 at a time, and what the filter then holds
-abbrev then : ℕ → List ℕ
-then t = windowedNumber start t ∷ held (windowedUpdate start 5 t .held)
-
-abbrev filter : ℕ → ℕ → MaxBandwidthFilter
-filter a b = record { slot0 = record { 0 = a }; slot1 = record { 0 = b } }
-
-abbrev slots : MaxBandwidthFilter → List ℕ
-slots f = f .slot0 .0 ∷ f .slot1 .0 ∷ []
-
-abbrev pub filterExamples : List Bool
-filterExamples =
-    -- 9: an age of 2 is not above 2; an age of 3 is
-    same (then 2) (0 ∷ 5 ∷ 0 ∷ 5 ∷ 0 ∷ 5 ∷ 0 ∷ [])
-    ∷ same (then 3) (0 ∷ 5 ∷ 0 ∷ 5 ∷ 3 ∷ 5 ∷ 3 ∷ [])
-    -- 10: an empty slot 1 is not moved; another is
-    ∷ same (slots (maxAdvance (filter 9 0))) (9 ∷ 0 ∷ [])
-    ∷ same (slots (maxAdvance (filter 9 4))) (4 ∷ 0 ∷ [])
-    ∷ []
-
-pub filter-examples : foldr _&&_ true filterExamples ≡ true
-unfolding maxAdvance windowedReset isReplaced raised shifted lingers renewed aged windowedNumber windowedUpdate
-filter-examples = refl
+pub marked-examples : all examples ≡ true
+unfolding all examples conversions filterExamples scaled Ieee.ofBits Ieee.sub Ieee.mul Ieee.ofInt Ieee.toUnsigned Ieee.eq maxAdvance windowedReset isReplaced raised shifted lingers renewed aged windowedNumber windowedUpdate
+marked-examples = refl
