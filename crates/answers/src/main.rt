@@ -1,8 +1,9 @@
 // Compares the port with fixed lists of the original's answers, and prints what was compared.
+mod asked;
 mod bits;
 mod list;
-mod turn;
 
+use asked::Asked;
 use filters::Duration;
 use filters::MaxBandwidthFilter;
 use filters::MinRttFilter;
@@ -10,7 +11,6 @@ use filters::Moment;
 use filters::RoundTripCounter;
 use filters::WindowedFilter;
 use libc::STDOUT_FILENO;
-use turn::Asked;
 
 pub struct Tally {
     pub answers: u64,
@@ -39,7 +39,7 @@ fn compared(asked: Asked, text: &[u8]) -> Tally {
         let line = list::read_line(text, at);
         at = line.next;
         let numbers = line.numbers;
-        let turn = turn::turn(next, numbers);
+        let turn = asked::answer(next, numbers);
         next = turn.asked;
         let differ = if turn.same { 0 } else { 1 };
         tally = sum(tally, Tally { answers: 1, differ });
@@ -48,7 +48,7 @@ fn compared(asked: Asked, text: &[u8]) -> Tally {
 }
 
 // Compares the list in a file and prints its line. A list is shorter than the buffer, 65,536 bytes.
-fn list(asked: Asked, name: &[u8]) -> Tally {
+fn compare(asked: Asked, name: &[u8]) -> Tally {
     let file = os::open_read(name);
     if file < 0 {
         os::fail(name);
@@ -75,31 +75,46 @@ fn print(tally: Tally, name: &[u8]) {
 }
 
 fn conversions() -> Tally {
-    let a = list(Asked::ToF32, b"to_f32.txt");
-    let b = list(Asked::ToF64, b"to_f64.txt");
-    let c = list(Asked::ToU64, b"to_u64.txt");
-    let d = list(Asked::RoundToU64, b"round_to_u64.txt");
-    let e = list(Asked::Scale, b"scale.txt");
+    let a = compare(Asked::ToF32, b"to_f32.txt");
+    let b = compare(Asked::ToF64, b"to_f64.txt");
+    let c = compare(Asked::ToU64, b"to_u64.txt");
+    let d = compare(Asked::RoundToU64, b"round_to_u64.txt");
+    let e = compare(Asked::Scale, b"scale.txt");
     sum(sum(a, b), sum(sum(c, d), e))
 }
 
 fn bandwidths() -> Tally {
-    let a = list(Asked::BandwidthMul, b"bandwidth_mul.txt");
-    let b = list(Asked::BandwidthPeriod, b"bandwidth_period.txt");
-    let c = list(Asked::BandwidthOrder, b"bandwidth_order.txt");
+    let a = compare(Asked::BandwidthMul, b"bandwidth_mul.txt");
+    let b = compare(Asked::BandwidthPeriod, b"bandwidth_period.txt");
+    let c = compare(Asked::BandwidthOrder, b"bandwidth_order.txt");
     sum(sum(a, b), c)
 }
 
 fn all_filters() -> Tally {
-    let a = list(Asked::Windowed(WindowedFilter::new(0)), b"windowed_filter.txt");
-    let b = list(Asked::MaxBandwidth(MaxBandwidthFilter::new()), b"max_bandwidth_filter.txt");
-    let c = list(Asked::MinRtt(MinRttFilter::new(Duration(0), Moment(0))), b"min_rtt_filter.txt");
-    let d = list(Asked::Rounds(RoundTripCounter::new()), b"round_trip_counter.txt");
+    let a = compare(
+        Asked::Windowed(WindowedFilter::new(0)),
+        b"windowed_filter.txt",
+    );
+    let b = compare(
+        Asked::MaxBandwidth(MaxBandwidthFilter::new()),
+        b"max_bandwidth_filter.txt",
+    );
+    let c = compare(
+        Asked::MinRtt(MinRttFilter::new(Duration(0), Moment(0))),
+        b"min_rtt_filter.txt",
+    );
+    let d = compare(
+        Asked::Rounds(RoundTripCounter::new()),
+        b"round_trip_counter.txt",
+    );
     sum(sum(a, b), sum(c, d))
 }
 
 fn main() {
-    io::write_all(STDOUT_FILENO, b"The original's answers, compared with the port's:\n");
+    io::write_all(
+        STDOUT_FILENO,
+        b"The original's answers, compared with the port's:\n",
+    );
     let tally = sum(sum(conversions(), bandwidths()), all_filters());
     print(tally, b"all lists");
 }

@@ -36,7 +36,7 @@ pub struct Turn {
 }
 
 // Whether the port answers as the line has it, and what the next line asks.
-pub fn turn(asked: Asked, n: [u64; 10]) -> Turn {
+pub fn answer(asked: Asked, n: [u64; 10]) -> Turn {
     match asked {
         Asked::Windowed(filter) => windowed(filter, n),
         Asked::MaxBandwidth(filter) => max_bandwidth(filter, n),
@@ -152,8 +152,8 @@ fn rounds(counter: RoundTripCounter, n: [u64; 10]) -> Turn {
 
 fn acked(counter: RoundTripCounter, n: [u64; 10]) -> Turn {
     let packets = [n[2], n[3], n[4]];
-    let few = n[1] % 4;
-    let answer = counter.on_packets_acked(&packets[..(few as usize)]);
+    let few = (n[1] % 4) as usize;
+    let answer = counter.on_packets_acked(&packets[..few]);
     let next = answer.counter;
     Turn {
         asked: Asked::Rounds(next),
