@@ -95,7 +95,15 @@ fn updated(filter: WindowedFilter, sample: u64, time: u64) -> WindowedFilter {
 fn holds(filter: WindowedFilter, n: [u64; 10]) -> bool {
     let held = filter.held;
     match held {
-        Held::Empty => n[3] == 0,
+        Held::Empty => {
+            (n[3] == 0)
+                & (n[4] == 0)
+                & (n[5] == 0)
+                & (n[6] == 0)
+                & (n[7] == 0)
+                & (n[8] == 0)
+                & (n[9] == 0)
+        }
         Held::Full(e) => {
             (n[3] == 1)
                 & (e.best.sample == n[4])
@@ -164,7 +172,7 @@ fn acked(counter: RoundTripCounter, n: [u64; 10]) -> Turn {
 fn stands(counter: RoundTripCounter, n: [u64; 10]) -> bool {
     let end = counter.end;
     let set = match end {
-        RoundEnd::NotSet => n[8] == 0,
+        RoundEnd::NotSet => (n[8] == 0) & (n[9] == 0),
         RoundEnd::At(packet) => (n[8] == 1) & (packet == n[9]),
     };
     (counter.count == n[6]) & (counter.sent == n[7]) & set

@@ -17,6 +17,11 @@ pub struct Tally {
     pub differ: u64,
 }
 
+pub struct Both {
+    pub tally: Tally,
+    pub changed: u64,
+}
+
 fn sum(a: Tally, b: Tally) -> Tally {
     Tally {
         answers: std::num::wrapping_add_u64(a.answers, b.answers),
@@ -47,7 +52,29 @@ fn compared(asked: Asked, text: &[u8]) -> Tally {
     tally
 }
 
-// Compares the list in a file and prints its line. A list is shorter than the buffer, 65,536 bytes.
+// Puts another digit for the last one of a list.
+fn change_last(text: &mut [u8]) {
+    let n = text.len();
+    if n < 2 {
+        return;
+    }
+    let last = n - 2;
+    text[last] = text[last] % 10 + 48;
+}
+
+// A list compared, and compared again with its last digit changed: how many lines differ then.
+fn compared_twice(asked: Asked, text: &mut [u8]) -> Both {
+    let tally = compared(asked, text);
+    change_last(text);
+    let changed = compared(asked, text);
+    Both {
+        tally,
+        changed: changed.differ,
+    }
+}
+
+// Compares the list in a file, then again with its last digit changed, and prints both. A list is
+// shorter than the buffer, 65,536 bytes.
 fn compare(asked: Asked, name: &[u8]) -> Tally {
     let file = os::open_read(name);
     if file < 0 {
@@ -60,17 +87,24 @@ fn compare(asked: Asked, name: &[u8]) -> Tally {
     let mut space = io::large_buffer();
     let n = io::read_full(file, &mut space);
     libc::close(file);
-    let tally = compared(asked, &space[..n]);
-    print(tally, name);
-    tally
+    let both = compared_twice(asked, &mut space[..n]);
+    print(both, name);
+    both.tally
 }
 
-fn print(tally: Tally, name: &[u8]) {
+fn print_tally(tally: Tally) {
     io::print_decimal(STDOUT_FILENO, tally.answers);
     io::write_all(STDOUT_FILENO, b" answers, ");
     io::print_decimal(STDOUT_FILENO, tally.differ);
-    io::write_all(STDOUT_FILENO, b" differ: ");
+    io::write_all(STDOUT_FILENO, b" differ");
+}
+
+fn print(both: Both, name: &[u8]) {
     io::write_all(STDOUT_FILENO, name);
+    io::write_all(STDOUT_FILENO, b": ");
+    print_tally(both.tally);
+    io::write_all(STDOUT_FILENO, b"; with its last digit changed ");
+    io::print_decimal(STDOUT_FILENO, both.changed);
     io::write_all(STDOUT_FILENO, b"\n");
 }
 
@@ -116,5 +150,6 @@ fn main() {
         b"The original's answers, compared with the port's:\n",
     );
     let tally = sum(sum(conversions(), bandwidths()), all_filters());
-    print(tally, b"all lists");
+    print_tally(tally);
+    io::write_all(STDOUT_FILENO, b"\n");
 }
