@@ -1,20 +1,25 @@
 -- A float that is read from a bit pattern: its value, and what is left of it without its fraction, by its exponent's field and its digits. Assumes nothing.
-use mathlib.Core.Path.{_≡_, refl, sym, ap, _∙_, subst}
-use mathlib.Core.Logic.{_⊎_, inl, inr}
+use mathlib.Core.Path.{_≡_, refl, sym, ap, _∙_}
+use mathlib.Core.Logic.{inl, inr}
 use mathlib.Core.Bool.{Bool, true, false, not, cond, true≢false}
 use Prim.Native.Nat.{ℕ, zero, suc, _+_, _-_, _*_, _/_, _%_, _^_, _≤_, _<_, min}
-use native.Mathlib.Nat.{le-trans, le-of-eq, le-of-lt, lt-of-lt-of-le, lt-of-le-of-lt, le-of-suc-le-suc, eq-or-lt-of-le, mul-one, mul-assoc, mul-comm, mul-le-mul-right, le-add-right, le-div-iff-mul-le, div-lt-iff-lt-mul, mod-eq-of-lt, mod-lt, mul-div-cancel, mul-mod-left, mul-lt-mul-of-pos-right, add-zero}
+use native.Mathlib.Nat.{lt-of-lt-of-le, lt-of-le-of-lt, one-mul, mul-one, mul-assoc, add-zero, mul-le-mul-right, div-one, div-eq-of-lt, div-lt-iff-lt-mul, mul-div-cancel}
+use native.Mathlib.Nat.{mul-div-mul-right, mul-mod-left, mod-lt, mod-eq-of-lt, min-eq-left, min-eq-right}
+use native.Mathlib.Numerals.{sub-one}
 use native.Mathlib.Omega.{arith}
-use lib.Dec.{T, leb, ltb, eqb, leb→le, le→leb, eqb→eq, not-T, T-not, lit≤}
-use lib.Arith.{lt→nleb, le→nltb}
-use lib.Pow.{pow-add, pow-pos, pow-mono, shl-lt, shl-shr, shr-shr, shr-le, le-ones}
+use lib.Dec.{T, eqb}
+use lib.Arith.{le→nltb}
+use lib.Pow.{pow-add, pow-pos, pow-mono, shl-lt, shl-exact, shr-le, le-ones}
+use lib.Bits.{bitAnd, bitOr, and-mask, or-shifted-r}
 use lib.Ieee.{Float, nan, inf, fin, Format, binary32, binary64, prec, emax, low, up, down, odd, hid, ones, top, ofFields, ofBits, toUnsigned, isNan, nanBits, ne}
-use lib.Ieee.Bits.{is-true, is-false, cond-no, nanBits-above}
+use lib.Ieee.Bits.{nanBits-above}
 use lib.Ieee.Compare.{nan-differs}
-use lib.Ieee.Fits.{down-pos, eq→eqb, two}
+use lib.Ieee.Fits.{down-pos}
 use lib.Ieee.Exact.{HasValue, odd-sign}
 use lib.Ieee.Nearest.{div-same}
-use Rattle.numbers.proofs.Rounding.{whole-of}
+use borrow.Author.Tests.{le-leb, lt-leb, ne-eqb}
+use Rattle.numbers.proofs.Closest.{le-or-lt, halves}
+use Rattle.numbers.proofs.Rounding.{sizes, same-value}
 
 -- ---- a value that is not negative, without its fraction
 pub cut-value : (w : ℕ) (x : Float) (a c : ℕ) → 0 < c → HasValue x false a c → toUnsigned w x ≡ min (a / c) (2 ^ w - 1)
@@ -24,52 +29,6 @@ cut-value w (inf s) a c C h = absurd h
 cut-value w (fin true m e) a c C h = absurd (true≢false (h .0))
 cut-value w (fin false m e) a c C h = ap (λ (z : ℕ). min z (2 ^ w - 1)) (div-same (m * up e) (down e) a c (down-pos e) C (h .1))
 
-pub under-cap : (a b : ℕ) → a ≤ b → min a b ≡ a
-under-cap a b h = omega arith
-
-pub over-cap : (a b : ℕ) → b ≤ a → min a b ≡ b
-over-cap a b h = omega arith
-
--- ---- d * 2 ^ x / 2 ^ l is one shift
-pub shift-right : (d x l : ℕ) → x ≤ l → d * 2 ^ x / 2 ^ l ≡ d / 2 ^ (l - x)
-shift-right d x l h =
-    ap (λ (z : ℕ). d * 2 ^ x / 2 ^ z) (sym (join x l h)) ∙ sym (shr-shr (d * 2 ^ x) x (l - x)) ∙ ap (λ (z : ℕ). z / 2 ^ (l - x)) (shl-shr d x)
-  where
-    join : (x l : ℕ) → x ≤ l → x + (l - x) ≡ l
-    join x l h = omega arith
-
-pub shift-left : (d x l : ℕ) → l ≤ x → d * 2 ^ x / 2 ^ l ≡ d * 2 ^ (x - l)
-shift-left d x l h =
-    ap (λ (z : ℕ). d * 2 ^ z / 2 ^ l) (sym (join x l h)) ∙ ap (λ (z : ℕ). z / 2 ^ l) (ap (λ (z : ℕ). d * z) (pow-add 2 (x - l) l) ∙ sym (mul-assoc d (2 ^ (x - l)) (2 ^ l))) ∙ shl-shr (d * 2 ^ (x - l)) l
-  where
-    join : (x l : ℕ) → l ≤ x → (x - l) + l ≡ x
-    join x l h = omega arith
-
--- ---- the value of a pattern
-no-ones : (x o : ℕ) → suc x < o → suc x ≡ o → ⊥
-no-ones x o h e = omega arith
-
-pub normal-value : (f : Format) (x t : ℕ) → suc x < ones f → HasValue (ofFields f false (suc x) t) false ((hid f + t) * 2 ^ x) (2 ^ low f)
-unfolding ofFields
-normal-value f x t h =
-    subst (λ (z : Float). HasValue z false ((hid f + t) * 2 ^ x) (2 ^ low f))
-    (sym (cond-no (eqb (suc x) (ones f)) (cond (eqb t 0) (inf false) nan) (odd (prec f) false (hid f + t) x (low f)) (not-T (eqb (suc x) (ones f)) (λ (u : T (eqb (suc x) (ones f))). no-ones x (ones f) h (eqb→eq (suc x) (ones f) u)))))
-    (odd-sign (prec f) false (hid f + t) x (low f))
-
-pub small-value : (f : Format) (t : ℕ) → HasValue (ofFields f false 0 t) false (t * 2 ^ 0) (2 ^ low f)
-unfolding ofFields
-small-value f t = odd-sign (prec f) false t 0 (low f)
-
-pub bits-are : (f : Format) (b : ℕ) → b < top f → ofBits f b ≡ ofFields f false (b / hid f) (b % hid f)
-unfolding ofBits
-bits-are f b h =
-    ap (λ (s : Bool). ofFields f s (b % top f / hid f) (b % hid f)) (is-false (leb (top f) b) (lt→nleb (top f) b h))
-    ∙ ap (λ (z : ℕ). ofFields f false (z / hid f) (b % hid f)) (mod-eq-of-lt h)
-
-pub bits-negative : (f : Format) (b : ℕ) → top f ≤ b → ofBits f b ≡ ofFields f true (b % top f / hid f) (b % hid f)
-unfolding ofBits
-bits-negative f b h = ap (λ (s : Bool). ofFields f s (b % top f / hid f) (b % hid f)) (is-true (leb (top f) b) (le→leb (top f) b h))
-
 -- ---- what is a NaN, and what is none
 pub no-nan : (x : Float) → ne x x ≡ false → T (not (isNan x))
 unfolding isNan
@@ -78,7 +37,7 @@ no-nan (inf s) h = tt
 no-nan (fin s m e) h = tt
 
 pub plain-bits : (f : Format) (b : ℕ) → b % top f ≤ ones f * hid f → T (not (nanBits f b))
-plain-bits f b h = subst (λ (z : Bool). T (not z)) (sym (nanBits-above f b)) (le→nltb (ones f * hid f) (b % top f) h)
+plain-bits f b h = rw nanBits-above (le→nltb (ones f * hid f) (b % top f) h)
 
 -- ---- a NaN, and what has the sign: as an unsigned integer it is 0
 abbrev pub nothing : Float → Bool
@@ -94,187 +53,150 @@ cut-nothing w (inf false) h = absurd h
 cut-nothing w (fin true m e) h = refl
 cut-nothing w (fin false m e) h = absurd h
 
-pub nothing-odd : (d q k l : ℕ) → T (nothing (odd d true q k l))
-unfolding odd
-nothing-odd d zero k l = tt
-nothing-odd d (suc q) k l = tt
+pub nothing-of : (x : Float) (a c : ℕ) → HasValue x true a c → T (nothing x)
+nothing-of nan a c h = tt
+nothing-of (inf s) a c h = absurd h
+nothing-of (fin s m e) a c h = rw (h .0) tt
+
+nothing-odd : (d q k l : ℕ) → T (nothing (odd d true q k l))
+nothing-odd d q k l = nothing-of (odd d true q k l) (q * 2 ^ k) (2 ^ l) (odd-sign d true q k l)
 
 nothing-fields : (f : Format) (x t : ℕ) → T (nothing (ofFields f true x t))
 unfolding ofFields
 nothing-fields f zero t = nothing-odd (prec f) t 0 (low f)
-nothing-fields f (suc x) t = go (eqb (suc x) (ones f)) (eqb t 0) (odd (prec f) true (hid f + t) x (low f)) (nothing-odd (prec f) (hid f + t) x (low f))
+nothing-fields f (suc x) t = go (eqb (suc x) (ones f)) (eqb t 0)
   where
-    go : (a b : Bool) (v : Float) → T (nothing v) → T (nothing (cond a (cond b (inf true) nan) v))
-    go true true v h = tt
-    go true false v h = tt
-    go false b v h = h
+    go : (a b : Bool) → T (nothing (cond a (cond b (inf true) nan) (odd (prec f) true (hid f + t) x (low f))))
+    go true true = tt
+    go true false = tt
+    go false b = nothing-odd (prec f) (hid f + t) x (low f)
 
 pub nothing-negative : (f : Format) (b : ℕ) → top f ≤ b → T (nothing (ofBits f b))
-nothing-negative f b h = subst (λ (v : Float). T (nothing v)) (sym (bits-negative f b h)) (nothing-fields f (b % top f / hid f) (b % hid f))
+unfolding ofBits
+nothing-negative f b h = rw (le-leb (top f) b h) (nothing-fields f (b % top f / hid f) (b % hid f))
 
-pub cut-negative : (w : ℕ) (f : Format) (b : ℕ) → top f ≤ b → toUnsigned w (ofBits f b) ≡ 0
-cut-negative w f b h = cut-nothing w (ofBits f b) (nothing-negative f b h)
+-- ---- the value of a pattern
+-- the digits, with the leading one where the exponent's field is not 0
+abbrev lead : Format → ℕ → ℕ → ℕ
+lead f zero t = t
+lead f (suc x) t = hid f + t
 
--- ---- the highest field, if it is no NaN's, is the infinity
-pub top-field : (f : Format) (t x : ℕ) → suc x ≡ ones f → T (not (isNan (ofFields f false (suc x) t))) → ofFields f false (suc x) t ≡ inf false
+lead-lt : (f : Format) (x t : ℕ) → t < hid f → lead f x t < 2 ^ prec f
+lead-lt f zero t h = omega (arith, halves (prec f) (omega (arith, sizes f)))
+lead-lt f (suc x) t h = omega (arith, halves (prec f) (omega (arith, sizes f)))
+
+lead-is : (f : Format) (x t : ℕ) → 0 < x → lead f x t ≡ hid f + t
+lead-is f zero t h = omega arith
+lead-is f (suc x) t h = refl
+
+fields-value : (f : Format) (x t : ℕ) → x < ones f → HasValue (ofFields f false x t) false (lead f x t * 2 ^ (x - 1)) (2 ^ low f)
+unfolding ofFields
+fields-value f zero t h = odd-sign (prec f) false t 0 (low f)
+fields-value f (suc x) t h = simp (sub-one (suc x), ne-eqb (suc x) (ones f) (λ (e : suc x ≡ ones f). omega arith)) (odd-sign (prec f) false (hid f + t) x (low f))
+
+-- the highest field, if it is no NaN's, is the infinity's
+infinite : (z : Bool) → T (not (isNan (cond z (inf false) nan))) → cond z (inf false) nan ≡ inf false
+unfolding isNan
+infinite true n = refl
+infinite false n = absurd n
+
+fields-top : (f : Format) (t : ℕ) → T (not (isNan (ofFields f false (ones f) t))) → ofFields f false (ones f) t ≡ inf false
 unfolding ofFields isNan
-top-field f t x e n = go (eqb (suc x) (ones f)) (eqb t 0) (odd (prec f) false (hid f + t) x (low f)) (eq→eqb e) n
-  where
-    go : (a b : Bool) (v : Float) → T a → T (not (isNan (cond a (cond b (inf false) nan) v))) → cond a (cond b (inf false) nan) v ≡ inf false
-    go true true v p q = refl
-    go true false v p q = absurd q
-    go false b v p q = absurd p
+fields-top binary32 t n = infinite (eqb t 0) n
+fields-top binary64 t n = infinite (eqb t 0) n
 
-pub cut-inf : (w : ℕ) → toUnsigned w (inf false) ≡ 2 ^ w - 1
-unfolding toUnsigned
-cut-inf w = refl
+-- ---- d * 2 ^ x / 2 ^ l is one shift
+shift-right : (d x s l : ℕ) → s + x ≡ l → d * 2 ^ x / 2 ^ l ≡ d / 2 ^ s
+shift-right d x s l e = rw (← e, pow-add) (mul-div-mul-right d (2 ^ s) (pow-pos x))
 
--- ---- binary32 at 64 bits, by the exponent's field x and the digits' field t
-module _ (t : ℕ) (H : t < 8388608) where
-  digits-lt : 8388608 + t < 2 ^ 24
-  digits-lt = omega arith
+abbrev pub field : Format → ℕ → ℕ
+field f b = b / hid f
 
-  field-small : (x : ℕ) → x < 127 → toUnsigned 64 (ofFields binary32 false x t) ≡ 0
-  field-small zero h =
-      cut-value 64 (ofFields binary32 false 0 t) (t * 2 ^ 0) (2 ^ 149) (pow-pos 149) (small-value binary32 t)
-      ∙ none (t * 2 ^ 0 / 2 ^ 149) (div-lt-iff-lt-mul (pow-pos 149) .1 (below t H))
-    where
-      below : (t : ℕ) → t < 8388608 → t * 1 < 1 * 2 ^ 149
-      below t h = lt-of-lt-of-le (near t h) (lit≤ tt)
-        where
-          near : (t : ℕ) → t < 8388608 → t * 1 < 8388608
-          near t h = omega arith
+-- the digits with the leading one, as the code makes them
+abbrev pub digits : Format → ℕ → ℕ
+digits f b = bitOr (bitAnd b (hid f - 1)) (hid f)
 
-      none : (z : ℕ) → z < 1 → min z (2 ^ 64 - 1) ≡ 0
-      none z h = omega arith
-  field-small (suc x) h =
-      cut-value 64 (ofFields binary32 false (suc x) t) ((8388608 + t) * 2 ^ x) (2 ^ 149) (pow-pos 149) (normal-value binary32 x t (in-field x h))
-      ∙ none ((8388608 + t) * 2 ^ x / 2 ^ 149) (div-lt-iff-lt-mul (pow-pos 149) .1 (lt-of-lt-of-le (shl-lt 24 x digits-lt) (le-trans (pow-mono (few x h)) (le-of-eq refl))))
-    where
-      in-field : (x : ℕ) → suc x < 127 → suc x < 255
-      in-field x h = omega arith
+digits-are : (f : Format) (b : ℕ) → digits f b ≡ hid f + b % hid f
+digits-are f b = rw (and-mask b (prec f - 1)) (rw one-mul at (or-shifted-r 1 (prec f - 1) (b % hid f) (mod-lt b (pow-pos (prec f - 1)))))
 
-      few : (x : ℕ) → suc x < 127 → 24 + x ≤ 149
-      few x h = omega arith
+pub digits-lt : (f : Format) (b : ℕ) → digits f b < 2 ^ prec f
+digits-lt f b = rw digits-are (lead-lt f 1 (b % hid f) (mod-lt b (pow-pos (prec f - 1))))
 
-      none : (z : ℕ) → z < 1 → min z (2 ^ 64 - 1) ≡ 0
-      none z h = omega arith
+-- ---- v is read from a pattern b without the sign
+module _ (f : Format) {b : ℕ} {v : Float} (B : b < top f) (is : ofBits f b ≡ v) where
+  is-fields : v ≡ ofFields f false (field f b) (b % hid f)
+  unfolding ofBits
+  is-fields = sym is ∙ rw (lt-leb (top f) b B, mod-eq-of-lt B)
 
-  field-large : (x : ℕ) → 190 < x → x < 256 → T (not (isNan (ofFields binary32 false x t))) → toUnsigned 64 (ofFields binary32 false x t) ≡ 2 ^ 64 - 1
-  field-large zero h k n = absurd (none h)
-    where
-      none : 190 < 0 → ⊥
-      none h = omega arith
-  field-large (suc x) h k n = elim (eq-or-lt-of-le (le-of-suc-le-suc k)) [
-    | inl e ↦ ap (toUnsigned 64) (top-field binary32 t x e n) ∙ cut-inf 64
-    | inr l ↦
-        cut-value 64 (ofFields binary32 false (suc x) t) ((8388608 + t) * 2 ^ x) (2 ^ 149) (pow-pos 149) (normal-value binary32 x t l)
-        ∙ over-cap ((8388608 + t) * 2 ^ x / 2 ^ 149) (2 ^ 64 - 1)
-        (le-div-iff-mul-le (pow-pos 149) .1
-        (le-trans (le-trans (lit≤ tt) (pow-mono (many x h))) (le-trans (le-of-eq (pow-add 2 23 x)) (mul-le-mul-right (2 ^ x) (le-add-right 8388608 t)))))
+  pub highest : ones f ≤ field f b → T (not (isNan v)) → v ≡ inf false
+  highest l n =
+      let h : field f b < suc (ones f) = div-lt-iff-lt-mul (pow-pos (prec f - 1)) .1 (omega arith) in
+      let e : field f b ≡ ones f = omega arith in
+      let r : v ≡ ofFields f false (ones f) (b % hid f) = rw (← e) is-fields in
+      r ∙ fields-top f (b % hid f) (rw r at n)
+
+  -- any field below that: v in units of the format's smallest value
+  abbrev pub count : ℕ
+  count = lead f (field f b) (b % hid f) * 2 ^ (field f b - 1)
+
+  pub count-value : field f b < ones f → HasValue v false count (2 ^ low f)
+  count-value h = rw is-fields (fields-value f (field f b) (b % hid f) h)
+
+  pub count-lt : count < 2 ^ (prec f + (field f b - 1))
+  count-lt = shl-lt (prec f) (field f b - 1) (lead-lt f (field f b) (b % hid f) (mod-lt b (pow-pos (prec f - 1))))
+
+  pub normal : 0 < field f b → field f b < ones f → HasValue v false (digits f b * 2 ^ (field f b - 1)) (2 ^ low f)
+  normal p h = rw (digits-are f b, ← lead-is f (field f b) (b % hid f) p) (count-value h)
+
+  -- beyond the places of the fraction
+  pub whole : low f < field f b → field f b < ones f → HasValue v false (digits f b * 2 ^ (field f b - suc (low f))) 1
+  whole l h =
+      same-value v false (digits f b * 2 ^ (field f b - 1)) (2 ^ low f) (digits f b * 2 ^ (field f b - suc (low f))) 1 (pow-pos (low f))
+      (rw (mul-one, mul-assoc, ← pow-add) (ap (λ (z : ℕ). digits f b * 2 ^ z) (omega arith))) (normal (omega arith) h)
+
+  -- what is left as an unsigned integer of 64 bits
+  pub cut-small : field f b < emax f → toUnsigned 64 v ≡ 0
+  cut-small h =
+      let less : count < 2 ^ low f = lt-of-lt-of-le count-lt (pow-mono (omega (arith, sizes f))) in
+      cut-value 64 v count (2 ^ low f) (pow-pos (low f)) (count-value (omega arith)) ∙ rw (div-eq-of-lt less)
+
+  pub cut-right : emax f ≤ field f b → field f b ≤ suc (low f) → toUnsigned 64 v ≡ digits f b / 2 ^ (suc (low f) - field f b)
+  cut-right l h =
+      let s = suc (low f) - field f b in
+      cut-value 64 v (digits f b * 2 ^ (field f b - 1)) (2 ^ low f) (pow-pos (low f)) (normal (omega (arith, sizes f)) (omega (arith, sizes f)))
+      ∙ rw (shift-right (digits f b) (field f b - 1) s (low f) (omega (arith, sizes f)))
+      (min-eq-left (le-ones 64 (lt-of-le-of-lt (shr-le (digits f b) s) (lt-of-lt-of-le (digits-lt f b) (pow-mono (sizes f .1))))))
+
+  pub cut-left : low f < field f b → field f b ≤ emax f + 63 → toUnsigned 64 v ≡ digits f b * 2 ^ (field f b - suc (low f)) % 2 ^ 64
+  cut-left l h =
+      let k = field f b - suc (low f) in
+      let room : prec f + k ≤ 64 = omega (arith, sizes f) in
+      cut-value 64 v (digits f b * 2 ^ k) 1 (pow-pos 0) (whole l (omega (arith, sizes f)))
+      ∙ rw div-one (min-eq-left (le-ones 64 (lt-of-lt-of-le (shl-lt (prec f) k (digits-lt f b)) (pow-mono room))))
+      ∙ sym (shl-exact (prec f) k 64 (digits-lt f b) room)
+
+  pub cut-large : emax f + 63 < field f b → T (not (isNan v)) → toUnsigned 64 v ≡ 2 ^ 64 - 1
+  unfolding toUnsigned
+  cut-large l n = elim (le-or-lt (ones f) (field f b)) [
+    | inl h ↦ ap (toUnsigned 64) (highest h n)
+    | inr h ↦
+        let k = field f b - suc (low f) in
+        let most : 2 ^ 64 ≤ hid f * 2 ^ k = rw (← pow-add) (pow-mono {i = 64} (omega (arith, sizes f))) in
+        cut-value 64 v (digits f b * 2 ^ k) 1 (pow-pos 0) (whole (omega (arith, sizes f)) h)
+        ∙ rw (div-one, digits-are f b) (min-eq-right (omega arith))
   ]
-    where
-      many : (x : ℕ) → 190 < suc x → 213 ≤ 23 + x
-      many x h = omega arith
 
-  field-right : (x : ℕ) → 127 ≤ x → x ≤ 150 → toUnsigned 64 (ofFields binary32 false x t) ≡ (8388608 + t) / 2 ^ (150 - x)
-  field-right zero h k = absurd (none h)
-    where
-      none : 127 ≤ 0 → ⊥
-      none h = omega arith
-  field-right (suc x) h k =
-      cut-value 64 (ofFields binary32 false (suc x) t) ((8388608 + t) * 2 ^ x) (2 ^ 149) (pow-pos 149) (normal-value binary32 x t (in-field x k))
-      ∙ ap (λ (z : ℕ). min z (2 ^ 64 - 1)) (shift-right (8388608 + t) x 149 (most x k))
-      ∙ under-cap ((8388608 + t) / 2 ^ (149 - x)) (2 ^ 64 - 1) (le-trans (shr-le (8388608 + t) (149 - x)) (cap (8388608 + t) digits-lt))
-      ∙ ap (λ (z : ℕ). (8388608 + t) / 2 ^ z) (same x k)
-    where
-      in-field : (x : ℕ) → suc x ≤ 150 → suc x < 255
-      in-field x h = omega arith
+-- ---- 2 ^ k, for a k up to emax: its exponent's field is emax + k, and its digits are 0
+module _ (f : Format) (k : ℕ) (h : k ≤ emax f) where
+  abbrev pub power : ℕ
+  power = (emax f + k) * hid f
 
-      most : (x : ℕ) → suc x ≤ 150 → x ≤ 149
-      most x h = omega arith
+  pub power-lt : power < top f
+  power-lt = omega (arith, mul-le-mul-right (hid f) h, pow-pos (prec f - 1))
 
-      same : (x : ℕ) → suc x ≤ 150 → 149 - x ≡ 150 - suc x
-      same x h = omega arith
-
-      cap : (d : ℕ) → d < 2 ^ 24 → d ≤ 2 ^ 64 - 1
-      cap d h = omega arith
-
-  field-left : (x : ℕ) → 150 < x → x ≤ 190 → toUnsigned 64 (ofFields binary32 false x t) ≡ (8388608 + t) * 2 ^ (x - 150)
-  field-left zero h k = absurd (none h)
-    where
-      none : 150 < 0 → ⊥
-      none h = omega arith
-  field-left (suc x) h k =
-      cut-value 64 (ofFields binary32 false (suc x) t) ((8388608 + t) * 2 ^ x) (2 ^ 149) (pow-pos 149) (normal-value binary32 x t (in-field x k))
-      ∙ ap (λ (z : ℕ). min z (2 ^ 64 - 1)) (shift-left (8388608 + t) x 149 (least x h))
-      ∙ under-cap ((8388608 + t) * 2 ^ (x - 149)) (2 ^ 64 - 1) (le-ones 64 (lt-of-lt-of-le (shl-lt 24 (x - 149) digits-lt) (pow-mono (few x k))))
-      ∙ ap (λ (z : ℕ). (8388608 + t) * 2 ^ z) (same x h)
-    where
-      in-field : (x : ℕ) → suc x ≤ 190 → suc x < 255
-      in-field x h = omega arith
-
-      least : (x : ℕ) → 150 < suc x → 149 ≤ x
-      least x h = omega arith
-
-      few : (x : ℕ) → suc x ≤ 190 → 24 + (x - 149) ≤ 64
-      few x h = omega arith
-
-      same : (x : ℕ) → 150 < suc x → x - 149 ≡ suc x - 150
-      same x h = omega arith
-
--- ---- the same by the pattern b
-module _ (b : ℕ) (B : b < 2147483648) where
-  is : toUnsigned 64 (ofBits binary32 b) ≡ toUnsigned 64 (ofFields binary32 false (b / 8388608) (b % 8388608))
-  is = ap (toUnsigned 64) (bits-are binary32 b B)
-
-  t-lt : b % 8388608 < 8388608
-  t-lt = omega arith
-
-  x-lt : b / 8388608 < 256
-  x-lt = omega arith
-
-  pub cut-small : b / 8388608 < 127 → toUnsigned 64 (ofBits binary32 b) ≡ 0
-  cut-small h = is ∙ field-small (b % 8388608) t-lt (b / 8388608) h
-
-  pub cut-large : 190 < b / 8388608 → T (not (isNan (ofBits binary32 b))) → toUnsigned 64 (ofBits binary32 b) ≡ 18446744073709551615
-  cut-large h n = is ∙ field-large (b % 8388608) t-lt (b / 8388608) h x-lt (subst (λ (v : Float). T (not (isNan v))) (bits-are binary32 b B) n)
-
-  pub cut-right : 127 ≤ b / 8388608 → b / 8388608 ≤ 150 → toUnsigned 64 (ofBits binary32 b) ≡ (8388608 + b % 8388608) / 2 ^ (150 - b / 8388608)
-  cut-right h k = is ∙ field-right (b % 8388608) t-lt (b / 8388608) h k
-
-  pub cut-left : 150 < b / 8388608 → b / 8388608 ≤ 190 → toUnsigned 64 (ofBits binary32 b) ≡ (8388608 + b % 8388608) * 2 ^ (b / 8388608 - 150)
-  cut-left h k = is ∙ field-left (b % 8388608) t-lt (b / 8388608) h k
-
--- ---- 2 ^ k as a float, for a k up to emax: its exponent's field is emax + k, and its digits are 0
-pub power-value : (f : Format) (k : ℕ) → k ≤ emax f → HasValue (ofBits f ((emax f + k) * hid f)) false (2 ^ k) 1
-power-value f k h =
-    let b = (emax f + k) * hid f in
-    let x = emax f - 1 + k in
-    let v = 2 ^ k * 2 ^ low f in
-    let p = prec f in
-    let in-field : suc x < ones f = field (emax f) k (one-up f) h in
-    let e : b / hid f ≡ suc x = mul-div-cancel (emax f + k) (pow-pos (p - 1)) ∙ lead (emax f) k (one-up f) in
-    let d : b % hid f ≡ 0 = mul-mod-left (emax f + k) (hid f) in
-    whole-of (ofBits f b) (2 ^ k) (2 ^ low f) (pow-pos (low f))
-    (subst (λ (z : Float). HasValue z false v (2 ^ low f))
-    (sym (bits-are f b (subst (λ (z : ℕ). b < z) (mul-comm (suc (ones f)) (hid f)) (mul-lt-mul-of-pos-right (below (emax f) k h) (pow-pos (p - 1)))) ∙ ap (λ (z : ℕ). ofFields f false z (b % hid f)) e ∙ ap (λ (z : ℕ). ofFields f false (suc x) z) d))
-    (subst (λ (z : ℕ). HasValue (ofFields f false (suc x) 0) false z (2 ^ low f))
-    (ap (λ (z : ℕ). z * 2 ^ x) (add-zero (hid f)) ∙ sym (pow-add 2 (p - 1) x) ∙ ap (λ (z : ℕ). 2 ^ z) (sum (emax f) p k (one-up f) (two f)) ∙ pow-add 2 k (low f))
-    (normal-value f x 0 in-field)))
-  where
-    one-up : (f : Format) → 1 ≤ emax f
-    one-up binary32 = lit≤ tt
-    one-up binary64 = lit≤ tt
-
-    field : (e k : ℕ) → 1 ≤ e → k ≤ e → suc (e - 1 + k) < 2 * e + 1
-    field e k E h = omega arith
-
-    lead : (e k : ℕ) → 1 ≤ e → e + k ≡ suc (e - 1 + k)
-    lead e k h = omega arith
-
-    below : (e k : ℕ) → k ≤ e → e + k < suc (2 * e + 1)
-    below e k h = omega arith
-
-    sum : (e p k : ℕ) → 1 ≤ e → 2 ≤ p → p - 1 + (e - 1 + k) ≡ k + (e + p - 2)
-    sum e p k E P = omega arith
+  pub power-value : HasValue (ofBits f power) false (2 ^ k) 1
+  power-value =
+      let x : field f power ≡ emax f + k = mul-div-cancel (emax f + k) (pow-pos (prec f - 1)) in
+      same-value (ofBits f power) false (digits f power * 2 ^ (field f power - 1)) (2 ^ low f) (2 ^ k) 1 (pow-pos (low f))
+      (simp (digits-are, x, mul-mod-left, add-zero, mul-one, ← pow-add) (ap (λ (z : ℕ). 2 ^ z) (omega (arith, sizes f))))
+      (normal f power-lt refl (omega (arith, x, sizes f)) (omega (arith, x, sizes f)))
