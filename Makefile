@@ -15,7 +15,9 @@ test:
 
 # Makes the lists of the original's answers again (oracle/README.md).
 lists:
-	cargo run --release --quiet --manifest-path oracle/Cargo.toml -- crates/answers/data
+	cargo run --release --quiet --manifest-path oracle/Cargo.toml -- target/lists
+	mv target/lists/sequences.txt crates/replay/data/
+	mv target/lists/*.txt crates/answers/data/
 
 clean:
 	rm -rf target oracle/target

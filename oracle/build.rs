@@ -45,7 +45,10 @@ const TREE: &[(&str, Part)] = &[
         "recovery/gcongestion/bbr2/network_model.rs",
         Appended("network_model.rs"),
     ),
-    ("recovery/gcongestion/bbr2/probe_bw.rs", Original),
+    (
+        "recovery/gcongestion/bbr2/probe_bw.rs",
+        Appended("probe_bw.rs"),
+    ),
     (
         "recovery/gcongestion/bbr2/probe_rtt.rs",
         Stub("probe_rtt.rs"),

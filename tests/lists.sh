@@ -21,5 +21,9 @@ ORIGINAL=$(cd "$original" && pwd) CARGO_TARGET_DIR=$PWD/target/oracle \
     exit 1
 }
 rm -f "$made.log"
-diff -r "$made" crates/answers/data
-echo "lists: $(cat "$made"/*.txt | wc -l) answers of the original, the same as those kept in crates/answers/data"
+for list in "$made"/*.txt; do
+    kept=crates/answers/data/$(basename "$list")
+    [ -f "$kept" ] || kept=crates/replay/data/$(basename "$list")
+    cmp "$list" "$kept"
+done
+echo "lists: $(cat "$made"/*.txt | wc -l) answers of the original, the same as those kept in crates/answers/data and crates/replay/data"

@@ -1,7 +1,11 @@
 //! Writes lists of the original's answers into a folder; see README.md.
 
+mod calls;
 mod filters;
+mod marks;
+mod model;
 mod numbers;
+mod sequences;
 mod values;
 
 include!(concat!(env!("OUT_DIR"), "/original.rs"));
@@ -63,6 +67,7 @@ fn main() {
         filters::max_bandwidth_filter(),
         filters::min_rtt_filter(),
         filters::round_trip_counter(),
+        sequences::sequences(),
     ];
 
     if let Err(error) = write(folder, &lists) {

@@ -11,6 +11,7 @@ use Rattle.filters.proofs.reply.Number.{number-injective}
 use Rattle.filters.proofs.bandwidth.Bandwidth as bandwidth
 use Rattle.filters.proofs.max_bandwidth_filter.MaxBandwidthFilter as max-filter
 use Rattle.filters.proofs.min_rtt_filter.MinRttFilter as min-filter
+use Rattle.filters.proofs.reply.Reply as reply
 use Rattle.filters.proofs.round_trip_counter.RoundTripCounter as rounds
 use Rattle.filters.proofs.time.Moment as moment
 use Rattle.filters.proofs.windowed_filter.WindowedFilter as windowed
@@ -66,6 +67,9 @@ one-min-filter-update κ a x y s t p q = p ∙ sym q
 
 pub one-min-filter-force-update : OneReply min-filter.force_update.Reads.Learnt
 one-min-filter-force-update κ a x y s t p q = p ∙ sym q
+
+pub one-reply-is-done : OneReply reply.is_done.Reads.Learnt
+one-reply-is-done κ a x y s t p q = p ∙ sym q
 
 pub one-rounds-new : OneReply rounds.new.Reads.Learnt
 one-rounds-new κ a x y s t p q = p ∙ sym q

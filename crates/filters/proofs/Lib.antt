@@ -1,3 +1,2 @@
 -- Theorems about the contracts and the definitions.
 pub mod Determined
-pub mod Examples

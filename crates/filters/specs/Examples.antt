@@ -1,4 +1,4 @@
--- document 01, "Marked examples": 9 and 10, after those about the conversions. The list is completed in the crates above.
+-- document 01, "Marked examples": 9 and 10, after those about the conversions. The list goes on in the crates above, where all of it has one proof.
 use Prim.Native.Nat.{ℕ}
 use mathlib.Core.Bool.{Bool, true, false, _&&_}
 use mathlib.Core.List.{List, [], _∷_, _++_}

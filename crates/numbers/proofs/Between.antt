@@ -39,6 +39,24 @@ not-inf nan b d h l = h
 not-inf (inf s) b d h l = h
 not-inf (fin s m e) b d h l = l
 
+-- ---- a fraction at most w, where the format holds w, rounds to no more than w
+module _ (f : Format) (a c w : ℕ) (C : 0 < c) (A : a ≤ w * c) (v : HasValue (round f false w 1) false w 1) where
+  below : T (le (round f false a c) (round f false w 1))
+  below = round-mono f a c w 1 C (pow-pos 0) (omega arith)
+
+  bounded : grid f a c < overflow f
+  unfolding units
+  bounded = elim (le-or-lt (overflow f) (grid f a c)) [
+    | inl h ↦ absurd (not-inf (round f false w 1) w 1 v (rw (round-is f false a c, le-ltb (grid f a c) (overflow f) h) at below))
+    | inr h ↦ h
+  ]
+
+  pub under-value : HasValue (round f false a c) false (grid f a c) (2 ^ low f)
+  under-value = round-val f a c bounded
+
+  pub under-le : grid f a c ≤ w * 2 ^ low f
+  under-le = omega (arith, values-le (round f false a c) (round f false w 1) (grid f a c) (2 ^ low f) w 1 under-value v below)
+
 -- ---- the floor and the ceiling
 abbrev pub ceiling : ℕ → ℕ → ℕ
 ceiling a c = (a + (c - 1)) / c

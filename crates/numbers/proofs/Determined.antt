@@ -3,6 +3,7 @@ use mathlib.Core.Path.{sym, _∙_}
 use Rattle.numbers.proofs.OneReply.{OneReply}
 use Rattle.numbers.proofs.int_to_float as int-to-float
 use Rattle.numbers.proofs.float_to_int as float-to-int
+use Rattle.numbers.proofs.order as order
 use Rattle.numbers.proofs.scaling as scaling
 
 pub one-to-f32 : OneReply int-to-float.to_f32.Reads.Learnt
@@ -22,3 +23,12 @@ one-scale κs a x y s t p q = p ∙ sym q
 
 pub one-scale-f64 : OneReply scaling.scale_f64.Reads.Learnt
 one-scale-f64 κs a x y s t p q = p ∙ sym q
+
+pub one-larger : OneReply order.larger.Reads.Learnt
+one-larger κs a x y s t p q = p ∙ sym q
+
+pub one-smaller : OneReply order.smaller.Reads.Learnt
+one-smaller κs a x y s t p q = p ∙ sym q
+
+pub one-less : OneReply order.less.Reads.Learnt
+one-less κs a x y s t p q = p ∙ sym q

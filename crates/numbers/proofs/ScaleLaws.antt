@@ -1,25 +1,26 @@
 -- The laws of `scaled` and `scaledF64`: what lies between a floor and a ceiling, cut or rounded to a whole number. Assumes nothing.
-use mathlib.Core.Path.{_≡_, sym, ap, _∙_}
+use mathlib.Core.Path.{_≡_, refl, sym, ap, _∙_, subst}
 use mathlib.Core.Logic.{inl, inr}
 use mathlib.Core.Bool.{false}
 use Prim.Native.Nat.{ℕ, _+_, _-_, _*_, _/_, _^_, _≤_, _<_, min}
-use native.Mathlib.Nat.{le-trans, le-of-lt, lt-of-le-of-lt, le-of-suc-le-suc, eq-or-lt-of-le, le-antisymm, mul-one, one-mul, mul-le-mul-right, mul-le-mul-left, mul-le-mul}
+use native.Mathlib.Nat.{le-trans, le-of-eq, le-of-lt, lt-of-le-of-lt, le-of-suc-le-suc, eq-or-lt-of-le, le-antisymm, mul-one, one-mul, mul-assoc, mul-comm, mul-pos, mul-le-mul-right, mul-le-mul-left, mul-le-mul}
 use native.Mathlib.Nat.{le-div-iff-mul-le, div-lt-iff-lt-mul, div-mul-le-self, div-le-of-le-mul, lt-div-mul-add, le-of-mul-le-mul-right, le-min, min-le-left, min-eq-left}
 use native.Mathlib.Omega.{arith}
 use lib.IntN.{pos}
-use lib.Dec.{lit≤}
+use lib.Dec.{lit≤, lit<}
 use lib.Pow.{pow-pos}
 use lib.Ieee.{Float, Format, binary32, binary64, prec, round, mul, ofInt}
 use lib.Ieee.Exact.{HasValue}
 use lib.Ieee.Fits.{round-fits}
 use lib.Ieee.Order.{round-mono}
+use lib.Ieee.Scale.{grid}
 use lib.Ieee.Back.{round-whole}
 use Rattle.numbers.specs.FloatToInt.{floatToInt, roundAway}
-use Rattle.numbers.specs.Scaling.{scaled, scaledF64, FloorOrCeiling, WithinHalf, ScaleLaw, ScaleF64Law}
-use Rattle.numbers.proofs.Rounding.{mul-value, whole-value}
+use Rattle.numbers.specs.Scaling.{scaled, scaledF64, FloorOrCeiling, WithinHalf, ScaleLaw, ScaleBound, ScaleF64Law}
+use Rattle.numbers.proofs.Rounding.{round-kept, mul-value, whole-value, ofInt-is}
 use Rattle.numbers.proofs.Fields.{cut-value}
 use Rattle.numbers.proofs.Away.{away-cut}
-use Rattle.numbers.proofs.Between.{Between, round-between, values-le, ceiling, ceiling-under, ceiling-near}
+use Rattle.numbers.proofs.Between.{Between, under-value, under-le, round-between, values-le, ceiling, ceiling-under, ceiling-near}
 
 -- n times g is one rounding of n * a / c
 product : (f : Format) (n a c : ℕ) (g : Float) → n ≤ 2 ^ prec f → 0 < c → HasValue g false a c → mul f (ofInt f (pos n)) g ≡ round f false (n * a) c
@@ -91,3 +92,21 @@ scale-f64-law n a c g N C A v =
     ∙ away-cut 64 binary64 y x d (round-fits binary64 false (n * a) c) (b .2 .positive) (b .3)
     ∙ min-eq-left (omega arith) in
     rw is (rounded-within C (b .2), most)
+
+-- ---- up to 2 ^ 40, which the format holds: two roundings that go no further
+edge : HasValue (round binary32 false (2 ^ 40) 1) false (2 ^ 40) 1
+edge = round-kept binary32 false (2 ^ 40) 1 1 189 (pow-pos 0) (lit≤ tt) (lit< tt) refl
+
+pub scale-bound : ScaleBound
+unfolding scaled
+scale-bound n a c g N C A v =
+    let w = 2 ^ 40 in
+    let N1 : n ≤ w * 1 = le-trans N (le-of-eq (sym (mul-one w))) in
+    let G = grid binary32 n 1 in
+    let x : HasValue (ofInt binary32 (pos n)) false G (2 ^ 149) = subst (λ (z : Float). HasValue z false G (2 ^ 149)) (sym (ofInt-is binary32 n)) (under-value binary32 n 1 w (pow-pos 0) N1 edge) in
+    let p = mul-value binary32 (ofInt binary32 (pos n)) g G (2 ^ 149) a c (pow-pos 149) C x v in
+    let c2 : 0 < 2 ^ 149 * c = mul-pos (pow-pos 149) C in
+    let A2 : G * a ≤ w * (2 ^ 149 * c) = le-trans (mul-le-mul (under-le binary32 n 1 w (pow-pos 0) N1 edge) A) (le-of-eq (mul-assoc w (2 ^ 149) c)) in
+    let H = grid binary32 (G * a) (2 ^ 149 * c) in
+    le-trans (le-of-eq (ap (floatToInt 64) p ∙ cut-value 64 (round binary32 false (G * a) (2 ^ 149 * c)) H (2 ^ 149) (pow-pos 149) (under-value binary32 (G * a) (2 ^ 149 * c) w c2 A2 edge)))
+    (le-trans (min-le-left (H / 2 ^ 149) (2 ^ 64 - 1)) (div-le-of-le-mul (2 ^ 149) (le-trans (under-le binary32 (G * a) (2 ^ 149 * c) w c2 A2 edge) (le-of-eq (mul-comm w (2 ^ 149))))))

@@ -30,6 +30,10 @@ pub record FloorOrCeiling (a c r : ℕ) : Type 0 where
 abbrev pub ScaleLaw : Type 0
 ScaleLaw = (n a c : ℕ) (g : Float) → n ≤ 2 ^ 24 → 0 < c → a ≤ c → HasValue g false a c → FloorOrCeiling (n * a) c (scaled n g)
 
+-- past 2 ^ 24 the product may be off by more, but a byte count within document 01's bound stays within it
+abbrev pub ScaleBound : Type 0
+ScaleBound = (n a c : ℕ) (g : Float) → n ≤ 2 ^ 40 → 0 < c → a ≤ c → HasValue g false a c → scaled n g ≤ 2 ^ 40
+
 -- r differs from a / c by at most 1/2 + 2 ^ -13, which is 4097 / 8192
 pub record WithinHalf (a c r : ℕ) : Type 0 where
   pub not-over : r * c * 8192 ≤ a * 8192 + c * 4097

@@ -5,3 +5,4 @@ pub use network_model::without_headroom;
 pub use network_model::MaxBandwidth;
 pub use network_model::MinRtt;
 pub use network_model::Rounds;
+pub use probe_bw::Host;

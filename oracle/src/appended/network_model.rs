@@ -1,5 +1,6 @@
 // Appended to network_model.rs: hosts for its three private filters, on plain
-// numbers, and two calls in which the model scales a number of bytes.
+// numbers, two calls in which the model scales a number of bytes, and what the
+// host of whole sequences (appended to probe_bw.rs) needs of a model.
 
 /// The max filter.
 pub struct MaxBandwidth(MaxBandwidthFilter);
@@ -150,6 +151,71 @@ pub fn without_headroom(bytes: usize, headroom: f32) -> usize {
     let mut model = fresh_model(&params);
     model.set_inflight_hi(bytes);
     model.inflight_hi_with_headroom(&params)
+}
+
+impl BBRv2NetworkModel {
+    /// A fresh model whose minimum round trip is of `moment`.
+    pub(super) fn started(params: &Params, initial_rtt: Duration, moment: Instant) -> Self {
+        let mut model = BBRv2NetworkModel::new(params, initial_rtt);
+        model.min_rtt_filter.min_rtt_timestamp = moment;
+        model
+    }
+
+    /// Sets the sampler's answer to the next event.
+    pub(super) fn hand_in(&mut self, answer: super::super::bbr::Answer) {
+        self.bandwidth_sampler.hand_in(answer);
+    }
+
+    /// The model's part of the state, in its order.
+    pub(super) fn fields(&self, base: Instant) -> [u64; 33] {
+        // Used by the other modes only.
+        assert!(self.prior_bandwidth_lo.is_none());
+
+        let rounds = &self.round_trip_counter;
+        let [end_set, end] = crate::model::option(rounds.end_of_round_trip);
+        let slots = self.max_bandwidth_filter.max_bandwidth;
+        let [slot_0, slot_1] = slots.map(Bandwidth::to_bits_per_second);
+        let bandwidth =
+            |set: Option<Bandwidth>| crate::model::option(set.map(Bandwidth::to_bits_per_second));
+        let [lo_set, lo] = bandwidth(self.bandwidth_lo);
+        let [send_rate_set, send_rate] = bandwidth(self.latest_send_rate);
+        let [ack_rate_set, ack_rate] = bandwidth(self.latest_ack_rate);
+        [
+            rounds.round_trip_count as u64,
+            rounds.last_sent_packet,
+            end_set,
+            end,
+            slot_0,
+            slot_1,
+            nanos(self.min_rtt_filter.min_rtt),
+            nanos(self.min_rtt_filter.min_rtt_timestamp - base),
+            self.bytes_lost_in_round as u64,
+            self.loss_events_in_round as u64,
+            self.max_bytes_delivered_in_round as u64,
+            self.min_bytes_in_flight_in_round as u64,
+            self.inflight_hi_limited_in_round as u64,
+            self.bandwidth_latest.to_bits_per_second(),
+            self.inflight_latest as u64,
+            lo_set,
+            lo,
+            self.inflight_lo as u64,
+            self.inflight_hi as u64,
+            self.cwnd_gain.to_bits() as u64,
+            self.pacing_gain.to_bits() as u64,
+            self.cwnd_limited_before_aggregation_epoch as u64,
+            self.full_bandwidth_reached as u64,
+            self.full_bandwidth_baseline.to_bits_per_second(),
+            self.rounds_without_bandwidth_growth as u64,
+            self.rounds_with_queueing as u64,
+            self.ignore_app_limited_for_no_bandwidth_growth as u64,
+            send_rate_set,
+            send_rate,
+            ack_rate_set,
+            ack_rate,
+            self.total_bytes_acked() as u64,
+            self.total_bytes_lost() as u64,
+        ]
+    }
 }
 
 fn fresh_model(params: &Params) -> BBRv2NetworkModel {

@@ -1,0 +1,309 @@
+-- An event that is not refused leaves a model and a record within the bounds (`event-kept`); so do the other calls of this crate. beta is an f32, so the format holds it. Assumes nothing.
+use Prim.Native.Nat.{ℕ, min, max, _+_, _-_, _^_, _≤_, _<_}
+use mathlib.Core.Bool.{Bool, true, false, cond, not, _&&_, _||_}
+use mathlib.Core.List.{List}
+use mathlib.Core.Path.{_≡_, refl, sym, ap, _∙_, subst}
+use native.Mathlib.Omega.{arith}
+use lib.Dec.{T, leb, ltb, eqb}
+use lib.Ieee.{Float, binary32, fits, le, ofBits}
+use lib.Ieee.Exact.{HasValue}
+use borrow.Author.Tests.{leb-true, le-leb, ltb-true, ltb-false, eqb-true, eq-eqb, not-false}
+use Rattle.numbers.specs.Scaling.{scaled, scaledF64, complement, Parts}
+use Rattle.numbers.proofs.ScaleLaws.{scale-bound, scale-f64-law}
+use Rattle.numbers.proofs.Complement.{complement-law}
+use Rattle.filters.specs.declared.bandwidth.Bandwidth.{Bandwidth}
+use Rattle.filters.specs.declared.max_bandwidth_filter.MaxBandwidthFilter.{MaxBandwidthFilter}
+use Rattle.filters.specs.declared.min_rtt_filter.MinRttFilter.{MinRttFilter}
+use Rattle.filters.specs.declared.time.Moment.{Moment}
+use Rattle.filters.specs.Bandwidth.{largerOf, timesF32}
+use Rattle.filters.specs.MaxBandwidthFilter.{maxGet, maxUpdate}
+use Rattle.filters.specs.MinRttFilter.{minUpdate}
+use Rattle.model.specs.declared.network_model.NetworkModel.{NetworkModel}
+use Rattle.model.specs.declared.params.Params.{Params}
+use Rattle.model.specs.declared.state.Latest.{Latest}
+use Rattle.model.specs.declared.state.Lower.{Lower}
+use Rattle.model.specs.declared.state.MaybeBandwidth.{MaybeBandwidth}
+use Rattle.model.specs.declared.state.MaybeBandwidth.the-variants.{Unset, Set}
+use Rattle.model.specs.declared.state.Round.{Round}
+use Rattle.model.specs.declared.state.Totals.{Totals}
+use Rattle.model.specs.Bounds.{within, betaOk, bytesOk, bytesOrUnsetOk, totalOk, momentOk, lengthOk, bandwidthOk, maybeOk, mostOk, leastOk, roundOk, latestOk, lowerOk, totalsOk, modelTests, modelOk, paramsOk}
+use Rattle.model.specs.Calls.{withRound, withLeast, withGrowth}
+use Rattle.model.specs.State.{roundNew}
+use Rattle.model.proofs.Kept.{round-new-ok}
+use Rattle.model.proofs.Rows.{none, and-left, and-right, and-both, or-left, or-right, all-at, all-put}
+use Rattle.events.specs.declared.record.MaybeLength.{MaybeLength}
+use Rattle.events.specs.declared.record.MaybeLength.the-variants.{Missing, Length}
+use Rattle.events.specs.declared.record.Record.{Record}
+use Rattle.events.specs.declared.record.Sample.{Sample}
+use Rattle.events.specs.declared.record.SendState.{SendState}
+use Rattle.events.specs.Event as E
+use Rattle.events.specs.Judge as J
+
+-- a test holds of both arms
+arms : {A : Type 0} (ok : A → Bool) (t : Bool) (x y : A) → ok x ≡ true → ok y ≡ true → ok (cond t x y) ≡ true
+arms ok true x y p q = p
+arms ok false x y p q = q
+
+larger-ok : (a b k : ℕ) → leb a k ≡ true → leb b k ≡ true → leb (max a b) k ≡ true
+larger-ok a b k p q = le-leb (max a b) k (omega (arith, leb-true a k p, leb-true b k q))
+
+-- ---- part by part
+most-kept : (f : MaxBandwidthFilter) (b : MaybeBandwidth) (c l : Bool) → mostOk f ≡ true → maybeOk b ≡ true → mostOk (E.mostAfter f b c l) ≡ true
+unfolding maxUpdate
+most-kept f Unset c l h k = h
+most-kept f (Set b) c l h k =
+    arms mostOk (c && (not l || ltb (maxGet f .0) (b .0))) (maxUpdate f b) f
+    (and-both (bandwidthOk (f .slot0)) (leb (max (f .slot1 .0) (b .0)) (2 ^ 40)) (and-left (bandwidthOk (f .slot0)) (bandwidthOk (f .slot1)) h) (larger-ok (f .slot1 .0) (b .0) (2 ^ 40) (and-right (bandwidthOk (f .slot0)) (bandwidthOk (f .slot1)) h) k)) h
+
+least-kept : (f : MinRttFilter) (r : MaybeLength) (now : Moment) → leastOk f ≡ true → E.maybeLengthOk r ≡ true → momentOk now ≡ true → leastOk (E.leastAfter f r now) ≡ true
+unfolding minUpdate
+least-kept f Missing now h k t = h
+least-kept f (Length d) now h k t = arms leastOk (ltb (d .0) (f .rtt .0)) (record { rtt = d; timestamp = now }) f (and-both (lengthOk d) (momentOk now) k t) h
+
+-- the largest of the filter
+most-max : (f : MaxBandwidthFilter) → mostOk f ≡ true → bandwidthOk (maxGet f) ≡ true
+unfolding maxGet
+most-max f h = larger-ok (f .slot0 .0) (f .slot1 .0) (2 ^ 40) (and-left (bandwidthOk (f .slot0)) (bandwidthOk (f .slot1)) h) (and-right (bandwidthOk (f .slot0)) (bandwidthOk (f .slot1)) h)
+
+seed-kept : (b : MaybeBandwidth) (w : Bandwidth) → maybeOk b ≡ true → bandwidthOk w ≡ true → bandwidthOk (E.seedOf b w) ≡ true
+seed-kept Unset w h k = k
+seed-kept (Set b) w h k = h
+
+raised-kept : (l : Latest) (s : Sample) → latestOk l ≡ true → maybeOk (s .bandwidth) ≡ true → bytesOk (s .inflight) ≡ true → latestOk (E.latestRaised l s) ≡ true
+unfolding E.latestRaised
+raised-kept l s h b n =
+    and-both (bandwidthOk (E.raisedBandwidth (l .bandwidth) (s .bandwidth))) (leb (max (l .inflight) (s .inflight)) (2 ^ 40)) (go (s .bandwidth) b) (larger-ok (l .inflight) (s .inflight) (2 ^ 40) (and-right (bandwidthOk (l .bandwidth)) (bytesOk (l .inflight)) h) n)
+  where
+    go : (x : MaybeBandwidth) → maybeOk x ≡ true → bandwidthOk (E.raisedBandwidth (l .bandwidth) x) ≡ true
+    go Unset k = and-left (bandwidthOk (l .bandwidth)) (bytesOk (l .inflight)) h
+    go (Set x) k = larger-ok (l .bandwidth .0) (x .0) (2 ^ 40) (and-left (bandwidthOk (l .bandwidth)) (bytesOk (l .inflight)) h) k
+
+latest-kept : (l : Latest) (t : Bool) (s : Sample) → latestOk l ≡ true → maybeOk (s .bandwidth) ≡ true → bytesOk (s .inflight) ≡ true → latestOk (E.latestAfter l t s) ≡ true
+unfolding E.latestAfter
+latest-kept l t s h b n =
+    arms latestOk t (record { bandwidth = E.seedOf (s .bandwidth) (l .bandwidth); inflight = E.newestOf (l .inflight) (s .inflight) }) l
+    (and-both (bandwidthOk (E.seedOf (s .bandwidth) (l .bandwidth))) (bytesOk (E.newestOf (l .inflight) (s .inflight)))
+    (seed-kept (s .bandwidth) (l .bandwidth) b (and-left (bandwidthOk (l .bandwidth)) (bytesOk (l .inflight)) h))
+    (arms bytesOk (ltb 0 (s .inflight)) (s .inflight) (l .inflight) n (and-right (bandwidthOk (l .bandwidth)) (bytesOk (l .inflight)) h))) h
+
+-- ---- the lower bounds: the factor is at most 1
+module _ (b : Float) (v : Parts b) where
+  at-most-one : v .parts ≤ 2 ^ 24
+  at-most-one = omega (arith, v .not-all)
+
+  slower-kept : (x : Bandwidth) → bandwidthOk x ≡ true → bandwidthOk (timesF32 x b) ≡ true
+  unfolding timesF32
+  slower-kept x h =
+      let n = leb-true (x .0) (2 ^ 40) h in
+      le-leb (scaledF64 (x .0) b) (2 ^ 40) (omega (arith, scale-f64-law (x .0) (v .parts) (2 ^ 24) b n (omega arith) at-most-one (v .value) .1))
+
+  cut-kept : (n : ℕ) → bytesOk n ≡ true → bytesOk (scaled n b) ≡ true
+  cut-kept n h = le-leb (scaled n b) (2 ^ 40) (scale-bound n (v .parts) (2 ^ 24) b (leb-true n (2 ^ 40) h) (omega arith) at-most-one (v .value))
+
+set-or : (n : ℕ) → bytesOrUnsetOk n ≡ true → eqb n (2 ^ 64 - 1) ≡ false → bytesOk n ≡ true
+set-or n h k = go (bytesOk n) (eqb n (2 ^ 64 - 1)) h k
+  where
+    go : (a c : Bool) → (a || c) ≡ true → c ≡ false → a ≡ true
+    go true c p q = refl
+    go false c p q = sym q ∙ p
+
+start-kept : (lo window : ℕ) → bytesOrUnsetOk lo ≡ true → bytesOk window ≡ true → bytesOk (E.startOf lo window) ≡ true
+start-kept lo window h k = go (eqb lo (2 ^ 64 - 1)) refl
+  where
+    go : (t : Bool) → eqb lo (2 ^ 64 - 1) ≡ t → bytesOk (cond t window lo) ≡ true
+    go true e = k
+    go false e = set-or lo h e
+
+or-first : (a c : Bool) → a ≡ true → (a || c) ≡ true
+or-first a c h = simp h
+
+lower-kept : (l : Lower) (t : Bool) (most : Bandwidth) (latest : Latest) (window : ℕ) (beta : Float) → Parts (complement beta)
+    → lowerOk l ≡ true → bandwidthOk most ≡ true → latestOk latest ≡ true → bytesOk window ≡ true → lowerOk (E.lowerAfter l t most latest window beta) ≡ true
+unfolding E.lowerAfter E.lowerReduced
+lower-kept l t most latest window beta v h m k w =
+    let b = complement beta in
+    let x = largerOf (latest .bandwidth) (timesF32 (E.seedOf (l .bandwidth) most) b) in
+    let n = scaled (E.startOf (l .inflight) window) b in
+    arms lowerOk t (record { bandwidth = Set x; inflight = max (latest .inflight) n }) l
+    (and-both (bandwidthOk x) (bytesOrUnsetOk (max (latest .inflight) n))
+    (larger-ok (latest .bandwidth .0) (timesF32 (E.seedOf (l .bandwidth) most) b .0) (2 ^ 40) (and-left (bandwidthOk (latest .bandwidth)) (bytesOk (latest .inflight)) k)
+    (slower-kept b v (E.seedOf (l .bandwidth) most) (seed-kept (l .bandwidth) most (and-left (maybeOk (l .bandwidth)) (bytesOrUnsetOk (l .inflight)) h) m)))
+    (or-first (bytesOk (max (latest .inflight) n)) (eqb (max (latest .inflight) n) (2 ^ 64 - 1))
+    (larger-ok (latest .inflight) n (2 ^ 40) (and-right (bandwidthOk (latest .bandwidth)) (bytesOk (latest .inflight)) k)
+    (cut-kept b v (E.startOf (l .inflight) window) (start-kept (l .inflight) window (and-right (maybeOk (l .bandwidth)) (bytesOrUnsetOk (l .inflight)) h) w))))) h
+
+-- ---- the round's sums: the totals rise by what the event lost and acked
+least-inflight : (least n : ℕ) → bytesOk n ≡ true → bytesOrUnsetOk (min least n) ≡ true
+least-inflight least n h = or-first (bytesOk (min least n)) (eqb (min least n) (2 ^ 64 - 1)) (le-leb (min least n) (2 ^ 40) (omega (arith, leb-true n (2 ^ 40) h)))
+
+module _ (r : Round) (old new : Totals) (delivered inflight : ℕ) (H : roundOk r old ≡ true) (K : totalsOk new ≡ true)
+  (A : old .acked ≤ new .acked) (L : old .lost ≤ new .lost) (D : delivered ≤ new .acked) (I : bytesOk inflight ≡ true) where
+  abbrev lost : ℕ
+  lost = new .lost - old .lost
+
+  lost-was : r .lost ≤ old .lost
+  unfolding roundOk
+  lost-was = leb-true _ _ (and-right (totalOk (r .lost) && totalOk (r .delivered) && bytesOrUnsetOk (r .least)) (leb (r .lost) (old .lost)) (and-left _ (leb (r .delivered) (old .acked)) H))
+
+  delivered-was : r .delivered ≤ old .acked
+  unfolding roundOk
+  delivered-was = leb-true _ _ (and-right (totalOk (r .lost) && totalOk (r .delivered) && bytesOrUnsetOk (r .least) && leb (r .lost) (old .lost)) (leb (r .delivered) (old .acked)) H)
+
+  acked-ok : new .acked ≤ 2 ^ 62
+  acked-ok = leb-true _ _ (and-left (totalOk (new .acked)) (totalOk (new .lost)) K)
+
+  lost-ok : new .lost ≤ 2 ^ 62
+  lost-ok = leb-true _ _ (and-right (totalOk (new .acked)) (totalOk (new .lost)) K)
+
+  lost-now : cond (ltb 0 lost) (r .lost + lost) (r .lost) ≤ new .lost
+  lost-now = go (ltb 0 lost)
+    where
+      go : (t : Bool) → cond t (r .lost + lost) (r .lost) ≤ new .lost
+      go true = omega (arith, lost-was, L)
+      go false = omega (arith, lost-was, L)
+
+  delivered-now : max (r .delivered) delivered ≤ new .acked
+  delivered-now = omega (arith, delivered-was, A, D)
+
+  round-kept : roundOk (E.roundAfter r lost delivered inflight) new ≡ true
+  unfolding roundOk E.roundAfter
+  round-kept =
+      let x = cond (ltb 0 lost) (r .lost + lost) (r .lost) in
+      let y = max (r .delivered) delivered in
+      let z = min (r .least) inflight in
+      and-both (totalOk x && totalOk y && bytesOrUnsetOk z && leb x (new .lost)) (leb y (new .acked))
+      (and-both (totalOk x && totalOk y && bytesOrUnsetOk z) (leb x (new .lost))
+      (and-both (totalOk x && totalOk y) (bytesOrUnsetOk z) (and-both (totalOk x) (totalOk y) (le-leb x (2 ^ 62) (omega (arith, lost-now, lost-ok))) (le-leb y (2 ^ 62) (omega (arith, delivered-now, acked-ok)))) (least-inflight (r .least) inflight I))
+      (le-leb x (new .lost) lost-now))
+      (le-leb y (new .acked) delivered-now)
+
+delivered-le : (t : SendState) (acked total : ℕ) → E.deliveredBy t acked total ≤ total
+unfolding E.deliveredBy
+delivered-le t acked total = go (ltb 0 acked && t .valid && ltb (t .acked) total)
+  where
+    go : (x : Bool) → cond x (total - t .acked) 0 ≤ total
+    go true = omega arith
+    go false = omega arith
+
+-- ---- beta within its bounds gives a factor of whole parts
+beta-parts : (p : Params) → T (fits binary32 (p .beta)) → paramsOk p ≡ true → Parts (complement (p .beta))
+unfolding paramsOk within ofBits
+beta-parts p F h =
+    let b : betaOk (p .beta) ≡ true = and-left _ _ (and-left _ _ (and-left _ _ (and-left _ _ (and-left _ _ (and-left _ _ (and-left _ _ h)))))) in
+    complement-law (p .beta) F (subst T (sym (and-left (le (ofBits binary32 0x3a80_0000) (p .beta)) (le (p .beta) (ofBits binary32 0x3f7f_c000)) b)) tt)
+    (subst T (sym (and-right (le (ofBits binary32 0x3a80_0000) (p .beta)) (le (p .beta) (ofBits binary32 0x3f7f_c000)) b)) tt)
+
+less-ok : (a b k : ℕ) → leb a k ≡ true → leb (a - b) k ≡ true
+less-ok a b k h = le-leb (a - b) k (omega (arith, leb-true a k h))
+
+-- ---- the event
+module _ (m : NetworkModel) (p : Params) (e : Record) (s : Sample) (acked : List ℕ) (F : T (fits binary32 (p .beta))) (N : E.eventNumber m p e s acked ≡ 0) where
+  mk : modelOk m ≡ true
+  unfolding E.eventNumber
+  mk = and-left (modelOk m) (paramsOk p) (not-false (modelOk m && paramsOk p) (none _ _ _ _ _ N .stored-fine))
+
+  pk : paramsOk p ≡ true
+  unfolding E.eventNumber
+  pk = and-right (modelOk m) (paramsOk p) (not-false (modelOk m && paramsOk p) (none _ _ _ _ _ N .stored-fine))
+
+  rk : E.recordOk e ≡ true
+  unfolding E.eventNumber
+  rk = and-left (E.recordOk e) (E.sampleOk s) (not-false (E.recordOk e && E.sampleOk s) (none _ _ _ _ _ N .argument-fine))
+
+  sk : E.sampleOk s ≡ true
+  unfolding E.eventNumber
+  sk = and-right (E.recordOk e) (E.sampleOk s) (not-false (E.recordOk e && E.sampleOk s) (none _ _ _ _ _ N .argument-fine))
+
+  acked-up : m .totals .acked ≤ s .totals .acked
+  unfolding E.eventNumber
+  acked-up = ltb-false _ _ (or-left (ltb (s .totals .acked) (m .totals .acked)) (ltb (s .totals .lost) (m .totals .lost)) (none _ _ _ _ _ N .no-lower))
+
+  lost-up : m .totals .lost ≤ s .totals .lost
+  unfolding E.eventNumber
+  lost-up = ltb-false _ _ (or-right (ltb (s .totals .acked) (m .totals .acked)) (ltb (s .totals .lost) (m .totals .lost)) (none _ _ _ _ _ N .no-lower))
+
+  abbrev after : Record
+  after = E.recordNext m e s acked
+
+  inflight-ok : bytesOk (e .prior - E.bytesAcked m s - E.bytesLost m s) ≡ true
+  unfolding E.recordTests
+  inflight-ok = less-ok (e .prior - E.bytesAcked m s) (E.bytesLost m s) (2 ^ 40) (less-ok (e .prior) (E.bytesAcked m s) (2 ^ 40) (all-at (E.recordTests e) 2 rk))
+
+  pub event-record-kept : E.recordOk (E.recordNext m e s acked) ≡ true
+  unfolding E.recordTests E.sampleTests E.recordNext E.recordOf E.stateAfter
+  event-record-kept =
+      let totals : totalsOk (s .totals) ≡ true = all-at (E.sampleTests s) 7 sk in
+      simp (
+        all-at (E.recordTests e) 0 rk,
+        all-at (E.recordTests e) 1 rk,
+        all-at (E.recordTests e) 2 rk,
+        inflight-ok,
+        less-ok (s .totals .acked) (m .totals .acked) (2 ^ 62) (and-left (totalOk (s .totals .acked)) (totalOk (s .totals .lost)) totals),
+        less-ok (s .totals .lost) (m .totals .lost) (2 ^ 62) (and-right (totalOk (s .totals .acked)) (totalOk (s .totals .lost)) totals),
+        bandwidth (s .bandwidth) (all-at (E.sampleTests s) 0 sk),
+        rtt (s .rtt) (all-at (E.sampleTests s) 3 sk),
+        arms E.stateOk (s .state .valid) (s .state) (e .state) (all-at (E.sampleTests s) 6 sk) (all-at (E.recordTests e) 8 rk)
+      )
+    where
+      bandwidth : (x : MaybeBandwidth) → maybeOk x ≡ true → maybeOk (E.bandwidthAfter (e .bandwidth) x (E.isChanged m s)) ≡ true
+      bandwidth Unset h = all-at (E.recordTests e) 6 rk
+      bandwidth (Set b) h = arms maybeOk (E.isChanged m s) (Set b) (e .bandwidth) h (all-at (E.recordTests e) 6 rk)
+
+      rtt : (x : MaybeLength) → E.maybeLengthOk x ≡ true → E.maybeLengthOk (E.rttAfter (e .rtt) x) ≡ true
+      rtt Missing h = all-at (E.recordTests e) 7 rk
+      rtt (Length d) h = h
+
+  pub event-model-kept : modelOk (E.modelNext m p e s acked) ≡ true
+  unfolding modelTests E.recordTests E.sampleTests E.modelNext E.modelOf E.recordNext E.recordOf E.mostNext E.roundNext E.lowerNext
+  event-model-kept =
+      let bandwidth = all-at (E.sampleTests s) 0 sk in
+      let inflight = all-at (E.sampleTests s) 4 sk in
+      let totals = all-at (E.sampleTests s) 7 sk in
+      let most = most-kept (m .most) (s .bandwidth) (E.isChanged m s) (s .limited) (all-at (modelTests m) 0 mk) bandwidth in
+      let raised = raised-kept (m .latest) s (all-at (modelTests m) 3 mk) bandwidth inflight in
+      simp (
+        most,
+        least-kept (m .least) (s .rtt) (e .time) (all-at (modelTests m) 1 mk) (all-at (E.sampleTests s) 3 sk) (all-at (E.recordTests e) 0 rk),
+        round-kept (m .round) (m .totals) (s .totals) (E.deliveredBy (after .state) (E.bytesAcked m s) (s .totals .acked)) (e .prior - E.bytesAcked m s - E.bytesLost m s) (all-at (modelTests m) 2 mk) totals acked-up lost-up (delivered-le (after .state) (E.bytesAcked m s) (s .totals .acked)) inflight-ok,
+        latest-kept (E.latestRaised (m .latest) s) (after .ended) s raised bandwidth inflight,
+        lower-kept (m .lower) (E.acts (after .ended) (after .probing) (E.roundNext m after s .lost)) (maxGet (E.mostNext m s)) (E.latestRaised (m .latest) s) (e .window) (p .beta) (beta-parts p F pk) (all-at (modelTests m) 4 mk) (most-max (E.mostNext m s) most) raised (all-at (E.recordTests e) 1 rk),
+        all-at (modelTests m) 5 mk,
+        all-at (modelTests m) 6 mk,
+        all-at (modelTests m) 7 mk,
+        and-both (maybeOk (s .send)) (maybeOk (s .ack)) (all-at (E.sampleTests s) 1 sk) (all-at (E.sampleTests s) 2 sk),
+        totals,
+        all-at (E.recordTests e) 0 rk
+      )
+
+-- ---- the calls that judge the round
+pub finish-kept : (m : NetworkModel) (e : Record) → modelOk m ≡ true → modelOk (J.finishNext m e) ≡ true
+unfolding modelTests J.finishNext withRound
+finish-kept m e h = go (e .ended)
+  where
+    go : (t : Bool) → modelOk (cond t (withRound m roundNew) m) ≡ true
+    go true = all-put (modelTests m) 2 (roundOk roundNew (m .totals)) h (round-new-ok (m .totals))
+    go false = h
+
+pub expire-kept : (m : NetworkModel) (p : Params) (e : Record) → modelOk m ≡ true → E.recordOk e ≡ true → modelOk (J.expireNext m p e) ≡ true
+unfolding modelTests E.recordTests J.expireNext withLeast
+expire-kept m p e h k = all-put (modelTests m) 1 (leastOk (J.leastExpired (e .rtt) (e .time) (m .least) (p .period))) h (go (e .rtt) (all-at (E.recordTests e) 7 k))
+  where
+    go : (x : MaybeLength) → E.maybeLengthOk x ≡ true → leastOk (J.leastExpired x (e .time) (m .least) (p .period)) ≡ true
+    go Missing l = all-at (modelTests m) 1 h
+    go (Length d) l = arms leastOk (J.isDue (e .time) (m .least) (p .period)) (record { rtt = d; timestamp = e .time }) (m .least) (and-both (lengthOk d) (momentOk (e .time)) l (all-at (E.recordTests e) 0 k)) (all-at (modelTests m) 1 h)
+
+pub growth-kept : (m : NetworkModel) (p : Params) (e : Record) → modelOk m ≡ true → modelOk (J.growthNext m p e) ≡ true
+unfolding modelTests J.growthNext withGrowth J.growthAfter J.growthFlat
+growth-kept m p e h = go (J.hasGrown (m .growth) (maxGet (m .most)) p)
+  where
+    go : (t : Bool) → modelOk (withGrowth m (cond t (record { reached = m .growth .reached; baseline = maxGet (m .most); flat = 0; queueing = m .growth .queueing; ignore = m .growth .ignore }) (J.growthFlat (m .growth) (e .state) p))) ≡ true
+    go true = all-put (modelTests m) 7 (bandwidthOk (maxGet (m .most))) h (most-max (m .most) (all-at (modelTests m) 0 h))
+    go false = h
+
+pub queue-kept : (m : NetworkModel) (p : Params) (gain : Float) → modelOk m ≡ true → modelOk (J.queueNext m p gain) ≡ true
+unfolding modelTests J.queueNext withGrowth J.queueAfter
+queue-kept m p gain h = go (J.isQueueing m gain)
+  where
+    go : (t : Bool) → modelOk (withGrowth m (J.queueAfter (m .growth) t p)) ≡ true
+    go true = h
+    go false = h

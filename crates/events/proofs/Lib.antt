@@ -1,0 +1,5 @@
+-- Laws and theorems of the events.
+pub mod Laws
+pub mod Room
+pub mod Kept
+pub mod Determined

@@ -1,0 +1,10 @@
+-- `bandwidth_after` meets its contract: by the two cases.
+use borrow.Author.Needs.{needs}
+use Rattle.events.proofs.event.bandwidth_after.Statement.{statement}
+use Rattle.events.proofs.event.bandwidth_after.Tie as tie
+
+returns-2 : tie.Need-returns-2
+returns-2 c = rw (c .before .before .sample .given .1, c .if1 .taken)
+
+pub bandwidth-after-spec : {M : Type 1} → statement M
+bandwidth-after-spec = tie.close (tie.spec (λ c. search needs) (λ c. search needs) (λ c. search needs) returns-2 (λ c. search needs))

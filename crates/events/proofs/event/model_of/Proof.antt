@@ -1,0 +1,37 @@
+-- `model_of` meets its contract: part by part.
+use borrow.Author.Needs.{needs}
+use mathlib.Core.Path.{refl, ap, ap₂, _∙_}
+use mathlib.Core.Bool.{Bool}
+use Rattle.filters.specs.declared.max_bandwidth_filter.MaxBandwidthFilter.{MaxBandwidthFilter}
+use Rattle.filters.specs.declared.min_rtt_filter.MinRttFilter.{MinRttFilter}
+use Rattle.filters.specs.declared.round_trip_counter.RoundTripCounter.{RoundTripCounter}
+use Rattle.model.specs.declared.network_model.NetworkModel.{NetworkModel}
+use Rattle.model.specs.declared.state.Latest.{Latest}
+use Rattle.model.specs.declared.state.Lower.{Lower}
+use Rattle.model.specs.declared.state.Round.{Round}
+use Rattle.events.specs.declared.record.Record.{Record}
+use Rattle.events.specs.declared.record.Sample.{Sample}
+use Rattle.events.specs.Event.{modelOf, lowerNext}
+use Rattle.model.proofs.Settling.{ap6}
+use Rattle.events.proofs.event.model_of.Statement.{statement}
+use Rattle.events.proofs.event.model_of.Tie as tie
+
+abbrev made : NetworkModel → Record → Sample → RoundTripCounter → MaxBandwidthFilter → MinRttFilter → Round → Latest → Lower → Bool → NetworkModel
+made m after s counter most least round latest lower limited =
+    record { rounds = counter; most = most; least = least; round = round; latest = latest; lower = lower; high = m .high; gains = m .gains; limited = limited; growth = m .growth; rates = record { send = s .send; ack = s .ack }; totals = s .totals; moment = after .time }
+
+returns : tie.Need-returns
+unfolding modelOf
+returns c = let a = c .before .before .before .before .before .before .before .before .args in ap6 (made (a .model) (a .after) (a .sample) (a .counter)) (c .before .before .before .before .before .before .before .most-next .ensures) (c .before .before .before .before .before .before .least-next .ensures) (c .before .before .before .before .before .round-next .ensures) (c .before .before .before .before .latest-next .ensures) (c .before .before .before .lower-next .ensures ∙ ap₂ (λ (x : MaxBandwidthFilter) (y : Round). lowerNext (a .model) (a .params) (a .after) (a .sample) x (y .lost)) (c .before .before .before .before .before .before .before .most-next .ensures) (c .before .before .before .before .before .round-next .ensures)) (c .before .before .limited-after .ensures)
+
+pub model-of-spec : {M : Type 1} → statement M
+model-of-spec =
+    tie.close
+    (tie.spec
+    (λ c κs. search needs)
+    (λ c κs. search needs)
+    (λ c κs. search needs)
+    (λ c κs. search needs)
+    (λ c κs. search needs)
+    (λ c κs. search needs)
+    returns)

@@ -1,0 +1,34 @@
+-- `record_of` meets its contract: part by part.
+use borrow.Author.Needs.{needs}
+use mathlib.Core.Path.{refl, ap, ap₂, _∙_}
+use mathlib.Core.Bool.{Bool}
+use Prim.Native.Nat.{ℕ, _-_}
+use Rattle.model.specs.declared.state.MaybeBandwidth.{MaybeBandwidth}
+use Rattle.events.specs.declared.record.MaybeLength.{MaybeLength}
+use Rattle.events.specs.declared.record.Record.{Record}
+use Rattle.events.specs.declared.record.SendState.{SendState}
+use Rattle.events.specs.Event.{recordOf, bandwidthAfter}
+use Rattle.model.proofs.Settling.{ap6}
+use Rattle.events.proofs.event.record_of.Statement.{statement}
+use Rattle.events.proofs.event.record_of.Tie as tie
+
+abbrev made : Record → Bool → ℕ → ℕ → ℕ → MaybeBandwidth → MaybeLength → SendState → Record
+made e ended acked lost inflight bandwidth rtt state = record { time = e .time; window = e .window; prior = e .prior; inflight = inflight; acked = acked; lost = lost; ended = ended; probing = e .probing; bandwidth = bandwidth; rtt = rtt; state = state }
+
+returns : tie.Need-returns
+unfolding recordOf
+returns c = let a = c .before .before .before .before .before .before .before .before .before .before .before .args in ap6 (made (a .event) (a .ended)) (c .before .before .before .before .before .before .before .before .before .less .ensures) (c .before .before .before .before .before .before .before .before .less2 .ensures) (c .less4 .ensures ∙ ap₂ _-_ (c .before .less3 .ensures ∙ ap (λ (n : ℕ). a .event .prior - n) (c .before .before .before .before .before .before .before .before .before .less .ensures)) (c .before .before .before .before .before .before .before .before .less2 .ensures)) (c .before .before .before .before .before .before .before .bandwidth-after .ensures ∙ ap (λ (t : Bool). bandwidthAfter (a .event .bandwidth) (a .sample .bandwidth) t) (c .before .before .before .before .before .before .before .before .before .before .is-changed .ensures)) (c .before .before .before .before .before .before .rtt-after .ensures) (c .before .before .before .state-after .ensures)
+
+pub record-of-spec : {M : Type 1} → statement M
+record-of-spec =
+    tie.close
+    (tie.spec
+    (λ c κs. search needs)
+    (λ c κs. search needs)
+    (λ c κs. search needs)
+    (λ c κs. search needs)
+    (λ c κs. search needs)
+    (λ c κs. search needs)
+    (λ c κs. search needs)
+    (λ c κs. search needs)
+    returns)

@@ -1,0 +1,227 @@
+-- One event, in order: document 01, "One event, in order"; network_model.rs, on_congestion_event_start and adapt_lower_bounds in BwLoMode::Default. m is the model before the event, e its record as
+-- handed in, s what the sampler says to it, and `acked` the packet numbers acked.
+use Prim.Native.Nat.{ℕ, min, max, _+_, _-_, _^_}
+use mathlib.Core.Bool.{Bool, true, false, cond, not, _&&_, _||_}
+use mathlib.Core.List.{List, [], _∷_}
+use lib.Dec.{ltb, leb, eqb}
+use lib.Ieee.{Float}
+use Rattle.filters.specs.declared.bandwidth.Bandwidth.{Bandwidth}
+use Rattle.filters.specs.declared.max_bandwidth_filter.MaxBandwidthFilter.{MaxBandwidthFilter}
+use Rattle.filters.specs.declared.min_rtt_filter.MinRttFilter.{MinRttFilter}
+use Rattle.filters.specs.declared.round_trip_counter.RoundTripCounter.{RoundTripCounter}
+use Rattle.filters.specs.declared.time.Duration.{Duration}
+use Rattle.filters.specs.declared.time.Moment.{Moment}
+use Rattle.filters.specs.Bandwidth.{largerOf, timesF32}
+use Rattle.filters.specs.MaxBandwidthFilter.{maxGet, maxUpdate}
+use Rattle.filters.specs.MinRttFilter.{minUpdate}
+use Rattle.filters.specs.RoundTripCounter.{roundsAcked, roundsEnded, roundsFull}
+use Rattle.filters.specs.Time.{isBefore}
+use Rattle.numbers.specs.Scaling.{scaled, complement}
+use Rattle.model.specs.declared.network_model.NetworkModel.{NetworkModel}
+use Rattle.model.specs.declared.params.Params.{Params}
+use Rattle.model.specs.declared.state.Latest.{Latest}
+use Rattle.model.specs.declared.state.Lower.{Lower}
+use Rattle.model.specs.declared.state.MaybeBandwidth.{MaybeBandwidth}
+use Rattle.model.specs.declared.state.MaybeBandwidth.the-variants.{Unset, Set}
+use Rattle.model.specs.declared.state.Rates.{Rates}
+use Rattle.model.specs.declared.state.Round.{Round}
+use Rattle.model.specs.declared.state.Totals.{Totals}
+use Rattle.model.specs.Bounds.{all, rowOf, modelOk, paramsOk, bytesOk, totalOk, momentOk, lengthOk, maybeOk, totalsOk}
+use Rattle.events.specs.declared.record.MaybeLength.{MaybeLength}
+use Rattle.events.specs.declared.record.MaybeLength.the-variants.{Missing, Length}
+use Rattle.events.specs.declared.record.Record.{Record}
+use Rattle.events.specs.declared.record.Sample.{Sample}
+use Rattle.events.specs.declared.record.SendState.{SendState}
+
+-- ---- the bounds of what is handed in; "All numbers handed in are tested", those of a send state that is not valid too
+abbrev pub maybeLengthOk : MaybeLength → Bool
+maybeLengthOk Missing = true
+maybeLengthOk (Length d) = lengthOk d
+
+abbrev pub stateOk : SendState → Bool
+stateOk t = totalOk (t .acked) && bytesOk (t .inflight)
+
+unfoldable pub recordTests : Record → List Bool
+recordTests e =
+    momentOk (e .time)
+    ∷ bytesOk (e .window)
+    ∷ bytesOk (e .prior)
+    ∷ bytesOk (e .inflight)
+    ∷ totalOk (e .acked)
+    ∷ totalOk (e .lost)
+    ∷ maybeOk (e .bandwidth)
+    ∷ maybeLengthOk (e .rtt)
+    ∷ stateOk (e .state)
+    ∷ []
+
+abbrev pub recordOk : Record → Bool
+recordOk e = all (recordTests e)
+
+unfoldable pub sampleTests : Sample → List Bool
+sampleTests s =
+    maybeOk (s .bandwidth)
+    ∷ maybeOk (s .send)
+    ∷ maybeOk (s .ack)
+    ∷ maybeLengthOk (s .rtt)
+    ∷ bytesOk (s .inflight)
+    ∷ bytesOk (s .extra)
+    ∷ stateOk (s .state)
+    ∷ totalsOk (s .totals)
+    ∷ []
+
+abbrev pub sampleOk : Sample → Bool
+sampleOk s = all (sampleTests s)
+
+-- ---- the steps
+
+-- "bytes acked and lost"
+abbrev pub bytesAcked : NetworkModel → Sample → ℕ
+bytesAcked m s = s .totals .acked - m .totals .acked
+
+abbrev pub bytesLost : NetworkModel → Sample → ℕ
+bytesLost m s = s .totals .lost - m .totals .lost
+
+-- "cwnd-limited flag if extra acked is 0 (prior inflight >= prior window)"
+unfoldable pub limitedAfter : Bool → ℕ → ℕ → ℕ → Bool
+limitedAfter was extra prior window = cond (eqb extra 0) (leb window prior) was
+
+-- "last send state if valid"
+unfoldable pub stateAfter : SendState → SendState → SendState
+stateAfter was new = cond (new .valid) new was
+
+-- "only if total acked changed"
+abbrev pub isChanged : NetworkModel → Sample → Bool
+isChanged m s = not (eqb (m .totals .acked) (s .totals .acked))
+
+-- "max filter (only if total acked changed, and only if not app-limited or the sample is above the present maximum)"
+abbrev pub mostAfter : MaxBandwidthFilter → MaybeBandwidth → Bool → Bool → MaxBandwidthFilter
+mostAfter f Unset changed limited = f
+mostAfter f (Set b) changed limited = cond (changed && (not limited || ltb (maxGet f .0) (b .0))) (maxUpdate f b) f
+
+-- the record takes the sample if total acked changed
+abbrev pub bandwidthAfter : MaybeBandwidth → MaybeBandwidth → Bool → MaybeBandwidth
+bandwidthAfter was Unset changed = was
+bandwidthAfter was (Set b) changed = cond changed (Set b) was
+
+-- "min RTT"; the record takes the sample
+abbrev pub leastAfter : MinRttFilter → MaybeLength → Moment → MinRttFilter
+leastAfter f Missing now = f
+leastAfter f (Length d) now = minUpdate f d now
+
+abbrev pub rttAfter : MaybeLength → MaybeLength → MaybeLength
+rttAfter was Missing = was
+rttAfter was (Length d) = Length d
+
+-- "loss sums (event count +1 if bytes lost > 0); delivered maximum; minimum inflight"
+unfoldable pub deliveredBy : SendState → ℕ → ℕ → ℕ
+deliveredBy t acked total = cond (ltb 0 acked && t .valid && ltb (t .acked) total) (total - t .acked) 0
+
+unfoldable pub roundAfter : Round → ℕ → ℕ → ℕ → Round
+roundAfter r lost delivered inflight =
+    record {
+      lost = cond (ltb 0 lost) (r .lost + lost) (r .lost);
+      losses = cond (ltb 0 lost) (r .losses + 1) (r .losses);
+      delivered = max (r .delivered) delivered;
+      least = min (r .least) inflight;
+      limited = r .limited
+    }
+
+-- "raise the latest bandwidth and inflight"
+abbrev pub raisedBandwidth : Bandwidth → MaybeBandwidth → Bandwidth
+raisedBandwidth was Unset = was
+raisedBandwidth was (Set b) = largerOf was b
+
+unfoldable pub latestRaised : Latest → Sample → Latest
+latestRaised l s = record { bandwidth = raisedBandwidth (l .bandwidth) (s .bandwidth); inflight = max (l .inflight) (s .inflight) }
+
+-- "Lower bounds act only at a round's end, when not probing, with bytes lost in the round above 0"
+abbrev pub acts : Bool → Bool → ℕ → Bool
+acts ended probing lost = ended && not probing && ltb 0 lost
+
+-- "unset, it takes the maximum"
+abbrev pub seedOf : MaybeBandwidth → Bandwidth → Bandwidth
+seedOf Unset most = most
+seedOf (Set lo) most = lo
+
+-- "inflight_lo: unset, it takes the prior window"
+abbrev pub startOf : ℕ → ℕ → ℕ
+startOf lo window = cond (eqb lo (2 ^ 64 - 1)) window lo
+
+-- "then it becomes max(latest, lo x b)"; of inflight_lo, "then max(latest, scale(lo, b))". b is the f32 1 - beta
+unfoldable pub lowerReduced : Lower → Bandwidth → Latest → ℕ → Float → Lower
+lowerReduced l most latest window b =
+    record {
+      bandwidth = Set (largerOf (latest .bandwidth) (timesF32 (seedOf (l .bandwidth) most) b));
+      inflight = max (latest .inflight) (scaled (startOf (l .inflight) window) b)
+    }
+
+unfoldable pub lowerAfter : Lower → Bool → Bandwidth → Latest → ℕ → Float → Lower
+lowerAfter l reduces most latest window beta = cond reduces (lowerReduced l most latest window (complement beta)) l
+
+abbrev pub newestOf : ℕ → ℕ → ℕ
+newestOf was sample = cond (ltb 0 sample) sample was
+
+-- "then, at a round's end only, latest bandwidth takes the sample if there is one and latest inflight the sample if above 0"
+unfoldable pub latestAfter : Latest → Bool → Sample → Latest
+latestAfter l ended s = cond ended (record { bandwidth = seedOf (s .bandwidth) (l .bandwidth); inflight = newestOf (l .inflight) (s .inflight) }) l
+
+-- ---- the record after the event; `ended` says whether a round ended
+unfoldable pub recordOf : NetworkModel → Record → Sample → Bool → Record
+recordOf m e s ended =
+    record {
+      time = e .time;
+      window = e .window;
+      prior = e .prior;
+      inflight = e .prior - bytesAcked m s - bytesLost m s;
+      acked = bytesAcked m s;
+      lost = bytesLost m s;
+      ended = ended;
+      probing = e .probing;
+      bandwidth = bandwidthAfter (e .bandwidth) (s .bandwidth) (isChanged m s);
+      rtt = rttAfter (e .rtt) (s .rtt);
+      state = stateAfter (e .state) (s .state)
+    }
+
+unfoldable pub recordNext : NetworkModel → Record → Sample → List ℕ → Record
+recordNext m e s acked = recordOf m e s (roundsEnded (m .rounds) acked)
+
+-- ---- the model after the event, from the record after it: the round's count and end first
+unfoldable pub mostNext : NetworkModel → Sample → MaxBandwidthFilter
+mostNext m s = mostAfter (m .most) (s .bandwidth) (isChanged m s) (s .limited)
+
+unfoldable pub roundNext : NetworkModel → Record → Sample → Round
+roundNext m after s = roundAfter (m .round) (after .lost) (deliveredBy (after .state) (after .acked) (s .totals .acked)) (after .inflight)
+
+unfoldable pub lowerNext : NetworkModel → Params → Record → Sample → MaxBandwidthFilter → ℕ → Lower
+lowerNext m p after s most lost = lowerAfter (m .lower) (acts (after .ended) (after .probing) lost) (maxGet most) (latestRaised (m .latest) s) (after .window) (p .beta)
+
+unfoldable pub modelOf : NetworkModel → Params → Record → Sample → RoundTripCounter → NetworkModel
+modelOf m p after s counter =
+    record {
+      rounds = counter;
+      most = mostNext m s;
+      least = leastAfter (m .least) (s .rtt) (after .time);
+      round = roundNext m after s;
+      latest = latestAfter (latestRaised (m .latest) s) (after .ended) s;
+      lower = lowerNext m p after s (mostNext m s) (roundNext m after s .lost);
+      high = m .high;
+      gains = m .gains;
+      limited = limitedAfter (m .limited) (s .extra) (after .prior) (after .window);
+      growth = m .growth;
+      rates = record { send = s .send; ack = s .ack };
+      totals = s .totals;
+      moment = after .time
+    }
+
+unfoldable pub modelNext : NetworkModel → Params → Record → Sample → List ℕ → NetworkModel
+modelNext m p e s acked = modelOf m p (recordNext m e s acked) s (roundsAcked (m .rounds) acked)
+
+-- ---- the refusals: row 4, "the total acked or the total lost is lower than the one stored"; row 5, the round count or the count of loss events is full and would rise
+abbrev pub isLower : NetworkModel → Sample → Bool
+isLower m s = ltb (s .totals .acked) (m .totals .acked) || ltb (s .totals .lost) (m .totals .lost)
+
+unfoldable pub isFull : NetworkModel → Sample → List ℕ → Bool
+isFull m s acked = roundsFull (m .rounds) acked || (ltb 0 (bytesLost m s) && eqb (m .round .losses) (2 ^ 64 - 1))
+
+unfoldable pub eventNumber : NetworkModel → Params → Record → Sample → List ℕ → ℕ
+eventNumber m p e s acked = rowOf (not (modelOk m && paramsOk p)) (not (recordOk e && sampleOk s)) (isBefore (e .time) (m .moment)) (isLower m s) (isFull m s acked)

@@ -1,0 +1,99 @@
+-- The other calls that carry an event, or count rounds: network_model.rs, with document 01's refusals.
+use Prim.Native.Nat.{ℕ, _+_, _-_, _*_, _^_}
+use mathlib.Core.Bool.{Bool, true, false, cond, not, _&&_, _||_}
+use lib.Dec.{ltb, leb, eqb}
+use lib.Ieee.{Float}
+use Rattle.filters.specs.declared.bandwidth.Bandwidth.{Bandwidth}
+use Rattle.filters.specs.declared.min_rtt_filter.MinRttFilter.{MinRttFilter}
+use Rattle.filters.specs.declared.time.Duration.{Duration}
+use Rattle.filters.specs.declared.time.Moment.{Moment}
+use Rattle.filters.specs.Bandwidth.{timesF32}
+use Rattle.filters.specs.MaxBandwidthFilter.{maxGet}
+use Rattle.filters.specs.MinRttFilter.{minForce}
+use Rattle.filters.specs.Time.{plus, isBefore}
+use Rattle.numbers.specs.Scaling.{scaled}
+use Rattle.model.specs.declared.network_model.NetworkModel.{NetworkModel}
+use Rattle.model.specs.declared.params.Params.{Params}
+use Rattle.model.specs.declared.state.Growth.{Growth}
+use Rattle.model.specs.declared.state.Round.{Round}
+use Rattle.model.specs.Bounds.{rowOf, modelOk, paramsOk, gainOk}
+use Rattle.model.specs.Calls.{one, bdpOf, withRound, withLeast, withGrowth}
+use Rattle.model.specs.State.{roundNew}
+use Rattle.events.specs.declared.record.MaybeLength.{MaybeLength}
+use Rattle.events.specs.declared.record.MaybeLength.the-variants.{Missing, Length}
+use Rattle.events.specs.declared.record.Record.{Record}
+use Rattle.events.specs.declared.record.SendState.{SendState}
+use Rattle.events.specs.Event.{recordOk}
+
+-- a call with a record, and one with the parameters too
+unfoldable pub recordNumber : NetworkModel → Record → ℕ
+recordNumber m e = rowOf (not (modelOk m)) (not (recordOk e)) false false false
+
+unfoldable pub judgedNumber : NetworkModel → Params → Record → Bool → ℕ
+judgedNumber m p e full = rowOf (not (modelOk m && paramsOk p)) (not (recordOk e)) false false full
+
+-- ---- on_congestion_event_finish: "The finish call clears the round's sums if the round ended"
+unfoldable pub finishNext : NetworkModel → Record → NetworkModel
+finishNext m e = cond (e .ended) (withRound m roundNew) m
+
+-- ---- maybe_expire_min_rtt: "Expiry needs a sample and a moment not earlier than the stored one plus the period; the sample is then forced in"
+abbrev pub isGiven : MaybeLength → Bool
+isGiven Missing = false
+isGiven (Length d) = true
+
+unfoldable pub isDue : Moment → MinRttFilter → Duration → Bool
+isDue now f period = not (isBefore now (plus (f .timestamp) period))
+
+abbrev pub isExpired : MaybeLength → Moment → MinRttFilter → Duration → Bool
+isExpired sample now f period = isGiven sample && isDue now f period
+
+abbrev pub leastExpired : MaybeLength → Moment → MinRttFilter → Duration → MinRttFilter
+leastExpired Missing now f period = f
+leastExpired (Length d) now f period = cond (isDue now f period) (minForce d now) f
+
+unfoldable pub expireNext : NetworkModel → Params → Record → NetworkModel
+expireNext m p e = withLeast m (leastExpired (e .rtt) (e .time) (m .least) (p .period))
+
+-- ---- is_inflight_too_high: a valid state, loss events at least the limit, inflight at send above 0, bytes lost above 0 and strictly above scale(inflight, threshold)
+unfoldable pub isTooHigh : Round → SendState → ℕ → Float → Bool
+isTooHigh r t limit threshold = t .valid && leb limit (r .losses) && ltb 0 (t .inflight) && ltb 0 (r .lost) && ltb (scaled (t .inflight) threshold) (r .lost)
+
+-- ---- has_bandwidth_growth: the maximum is at least the baseline times the threshold
+unfoldable pub hasGrown : Growth → Bandwidth → Params → Bool
+hasGrown g most p = leb (timesF32 (g .baseline) (p .growth) .0) (most .0)
+
+-- without growth the round counts if the state is valid, unless it is app-limited and such rounds are ignored
+unfoldable pub countsFlat : Growth → SendState → Bool
+countsFlat g t = t .valid && not (g .ignore && t .limited)
+
+unfoldable pub flatAfter : Growth → SendState → ℕ
+flatAfter g t = cond (countsFlat g t) (g .flat + 1) (g .flat)
+
+-- "full_bandwidth_reached is only set to true when not app-limited"
+unfoldable pub growthFlat : Growth → SendState → Params → Growth
+growthFlat g t p = record { reached = g .reached || (t .valid && leb (p .rounds) (flatAfter g t) && not (t .limited)); baseline = g .baseline; flat = flatAfter g t; queueing = g .queueing; ignore = g .ignore }
+
+unfoldable pub growthAfter : Growth → Bandwidth → SendState → Params → Growth
+growthAfter g most t p = cond (hasGrown g most p) (record { reached = g .reached; baseline = most; flat = 0; queueing = g .queueing; ignore = g .ignore }) (growthFlat g t p)
+
+unfoldable pub growthFull : NetworkModel → Params → Record → Bool
+growthFull m p e = not (hasGrown (m .growth) (maxGet (m .most)) p) && countsFlat (m .growth) (e .state) && eqb (m .growth .flat) (2 ^ 64 - 1)
+
+unfoldable pub growthNext : NetworkModel → Params → Record → NetworkModel
+growthNext m p e = withGrowth m (growthAfter (m .growth) (maxGet (m .most)) (e .state) p)
+
+-- ---- check_persistent_queue: the round queues unless its minimum inflight is below max(bdp at the target gain, bdp + 2 segments)
+unfoldable pub isQueueing : NetworkModel → Float → Bool
+isQueueing m gain = not (ltb (m .round .least) (bdpOf m (maxGet (m .most)) gain)) && not (ltb (m .round .least) (bdpOf m (maxGet (m .most)) one + 2 * 1300))
+
+unfoldable pub queueAfter : Growth → Bool → Params → Growth
+queueAfter g queueing p =
+    cond queueing
+    (record { reached = g .reached || leb (p .queueing) (g .queueing + 1); baseline = g .baseline; flat = g .flat; queueing = g .queueing + 1; ignore = g .ignore })
+    (record { reached = g .reached; baseline = g .baseline; flat = g .flat; queueing = 0; ignore = g .ignore })
+
+unfoldable pub queueNumber : NetworkModel → Params → Float → ℕ
+queueNumber m p gain = rowOf (not (modelOk m && paramsOk p)) (not (gainOk gain)) false false (isQueueing m gain && eqb (m .growth .queueing) (2 ^ 64 - 1))
+
+unfoldable pub queueNext : NetworkModel → Params → Float → NetworkModel
+queueNext m p gain = withGrowth m (queueAfter (m .growth) (isQueueing m gain) p)

@@ -1,0 +1,25 @@
+-- `Reply::is_done` follows the case.
+use borrow.Author.Needs.{needs}
+use Rattle.filters.proofs.reply.Reply.is_done.Statement.{statement}
+use Rattle.filters.proofs.reply.Reply.is_done.Tie as tie
+
+pub is-done-spec : {M : Type 1} → statement M
+is-done-spec =
+    tie.close
+    (tie.spec
+    (λ c. search needs)
+    (λ c. search needs)
+    (λ c. search needs)
+    (λ c. search needs)
+    (λ c. search needs)
+    (λ c. search needs)
+    (λ c. search needs)
+    (λ c. search needs)
+    (λ c. rw (c .enum-told .given .1))
+    (λ c. rw (c .enum-told2 .given .1))
+    (λ c. rw (c .enum-told3 .given .1))
+    (λ c. rw (c .enum-told4 .given .1))
+    (λ c. rw (c .enum-told5 .given .1))
+    (λ c. rw (c .enum-told6 .given .1))
+    (λ c. rw (c .enum-told7 .given .1))
+    (λ c. rw (c .enum-told8 .given .1)))

@@ -1,0 +1,135 @@
+-- A call that is done leaves the model within its bounds; one that is refused leaves it as it was (`refused-kept`). Assumes nothing.
+use Prim.Native.Nat.{ℕ, min, _+_, _-_, _^_}
+use mathlib.Core.Bool.{Bool, true, false, cond, _&&_, _||_}
+use mathlib.Core.Path.{_≡_, refl}
+use native.Mathlib.Nat.{min-eq-left, min-eq-right, le-of-lt}
+use lib.Dec.{leb, eqb}
+use lib.ListN.{set}
+use native.Mathlib.Omega.{arith}
+use borrow.Author.Tests.{leb-true, leb-false, le-leb, ne-eqb}
+use Rattle.filters.specs.declared.max_bandwidth_filter.MaxBandwidthFilter.{MaxBandwidthFilter}
+use lib.Ieee.{Float}
+use Rattle.filters.specs.declared.time.Duration.{Duration}
+use Rattle.filters.specs.declared.time.Moment.{Moment}
+use Rattle.filters.specs.MaxBandwidthFilter.{maxAdvance}
+use Rattle.model.specs.declared.network_model.NetworkModel.{NetworkModel}
+use Rattle.model.specs.declared.state.Lower.{Lower}
+use Rattle.model.specs.declared.state.Round.{Round}
+use Rattle.model.specs.declared.state.Totals.{Totals}
+use Rattle.model.specs.Bounds.{bytesOk, bytesOrUnsetOk, totalOk, lengthOk, gainOk, bandwidthOk, maybeOk, mostOk, leastOk, roundOk, lowerOk, gainsOk, momentOk, modelTests, modelOk}
+use Rattle.model.specs.declared.params.Params.{Params}
+use Rattle.model.specs.Answers.{settled}
+use Rattle.model.specs.Calls.{withMost, withRounds, withRound, withLower, withGrowth, withMoment, withHigh, withGains, withLeast, growthRestarted, modelNew, sentNext, reachedNext, pacingNext, cwndNext, postponed, postponeNext, restartNext, capNext, clearInflightNext, clearBandwidthNext, advanceNext}
+use Rattle.model.specs.State.{roundNew, roundSent, lowerCapped}
+use Rattle.model.proofs.Rows.{and-left, and-right, and-both, all-at, all-put}
+
+-- ---- the parts
+pub round-new-ok : (t : Totals) → roundOk roundNew t ≡ true
+unfolding roundOk
+round-new-ok t = and-both (leb 0 (t .lost)) (leb 0 (t .acked)) (le-leb 0 (t .lost) (omega arith)) (le-leb 0 (t .acked) (omega arith))
+
+pub min-ok : (a b : ℕ) → bytesOrUnsetOk a ≡ true → bytesOrUnsetOk b ≡ true → bytesOrUnsetOk (min a b) ≡ true
+min-ok a b p q = go (leb a b) refl
+  where
+    go : (t : Bool) → leb a b ≡ t → bytesOrUnsetOk (min a b) ≡ true
+    go true e = rw (min-eq-left (leb-true a b e)) p
+    go false e = rw (min-eq-right (le-of-lt (leb-false a b e))) q
+
+pub lower-capped-ok : (l : Lower) (cap : ℕ) → lowerOk l ≡ true → bytesOrUnsetOk cap ≡ true → lowerOk (lowerCapped l cap) ≡ true
+unfolding lowerCapped
+lower-capped-ok l cap h k = go (eqb (l .inflight) (2 ^ 64 - 1))
+  where
+    go : (t : Bool) → lowerOk (cond t l (record { bandwidth = l .bandwidth; inflight = min cap (l .inflight) })) ≡ true
+    go true = h
+    go false =
+        and-both (maybeOk (l .bandwidth)) (bytesOrUnsetOk (min cap (l .inflight))) (and-left (maybeOk (l .bandwidth)) (bytesOrUnsetOk (l .inflight)) h)
+        (min-ok cap (l .inflight) k (and-right (maybeOk (l .bandwidth)) (bytesOrUnsetOk (l .inflight)) h))
+
+pub max-advance-ok : (f : MaxBandwidthFilter) → mostOk f ≡ true → mostOk (maxAdvance f) ≡ true
+unfolding maxAdvance
+max-advance-ok f h = go (eqb (f .slot1 .0) 0)
+  where
+    go : (t : Bool) → mostOk (cond t f (record { slot0 = f .slot1; slot1 = record { 0 = 0 } })) ≡ true
+    go true = h
+    go false = and-both (bandwidthOk (f .slot1)) true (and-right (bandwidthOk (f .slot0)) (bandwidthOk (f .slot1)) h) refl
+
+-- ---- the steps
+pub high-ok : (m : NetworkModel) → modelOk m ≡ true → bytesOrUnsetOk (m .high) ≡ true
+unfolding modelTests
+high-ok m h = all-at (modelTests m) 5 h
+
+pub moment-kept : (m : NetworkModel) (now : Moment) → modelOk m ≡ true → momentOk now ≡ true → modelOk (withMoment m now) ≡ true
+unfolding modelTests withMoment
+moment-kept m now h k = all-put (modelTests m) 10 (momentOk now) h k
+
+pub restart-kept : (m : NetworkModel) → modelOk m ≡ true → modelOk (restartNext m) ≡ true
+unfolding modelTests restartNext growthRestarted withGrowth withRounds withRound
+restart-kept m h = all-put (modelTests m) 2 (roundOk roundNew (m .totals)) h (round-new-ok (m .totals))
+
+pub cap-kept : (m : NetworkModel) (cap : ℕ) → modelOk m ≡ true → bytesOrUnsetOk cap ≡ true → modelOk (capNext m cap) ≡ true
+unfolding modelTests capNext withLower
+cap-kept m cap h k =
+    all-put (modelTests m) 4 (lowerOk (lowerCapped (m .lower) cap)) h (lower-capped-ok (m .lower) cap (all-at (modelTests m) 4 h) k)
+
+pub clear-inflight-kept : (m : NetworkModel) → modelOk m ≡ true → modelOk (clearInflightNext m) ≡ true
+unfolding modelTests clearInflightNext withLower
+clear-inflight-kept m h =
+    let b = maybeOk (m .lower .bandwidth) in
+    all-put (modelTests m) 4 (lowerOk (record { bandwidth = m .lower .bandwidth; inflight = 2 ^ 64 - 1 })) h
+    (and-both b true (and-left b (bytesOrUnsetOk (m .lower .inflight)) (all-at (modelTests m) 4 h)) refl)
+
+pub clear-bandwidth-kept : (m : NetworkModel) → modelOk m ≡ true → modelOk (clearBandwidthNext m) ≡ true
+unfolding modelTests clearBandwidthNext withLower
+clear-bandwidth-kept m h =
+    let i = bytesOrUnsetOk (m .lower .inflight) in
+    all-put (modelTests m) 4 i h (and-right (maybeOk (m .lower .bandwidth)) i (all-at (modelTests m) 4 h))
+
+pub advance-kept : (m : NetworkModel) → modelOk m ≡ true → modelOk (advanceNext m) ≡ true
+unfolding modelTests advanceNext withMost
+advance-kept m h = all-put (modelTests m) 0 (mostOk (maxAdvance (m .most))) h (max-advance-ok (m .most) (all-at (modelTests m) 0 h))
+
+-- ---- a refused call: what it leaves is `settled` of its number, so this law speaks of every call
+pub refused-kept : {A : Type 0} (n : ℕ) (next old : A) → (n ≡ 0 → ⊥) → settled n next old ≡ old
+unfolding settled
+refused-kept n next old h = simp (ne-eqb n 0 h)
+
+-- ---- the start, the send and the setters
+pub start-kept : (cwnd pacing : Float) (ignore : Bool) (rtt : Duration) (now : Moment) → gainOk cwnd ≡ true → gainOk pacing ≡ true → lengthOk rtt ≡ true → momentOk now ≡ true → modelOk (modelNew cwnd pacing ignore rtt now) ≡ true
+unfolding modelTests modelNew roundOk
+start-kept cwnd pacing ignore rtt now c p r t = simp (c, p, r, t)
+
+pub sent-kept : (m : NetworkModel) (now : Moment) (inflight packet bytes : ℕ) → modelOk m ≡ true → momentOk now ≡ true → bytesOk inflight ≡ true → modelOk (sentNext m now inflight packet bytes) ≡ true
+unfolding modelTests sentNext withMoment withRounds withRound roundSent roundOk
+sent-kept m now inflight packet bytes h t i =
+    let r = m .round in
+    let was = all-at (modelTests m) 2 h in
+    let sums = totalOk (r .lost) && totalOk (r .delivered) in
+    let a = and-left (sums && bytesOrUnsetOk (r .least) && leb (r .lost) (m .totals .lost)) (leb (r .delivered) (m .totals .acked)) was in
+    let b = and-left (sums && bytesOrUnsetOk (r .least)) (leb (r .lost) (m .totals .lost)) a in
+    let least = min-ok (r .least) inflight (and-right sums (bytesOrUnsetOk (r .least)) b) (simp i) in
+    let round =
+    and-both (sums && bytesOrUnsetOk (min (r .least) inflight) && leb (r .lost) (m .totals .lost)) (leb (r .delivered) (m .totals .acked))
+    (and-both (sums && bytesOrUnsetOk (min (r .least) inflight)) (leb (r .lost) (m .totals .lost)) (and-both sums (bytesOrUnsetOk (min (r .least) inflight)) (and-left sums (bytesOrUnsetOk (r .least)) b) least)
+    (and-right (sums && bytesOrUnsetOk (r .least)) (leb (r .lost) (m .totals .lost)) a))
+    (and-right (sums && bytesOrUnsetOk (r .least) && leb (r .lost) (m .totals .lost)) (leb (r .delivered) (m .totals .acked)) was) in
+    all-put (set (modelTests m) 2 (sums && bytesOrUnsetOk (min (r .least) inflight) && leb (r .lost) (m .totals .lost) && leb (r .delivered) (m .totals .acked))) 10 (momentOk now) (all-put (modelTests m) 2 (sums && bytesOrUnsetOk (min (r .least) inflight) && leb (r .lost) (m .totals .lost) && leb (r .delivered) (m .totals .acked)) h round) t
+
+pub reached-kept : (m : NetworkModel) → modelOk m ≡ true → modelOk (reachedNext m) ≡ true
+unfolding modelTests reachedNext withGrowth
+reached-kept m h = h
+
+pub pacing-kept : (m : NetworkModel) (g : Float) → modelOk m ≡ true → gainOk g ≡ true → modelOk (pacingNext m g) ≡ true
+unfolding modelTests pacingNext withGains
+pacing-kept m g h k = all-put (modelTests m) 6 (gainOk (m .gains .cwnd) && gainOk g) h (and-both (gainOk (m .gains .cwnd)) (gainOk g) (and-left (gainOk (m .gains .cwnd)) (gainOk (m .gains .pacing)) (all-at (modelTests m) 6 h)) k)
+
+pub cwnd-kept : (m : NetworkModel) (g : Float) → modelOk m ≡ true → gainOk g ≡ true → modelOk (cwndNext m g) ≡ true
+unfolding modelTests cwndNext withGains
+cwnd-kept m g h k = all-put (modelTests m) 6 (gainOk g && gainOk (m .gains .pacing)) h (and-both (gainOk g) (gainOk (m .gains .pacing)) k (and-right (gainOk (m .gains .cwnd)) (gainOk (m .gains .pacing)) (all-at (modelTests m) 6 h)))
+
+pub high-kept : (m : NetworkModel) (n : ℕ) → modelOk m ≡ true → bytesOrUnsetOk n ≡ true → modelOk (withHigh m n) ≡ true
+unfolding modelTests withHigh
+high-kept m n h k = all-put (modelTests m) 5 (bytesOrUnsetOk n) h k
+
+pub postpone-kept : (m : NetworkModel) (d : Duration) → modelOk m ≡ true → momentOk (postponed m d) ≡ true → modelOk (postponeNext m d) ≡ true
+unfolding modelTests postponeNext withLeast
+postpone-kept m d h k = all-put (modelTests m) 1 (lengthOk (m .least .rtt) && momentOk (postponed m d)) h (and-both (lengthOk (m .least .rtt)) (momentOk (postponed m d)) (and-left (lengthOk (m .least .rtt)) (momentOk (m .least .timestamp)) (all-at (modelTests m) 1 h)) k)

@@ -1,0 +1,15 @@
+-- `raise_inflight_high_slope` meets its contract: by whether the call is done.
+use borrow.Author.Needs.{needs}
+use Rattle.model.proofs.Settling.{done-as, refused-as}
+use mathlib.Core.Path.{refl}
+use Rattle.phases.proofs.phases.raise_inflight_high_slope.Statement.{statement}
+use Rattle.phases.proofs.phases.raise_inflight_high_slope.Tie as tie
+
+returns : tie.Need-returns
+returns c = (c .before .before .before .slope-reply .ensures, done-as _ _ _ _ _ _ (c .before .before .before .slope-reply .ensures) (c .before .before .is-done .ensures) (c .before .if1 .taken) (c .slope-cycle .ensures))
+
+returns-2 : tie.Need-returns-2
+returns-2 c = (c .before .before .slope-reply .ensures, refused-as _ _ _ _ _ _ (c .before .before .slope-reply .ensures) (c .before .is-done .ensures) (c .if1 .left) refl)
+
+pub raise-inflight-high-slope-spec : {M : Type 1} → statement M
+raise-inflight-high-slope-spec = tie.close (tie.spec (λ c κs. search needs) (λ c κs. search needs) (λ c κs. search needs) returns returns-2)

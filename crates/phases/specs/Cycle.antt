@@ -1,0 +1,71 @@
+-- The cycle: mode.rs, Cycle, with document 01's bounds; probe_bw.rs, raise_inflight_high_slope.
+use Prim.Native.Nat.{ℕ, min, max, _+_, _/_, _^_}
+use mathlib.Core.Bool.{Bool, true, false}
+use mathlib.Core.List.{List, [], _∷_}
+use lib.Dec.{leb}
+use Rattle.filters.specs.declared.time.Moment.{Moment}
+use Rattle.model.specs.Bounds.{all, bytesOk, momentOk, totalOk}
+use Rattle.phases.specs.declared.cycle.Cycle.{Cycle}
+use Rattle.phases.specs.declared.cycle.CyclePhase.{CyclePhase}
+use Rattle.phases.specs.declared.cycle.CyclePhase.the-variants.{NotStarted}
+use Rattle.phases.specs.declared.cycle.MaybeBytes.{MaybeBytes}
+use Rattle.phases.specs.declared.cycle.MaybeBytes.the-variants.{NoBytes, Bytes}
+use Rattle.phases.specs.declared.cycle.MaybeLength.{MaybeLength}
+use Rattle.phases.specs.declared.cycle.MaybeLength.the-variants.{NoLength, Length}
+use Rattle.phases.specs.declared.cycle.Slope.{Slope}
+use Rattle.phases.specs.declared.cycle.Stay.{Stay}
+
+-- ---- the bounds: document 01, "Replies and bounds"
+-- "lengths of time 2^36 ns (the stored probe wait 500,000 ns more)"
+abbrev pub waitOk : MaybeLength → Bool
+waitOk NoLength = true
+waitOk (Length d) = leb (d .0) (2 ^ 36 + 500_000)
+
+-- "byte counts 2^40"
+abbrev pub upBytesOk : MaybeBytes → Bool
+upBytesOk NoBytes = true
+upBytesOk (Bytes n) = bytesOk n
+
+-- "probe_up_rounds 30"
+abbrev pub roundsOk : ℕ → Bool
+roundsOk n = leb n 30
+
+-- probe_up_acked is a sum of events' bytes acked, so its bound is theirs, 2^62; only steps that are left out raise it. "Counters .. are free": rounds_in_phase, rounds_since_probe
+unfoldable pub cycleTests : Cycle → List Bool
+cycleTests c =
+    momentOk (c .stay .entered)
+    ∷ momentOk (c .wait .start)
+    ∷ waitOk (c .wait .length)
+    ∷ roundsOk (c .slope .rounds)
+    ∷ upBytesOk (c .slope .bytes)
+    ∷ totalOk (c .slope .acked)
+    ∷ []
+
+abbrev pub cycleOk : Cycle → Bool
+cycleOk c = all (cycleTests c)
+
+-- ---- start: "A fresh cycle: NotStarted, both moments the start's, counts 0, flags off, wait and probe_up_bytes unset"
+-- each entry sets phase, phase_start_time = now and rounds_in_phase = 0
+unfoldable pub stayFrom : CyclePhase → Moment → Stay
+stayFrom phase now = record { phase = phase; rounds = 0; entered = now }
+
+unfoldable pub cycleNew : Moment → Cycle
+cycleNew now =
+    record {
+      stay = stayFrom NotStarted now;
+      wait = record { start = now; rounds = 0; length = NoLength };
+      slope = record { rounds = 0; bytes = NoBytes; acked = 0; limited = false };
+      advanced = false;
+      probing = false;
+      last = record { high = false; risky = false };
+    }
+
+-- ---- raise_inflight_high_slope: "growth is 2^rounds; rounds become min(rounds + 1, 30); probe_up_bytes is max(window / growth, 1300)"
+abbrev pub nextRounds : ℕ → ℕ
+nextRounds rounds = min (rounds + 1) 30
+
+abbrev pub upBytes : ℕ → ℕ → ℕ
+upBytes window rounds = max (window / 2 ^ rounds) 1300
+
+unfoldable pub slopeRaised : Slope → ℕ → Slope
+slopeRaised s window = record { rounds = nextRounds (s .rounds); bytes = Bytes (upBytes window (s .rounds)); acked = s .acked; limited = s .limited }

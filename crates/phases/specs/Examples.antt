@@ -1,0 +1,33 @@
+-- document 01, "Marked examples": 11, and all twelve as one list.
+use Prim.Native.Nat.{ℕ}
+use mathlib.Core.Bool.{Bool, false, _&&_}
+use mathlib.Core.List.{List, [], _∷_, _++_}
+use lib.Dec.{eqb}
+use Rattle.filters.specs.Examples.{examples}
+use Rattle.events.specs.Examples.{eventExamples}
+use Rattle.phases.specs.declared.cycle.MaybeBytes.{MaybeBytes}
+use Rattle.phases.specs.declared.cycle.MaybeBytes.the-variants.{NoBytes, Bytes}
+use Rattle.phases.specs.declared.cycle.Slope.{Slope}
+use Rattle.phases.specs.Cycle.{slopeRaised}
+
+abbrev pub bytesAre : MaybeBytes → ℕ → Bool
+bytesAre NoBytes n = false
+bytesAre (Bytes b) n = eqb b n
+
+-- the slope that follows the rounds given, with the window 26,000
+abbrev pub raisedFrom : ℕ → Slope
+raisedFrom rounds = slopeRaised (record { rounds = rounds; bytes = NoBytes; acked = 0; limited = false }) 26_000
+
+abbrev pub gives : Slope → ℕ → ℕ → Bool
+gives s bytes rounds = bytesAre (s .bytes) bytes && eqb (s .rounds) rounds
+
+unfoldable pub slopeExamples : List Bool
+slopeExamples =
+    -- 11. Window 26,000: rounds 0 gives 26,000, rounds 1 gives 13,000, rounds 30 gives 1300 and stays 30
+    gives (raisedFrom 0) 26_000 1
+    ∷ gives (raisedFrom 1) 13_000 2
+    ∷ gives (raisedFrom 30) 1_300 30
+    ∷ []
+
+unfoldable pub markedExamples : List Bool
+markedExamples = examples ++ (eventExamples ++ slopeExamples)

@@ -1,0 +1,193 @@
+// The cycle of probing for bandwidth, by concern.
+ghost use mathlib.Core.Path.{_≡_};
+ghost use Prim.Native.Nat.{_/_, _^_};
+ghost use Rattle.phases.specs.Cycle.{waitOk, upBytesOk, cycleOk, stayFrom, cycleNew, slopeRaised, nextRounds};
+use filters::Duration;
+use filters::Moment;
+use model::NetworkModel;
+use model::bounds::MOST_LENGTH;
+use model::bounds::bytes_ok;
+use model::bounds::moment_ok;
+use model::bounds::total_ok;
+use numbers::larger;
+
+pub enum CyclePhase {
+    NotStarted,
+    Up,
+    Down,
+    Cruise,
+    Refill,
+}
+
+// A length of time, or none: probe_wait_time.
+pub enum MaybeLength {
+    NoLength,
+    Length(Duration),
+}
+
+// A byte count, or none: probe_up_bytes.
+pub enum MaybeBytes {
+    NoBytes,
+    Bytes(u64),
+}
+
+// phase, rounds_in_phase, phase_start_time.
+pub struct Stay {
+    pub phase: CyclePhase,
+    pub rounds: u64,
+    pub entered: Moment,
+}
+
+// start_time, rounds_since_probe, probe_wait_time.
+pub struct Wait {
+    pub start: Moment,
+    pub rounds: u64,
+    pub length: MaybeLength,
+}
+
+// probe_up_rounds, probe_up_bytes, probe_up_acked, probe_up_app_limited_since_inflight_hi_limited.
+pub struct Slope {
+    pub rounds: u64,
+    pub bytes: MaybeBytes,
+    pub acked: u64,
+    pub limited: bool,
+}
+
+// last_cycle_probed_too_high, last_cycle_stopped_risky_probe.
+pub struct Last {
+    pub high: bool,
+    pub risky: bool,
+}
+
+pub struct Cycle {
+    pub stay: Stay,
+    pub wait: Wait,
+    pub slope: Slope,
+    // has_advanced_max_bw.
+    pub advanced: bool,
+    // is_sample_from_probing.
+    pub probing: bool,
+    pub last: Last,
+}
+
+// The stored wait is at most the longest length of time and the extra wait.
+fn wait_ok(wait: MaybeLength) -> bool
+    ensures { λ r. ⌜ r ≡ waitOk wait ⌝ }
+{
+    let MaybeLength::Length(length) = wait else {
+        return true;
+    };
+    length.0 <= MOST_LENGTH + Cycle::EXTRA_WAIT.0
+}
+
+// A byte count that may be missing.
+fn up_bytes_ok(bytes: MaybeBytes) -> bool
+    ensures { λ r. ⌜ r ≡ upBytesOk bytes ⌝ }
+{
+    let MaybeBytes::Bytes(count) = bytes else {
+        return true;
+    };
+    bytes_ok(count)
+}
+
+// The window over 2^rounds.
+fn share(window: u64, rounds: u64) -> u64
+    ensures { λ r. ⌜ r ≡ window / 2 ^ rounds ⌝ }
+{
+    if rounds < 64 {
+        let growth: u64 = 1 << rounds;
+        window / growth
+    } else {
+        0
+    }
+}
+
+// One round more, up to the most.
+fn next_rounds(rounds: u64) -> u64
+    ensures { λ r. ⌜ r ≡ nextRounds rounds ⌝ }
+{
+    if rounds < Cycle::MOST_ROUNDS {
+        rounds + 1
+    } else {
+        Cycle::MOST_ROUNDS
+    }
+}
+
+impl Stay {
+    // A phase that begins now.
+    pub fn from(phase: CyclePhase, now: Moment) -> Stay
+        ensures { λ r. ⌜ r ≡ stayFrom phase now ⌝ }
+    {
+        Stay {
+            phase,
+            rounds: 0,
+            entered: now,
+        }
+    }
+}
+
+impl Slope {
+    // The next round's slope: the window is reached in fewer rounds, by no less than a segment.
+    pub fn raised(self, window: u64) -> Slope
+        ensures { λ r. ⌜ r ≡ slopeRaised self window ⌝ }
+    {
+        let bytes = larger(share(window, self.rounds), NetworkModel::DEFAULT_MSS);
+        Slope {
+            rounds: next_rounds(self.rounds),
+            bytes: MaybeBytes::Bytes(bytes),
+            acked: self.acked,
+            limited: self.limited,
+        }
+    }
+}
+
+impl Cycle {
+    pub const MOST_ROUNDS: u64 = 30;
+
+    pub const EXTRA_WAIT: Duration = Duration(500_000);
+
+    // A cycle that has not started.
+    pub fn new(now: Moment) -> Cycle
+        ensures { λ r. ⌜ r ≡ cycleNew now ⌝ }
+    {
+        Cycle {
+            stay: Stay::from(CyclePhase::NotStarted, now),
+            wait: Wait {
+                start: now,
+                rounds: 0,
+                length: MaybeLength::NoLength,
+            },
+            slope: Slope {
+                rounds: 0,
+                bytes: MaybeBytes::NoBytes,
+                acked: 0,
+                limited: false,
+            },
+            advanced: false,
+            probing: false,
+            last: Last {
+                high: false,
+                risky: false,
+            },
+        }
+    }
+
+    // Whether every stored number is within its bounds.
+    pub fn ok(self) -> bool
+        ensures { λ r. ⌜ r ≡ cycleOk self ⌝ }
+    {
+        let stay = self.stay;
+        let wait = self.wait;
+        let slope = self.slope;
+        let entered = stay.entered;
+        let start = wait.start;
+        let length = wait.length;
+        let bytes = slope.bytes;
+        moment_ok(entered)
+            & moment_ok(start)
+            & wait_ok(length)
+            & (slope.rounds <= Cycle::MOST_ROUNDS)
+            & up_bytes_ok(bytes)
+            & total_ok(slope.acked)
+    }
+}

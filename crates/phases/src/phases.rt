@@ -1,0 +1,404 @@
+// The calls on model and cycle side by side: the phase entries, the exit from Down, the slope.
+ghost use mathlib.Core.Path.{_≡_};
+ghost use mathlib.Core.Bool.{true};
+ghost use Rattle.filters.specs.Reply.{number};
+ghost use Rattle.model.specs.Answers.{settled};
+ghost use Rattle.model.specs.Bounds.{lengthOk};
+ghost use Rattle.model.specs.Calls.{withMoment};
+ghost use Rattle.phases.specs.Phases.{entryNumber, exitNumber, exitModel, exitCycle, isDown, leftModel, leftCycle, slopeNumber, slopeCycle, restartedAt, downNumber, downCycle, cycleIn, cappedByHigh, cruiseNumber, cruiseModel, cruiseCycle, refillNumber, refillModel, refilled, refillCycle, upNumber, upCycle};
+use crate::Cycle;
+use crate::CyclePhase;
+use crate::cycle::Last;
+use crate::cycle::MaybeBytes;
+use crate::cycle::MaybeLength;
+use crate::cycle::Slope;
+use crate::cycle::Stay;
+use crate::cycle::Wait;
+use filters::Duration;
+use filters::Moment;
+use filters::Reply;
+use model::NetworkModel;
+use model::Params;
+use model::bounds::bytes_ok;
+use model::bounds::moment_ok;
+use model::bounds::refusal;
+
+// A call's reply, and the model and the cycle after it.
+pub struct Entered {
+    pub reply: Reply,
+    pub model: NetworkModel,
+    pub cycle: Cycle,
+}
+
+// The slope's reply, and the cycle after it.
+pub struct Raised {
+    pub reply: Reply,
+    pub cycle: Cycle,
+}
+
+// ---- what the calls share
+
+// The reply of an entry: whether parameters and arguments are within their bounds, and the moment.
+fn entry_reply(
+    model: NetworkModel,
+    cycle: Cycle,
+    params: bool,
+    argument: bool,
+    now: Moment,
+) -> Reply
+    ensures { λ r. ⌜ number r ≡ entryNumber model cycle params argument now ⌝ }
+{
+    let moment = model.moment;
+    let stored = model.ok() & cycle.ok() & params;
+    let given = moment_ok(now) & argument;
+    refusal(!stored, !given, now.is_before(moment), false, false)
+}
+
+// What a call leaves: the next model and cycle where it is done, these where it is refused.
+fn settle(
+    reply: Reply,
+    model: NetworkModel,
+    cycle: Cycle,
+    next: NetworkModel,
+    turned: Cycle,
+) -> Entered
+    ensures reply { λ r. ⌜ r .reply ≡ reply ⌝ }
+    ensures model { λ r. ⌜ r .model ≡ settled (number reply) next model ⌝ }
+    ensures cycle { λ r. ⌜ r .cycle ≡ settled (number reply) turned cycle ⌝ }
+{
+    if reply.is_done() {
+        Entered {
+            reply,
+            model: next,
+            cycle: turned,
+        }
+    } else {
+        Entered {
+            reply,
+            model,
+            cycle,
+        }
+    }
+}
+
+// The model, with the moment as the last accepted one.
+fn accepted(model: NetworkModel, now: Moment) -> NetworkModel
+    ensures { λ r. ⌜ r ≡ withMoment model now ⌝ }
+{
+    let mut next = model;
+    next.moment = now;
+    next
+}
+
+// The model whose round begins anew, at the moment accepted.
+fn restarted(model: NetworkModel, now: Moment) -> NetworkModel
+    ensures { λ r. ⌜ r ≡ restartedAt model now ⌝ }
+{
+    accepted(model.restarted(), now)
+}
+
+// The cycle in a phase that begins now.
+fn cycle_in(cycle: Cycle, phase: CyclePhase, now: Moment, probing: bool) -> Cycle
+    ensures { λ r. ⌜ r ≡ cycleIn cycle phase now probing ⌝ }
+{
+    let stay = Stay::from(phase, now);
+    let mut next = cycle;
+    next.stay = stay;
+    next.probing = probing;
+    next
+}
+
+// ---- exit_probe_down
+
+// The max filter advances once in a cycle.
+pub fn exit_probe_down(model: NetworkModel, cycle: Cycle) -> Entered
+    ensures reply { λ r. ⌜ number (r .reply) ≡ exitNumber model cycle ⌝ }
+    ensures model { λ r. ⌜ r .model ≡ settled (exitNumber model cycle) (exitModel model cycle) model ⌝ }
+    ensures cycle { λ r. ⌜ r .cycle ≡ settled (exitNumber model cycle) (exitCycle cycle) cycle ⌝ }
+{
+    settle(
+        exit_reply(model, cycle),
+        model,
+        cycle,
+        exit_model(model, cycle),
+        exit_cycle(cycle),
+    )
+}
+
+fn exit_reply(model: NetworkModel, cycle: Cycle) -> Reply
+    ensures { λ r. ⌜ number r ≡ exitNumber model cycle ⌝ }
+{
+    let stored = model.ok() & cycle.ok();
+    refusal(!stored, false, false, false, false)
+}
+
+fn exit_model(model: NetworkModel, cycle: Cycle) -> NetworkModel
+    ensures { λ r. ⌜ r ≡ exitModel model cycle ⌝ }
+{
+    if cycle.advanced {
+        model
+    } else {
+        model.advanced()
+    }
+}
+
+fn exit_cycle(cycle: Cycle) -> Cycle
+    ensures { λ r. ⌜ r ≡ exitCycle cycle ⌝ }
+{
+    if cycle.advanced {
+        return cycle;
+    }
+    let mut next = cycle;
+    next.advanced = true;
+    next
+}
+
+fn is_down(phase: CyclePhase) -> bool
+    ensures { λ r. ⌜ r ≡ isDown phase ⌝ }
+{
+    match phase {
+        CyclePhase::NotStarted => false,
+        CyclePhase::Up => false,
+        CyclePhase::Down => true,
+        CyclePhase::Cruise => false,
+        CyclePhase::Refill => false,
+    }
+}
+
+// The model out of Down.
+fn left_model(model: NetworkModel, cycle: Cycle) -> NetworkModel
+    ensures { λ r. ⌜ r ≡ leftModel model cycle ⌝ }
+{
+    let stay = cycle.stay;
+    let phase = stay.phase;
+    if is_down(phase) {
+        exit_model(model, cycle)
+    } else {
+        model
+    }
+}
+
+// The cycle out of Down.
+fn left_cycle(cycle: Cycle) -> Cycle
+    ensures { λ r. ⌜ r ≡ leftCycle cycle ⌝ }
+{
+    let stay = cycle.stay;
+    let phase = stay.phase;
+    if is_down(phase) {
+        exit_cycle(cycle)
+    } else {
+        cycle
+    }
+}
+
+// ---- raise_inflight_high_slope
+
+// probe_up_bytes for the next round, by the window.
+pub fn raise_inflight_high_slope(cycle: Cycle, window: u64) -> Raised
+    ensures reply { λ r. ⌜ number (r .reply) ≡ slopeNumber cycle window ⌝ }
+    ensures cycle { λ r. ⌜ r .cycle ≡ settled (slopeNumber cycle window) (slopeCycle cycle window) cycle ⌝ }
+{
+    let reply = slope_reply(cycle, window);
+    if reply.is_done() {
+        Raised {
+            reply,
+            cycle: slope_cycle(cycle, window),
+        }
+    } else {
+        Raised { reply, cycle }
+    }
+}
+
+fn slope_reply(cycle: Cycle, window: u64) -> Reply
+    ensures { λ r. ⌜ number r ≡ slopeNumber cycle window ⌝ }
+{
+    refusal(!cycle.ok(), !bytes_ok(window), false, false, false)
+}
+
+fn slope_cycle(cycle: Cycle, window: u64) -> Cycle
+    ensures { λ r. ⌜ r ≡ slopeCycle cycle window ⌝ }
+{
+    let slope = cycle.slope;
+    let raised = slope.raised(window);
+    let mut next = cycle;
+    next.slope = raised;
+    next
+}
+
+// ---- enter_probe_down
+
+// A new cycle begins: the queue drains.
+pub fn enter_probe_down(
+    model: NetworkModel,
+    cycle: Cycle,
+    params: Params,
+    high: bool,
+    risky: bool,
+    now: Moment,
+) -> Entered
+    ensures reply { λ r. ⌜ number (r .reply) ≡ downNumber model cycle params now ⌝ }
+    ensures model { λ r. ⌜ r .model ≡ settled (downNumber model cycle params now) (restartedAt model now) model ⌝ }
+    ensures cycle { λ r. ⌜ r .cycle ≡ settled (downNumber model cycle params now) (downCycle cycle params high risky now) cycle ⌝ }
+{
+    let reply = down_reply(model, cycle, params, now);
+    if reply.is_done() {
+        Entered {
+            reply,
+            model: restarted(model, now),
+            cycle: down_cycle(cycle, params, high, risky, now),
+        }
+    } else {
+        Entered {
+            reply,
+            model,
+            cycle,
+        }
+    }
+}
+
+fn down_reply(model: NetworkModel, cycle: Cycle, params: Params, now: Moment) -> Reply
+    ensures { λ r. ⌜ number r ≡ downNumber model cycle params now ⌝ }
+{
+    entry_reply(model, cycle, params.ok(), true, now)
+}
+
+fn down_cycle(cycle: Cycle, params: Params, high: bool, risky: bool, now: Moment) -> Cycle
+    requires { ⌜ lengthOk (params .base) ≡ true ⌝ }
+    ensures { λ r. ⌜ r ≡ downCycle cycle params high risky now ⌝ }
+{
+    let base = params.base;
+    let length = Duration(base.0 + Cycle::EXTRA_WAIT.0);
+    Cycle {
+        stay: Stay::from(CyclePhase::Down, now),
+        wait: Wait {
+            start: now,
+            rounds: 0,
+            length: MaybeLength::Length(length),
+        },
+        slope: Slope {
+            rounds: cycle.slope.rounds,
+            bytes: MaybeBytes::NoBytes,
+            acked: cycle.slope.acked,
+            limited: false,
+        },
+        advanced: false,
+        probing: cycle.probing,
+        last: Last { high, risky },
+    }
+}
+
+// ---- enter_probe_cruise
+
+// The bandwidth found is used, within inflight_hi.
+pub fn enter_probe_cruise(model: NetworkModel, cycle: Cycle, now: Moment) -> Entered
+    ensures reply { λ r. ⌜ number (r .reply) ≡ cruiseNumber model cycle now ⌝ }
+    ensures model { λ r. ⌜ r .model ≡ settled (cruiseNumber model cycle now) (cruiseModel model cycle now) model ⌝ }
+    ensures cycle { λ r. ⌜ r .cycle ≡ settled (cruiseNumber model cycle now) (cruiseCycle cycle now) cycle ⌝ }
+{
+    let reply = entry_reply(model, cycle, true, true, now);
+    settle(
+        reply,
+        model,
+        cycle,
+        cruise_model(model, cycle, now),
+        cruise_cycle(cycle, now),
+    )
+}
+
+fn capped_by_high(model: NetworkModel) -> NetworkModel
+    ensures { λ r. ⌜ r ≡ cappedByHigh model ⌝ }
+{
+    model.capped(model.high)
+}
+
+fn cruise_model(model: NetworkModel, cycle: Cycle, now: Moment) -> NetworkModel
+    ensures { λ r. ⌜ r ≡ cruiseModel model cycle now ⌝ }
+{
+    accepted(capped_by_high(left_model(model, cycle)), now)
+}
+
+fn cruise_cycle(cycle: Cycle, now: Moment) -> Cycle
+    ensures { λ r. ⌜ r ≡ cruiseCycle cycle now ⌝ }
+{
+    cycle_in(left_cycle(cycle), CyclePhase::Cruise, now, false)
+}
+
+// ---- enter_probe_refill
+
+// The lower bounds go, so that the pipe fills before the next probe.
+pub fn enter_probe_refill(model: NetworkModel, cycle: Cycle, rounds: u64, now: Moment) -> Entered
+    ensures reply { λ r. ⌜ number (r .reply) ≡ refillNumber model cycle rounds now ⌝ }
+    ensures model { λ r. ⌜ r .model ≡ settled (refillNumber model cycle rounds now) (refillModel model cycle now) model ⌝ }
+    ensures cycle { λ r. ⌜ r .cycle ≡ settled (refillNumber model cycle rounds now) (refillCycle cycle rounds now) cycle ⌝ }
+{
+    let reply = entry_reply(model, cycle, true, rounds <= Cycle::MOST_ROUNDS, now);
+    settle(
+        reply,
+        model,
+        cycle,
+        refill_model(model, cycle, now),
+        refill_cycle(cycle, rounds, now),
+    )
+}
+
+fn refill_model(model: NetworkModel, cycle: Cycle, now: Moment) -> NetworkModel
+    ensures { λ r. ⌜ r ≡ refillModel model cycle now ⌝ }
+{
+    let left = left_model(model, cycle);
+    let unbounded = left.bandwidth_cleared();
+    let cleared = unbounded.inflight_cleared();
+    restarted(cleared, now)
+}
+
+fn refilled(cycle: Cycle, rounds: u64) -> Cycle
+    ensures { λ r. ⌜ r ≡ refilled cycle rounds ⌝ }
+{
+    let mut slope = cycle.slope;
+    slope.rounds = rounds;
+    slope.acked = 0;
+    let mut last = cycle.last;
+    last.risky = false;
+    let mut next = cycle;
+    next.slope = slope;
+    next.last = last;
+    next
+}
+
+fn refill_cycle(cycle: Cycle, rounds: u64, now: Moment) -> Cycle
+    ensures { λ r. ⌜ r ≡ refillCycle cycle rounds now ⌝ }
+{
+    refilled(
+        cycle_in(left_cycle(cycle), CyclePhase::Refill, now, false),
+        rounds,
+    )
+}
+
+// ---- enter_probe_up
+
+// More bandwidth is probed for.
+pub fn enter_probe_up(model: NetworkModel, cycle: Cycle, now: Moment, window: u64) -> Entered
+    ensures reply { λ r. ⌜ number (r .reply) ≡ upNumber model cycle now window ⌝ }
+    ensures model { λ r. ⌜ r .model ≡ settled (upNumber model cycle now window) (restartedAt model now) model ⌝ }
+    ensures cycle { λ r. ⌜ r .cycle ≡ settled (upNumber model cycle now window) (upCycle cycle now window) cycle ⌝ }
+{
+    let reply = up_reply(model, cycle, now, window);
+    settle(
+        reply,
+        model,
+        cycle,
+        restarted(model, now),
+        up_cycle(cycle, now, window),
+    )
+}
+
+fn up_reply(model: NetworkModel, cycle: Cycle, now: Moment, window: u64) -> Reply
+    ensures { λ r. ⌜ number r ≡ upNumber model cycle now window ⌝ }
+{
+    entry_reply(model, cycle, true, bytes_ok(window), now)
+}
+
+fn up_cycle(cycle: Cycle, now: Moment, window: u64) -> Cycle
+    ensures { λ r. ⌜ r ≡ upCycle cycle now window ⌝ }
+{
+    slope_cycle(cycle_in(cycle, CyclePhase::Up, now, true), window)
+}

@@ -1,0 +1,789 @@
+//! Chooses calls on a model and its cycle, from a seed and the state before
+//! each. Every call is one that the port accepts: the original is never asked
+//! what the port refuses.
+
+use std::collections::VecDeque;
+
+use crate::model::field::*;
+use crate::model::phase;
+use crate::model::Call;
+use crate::model::Getter;
+use crate::model::Host;
+use crate::model::Record;
+use crate::model::Sample;
+use crate::model::SendState;
+use crate::model::Start;
+use crate::model::State;
+use crate::model::UNSET;
+use crate::values::bits;
+use crate::values::Random;
+
+/// The bounds of document 01, inclusive.
+pub const BYTES: u64 = 1 << 40;
+pub const BANDWIDTH: u64 = 1 << 40;
+pub const TOTAL: u64 = 1 << 62;
+pub const MOMENT: u64 = 1 << 62;
+pub const LENGTH: u64 = 1 << 36;
+const MOST_UP_ROUNDS: u64 = 30;
+const LEAST_GAIN: f32 = 1.0 / 1024.0;
+const MOST_GAIN: f32 = 8.0;
+const MOST_BETA: f32 = 1023.0 / 1024.0;
+
+/// Numbers of bytes at which something turns.
+const TURNS: [u64; 17] = [
+    0,
+    1,
+    10,
+    1299,
+    1300,
+    1301,
+    2599,
+    2600,
+    2601,
+    26_000,
+    (1 << 24) - 1,
+    1 << 24,
+    (1 << 24) + 1,
+    16_777_219,
+    16_777_223,
+    BYTES - 1,
+    BYTES,
+];
+
+/// What the port would refuse this call for, if it would.
+pub fn refusal(call: &Call, state: &State) -> Option<&'static str> {
+    let gain = |gain: f32| (LEAST_GAIN..=MOST_GAIN).contains(&gain);
+    let send_state =
+        |state: &SendState| state.total_acked <= TOTAL && state.bytes_in_flight <= BYTES;
+    let bandwidth = |bandwidth: Option<u64>| bandwidth.unwrap_or(0) <= BANDWIDTH;
+    let length = |length: Option<u64>| length.unwrap_or(0) <= LENGTH;
+    let unit = |number: f32| (0.0..=1.0).contains(&number);
+
+    let (within, moment) = match *call {
+        Call::Start(start) => (
+            start.moment <= MOMENT
+                && start.initial_rtt <= LENGTH
+                && (LEAST_GAIN..=MOST_BETA).contains(&start.beta)
+                && unit(start.loss_threshold)
+                && unit(start.headroom)
+                && (1.0..=8.0).contains(&start.full_bw_threshold)
+                && gain(start.cwnd_gain)
+                && gain(start.pacing_gain)
+                && start.probe_rtt_period <= LENGTH
+                && start.probe_base_duration <= LENGTH,
+            None,
+        ),
+        Call::Sent {
+            moment,
+            in_flight,
+            bytes,
+            ..
+        } => (in_flight <= BYTES && bytes <= BYTES, Some(moment)),
+        Call::Record(record) => (
+            record.event_time <= MOMENT
+                && record.prior_cwnd <= BYTES
+                && record.prior_in_flight <= BYTES
+                && record.bytes_in_flight <= BYTES
+                && record.bytes_acked <= TOTAL
+                && record.bytes_lost <= TOTAL
+                && bandwidth(record.bandwidth)
+                && length(record.rtt)
+                && send_state(&record.send_state),
+            None,
+        ),
+        Call::Event(sample) => {
+            if sample.total_acked < state[TOTAL_ACKED] || sample.total_lost < state[TOTAL_LOST] {
+                return Some("a total falls");
+            }
+            let within = bandwidth(sample.bandwidth)
+                && bandwidth(sample.send_rate)
+                && bandwidth(sample.ack_rate)
+                && length(sample.rtt)
+                && sample.max_inflight <= BYTES
+                && sample.extra_acked <= BYTES
+                && send_state(&sample.send_state)
+                && sample.total_acked <= TOTAL
+                && sample.total_lost <= TOTAL
+                && sample.acked_length <= 3;
+            (within, Some(state[EVENT_TIME]))
+        }
+        Call::PersistentQueue { gain: g } | Call::SetPacingGain(g) | Call::SetCwndGain(g) => {
+            (gain(g), None)
+        }
+        Call::Bdp {
+            bandwidth: b,
+            gain: g,
+        } => (bandwidth(Some(b)) && gain(g), None),
+        Call::Bdp1 { bandwidth: b } => (bandwidth(Some(b)), None),
+        Call::SetInflightHi(bytes) | Call::CapInflightLo(bytes) => {
+            (bytes <= BYTES || bytes == UNSET, None)
+        }
+        Call::PostponeMinRtt(by) => (
+            length(Some(by)) && state[MIN_RTT_TIMESTAMP] + by <= MOMENT,
+            None,
+        ),
+        Call::ProbeDown { moment, .. } | Call::ProbeCruise { moment } => (true, Some(moment)),
+        Call::ProbeRefill { rounds, moment } => (rounds <= MOST_UP_ROUNDS, Some(moment)),
+        Call::ProbeUp { moment, cwnd } => (cwnd <= BYTES, Some(moment)),
+        Call::RaiseSlope { cwnd } => (cwnd <= BYTES, None),
+        _ => (true, None),
+    };
+    if !within || moment.is_some_and(|moment| moment > MOMENT) {
+        return Some("an argument is out of bounds");
+    }
+    if moment.is_some_and(|moment| moment < state[LAST_MOMENT]) {
+        return Some("a moment falls");
+    }
+    None
+}
+
+/// How a sequence goes.
+#[derive(Clone, Copy, PartialEq)]
+enum Manner {
+    /// Any call, with arguments at limits.
+    Anything,
+    /// As a connection would: rounds of sends and events, the phases in turn.
+    Rounds,
+    /// Event after event that ends a round with losses.
+    Reductions,
+}
+
+use Manner::*;
+
+/// An endless run of calls.
+pub struct Calls {
+    random: Random,
+    start: Start,
+    manner: Manner,
+    /// Calls left in this sequence.
+    left: u64,
+    /// The numbers of the calls that come next.
+    planned: VecDeque<u64>,
+    /// The window of a connection.
+    window: u64,
+}
+
+impl Calls {
+    pub fn new(stream: u64) -> Self {
+        Calls {
+            random: Random::new(stream),
+            start: Host::usual_start(),
+            manner: Anything,
+            left: 0,
+            planned: VecDeque::new(),
+            window: 0,
+        }
+    }
+
+    /// Whether the next call begins a new sequence.
+    pub fn at_end(&self) -> bool {
+        self.left == 0
+    }
+
+    /// The call to be made in this state; the first is a start.
+    pub fn next(&mut self, state: &State) -> Call {
+        if self.left == 0 {
+            return self.start();
+        }
+        self.left -= 1;
+        if self.planned.is_empty() {
+            self.plan(state);
+        }
+        let number = self.planned.pop_front().unwrap();
+        // An event needs a record that isn't earlier than the last moment.
+        if number == 3 && state[EVENT_TIME] < state[LAST_MOMENT] {
+            self.planned.push_front(3);
+            return self.make(2, state);
+        }
+        self.make(number, state)
+    }
+
+    fn start(&mut self) -> Call {
+        let random = &mut self.random;
+        self.planned.clear();
+        self.manner = random.pick(&[
+            Anything, Anything, Anything, Rounds, Rounds, Rounds, Reductions, Reductions,
+        ]);
+        self.left = match self.manner {
+            Anything => 20 + random.below(25),
+            Rounds => 30 + random.below(40),
+            Reductions => 10 + random.below(24),
+        };
+        self.window = match self.manner {
+            Rounds => 1300 * (2 + random.below(60)),
+            _ => random.pick(&[
+                1300,
+                1301,
+                10,
+                26_000,
+                14_744_309,
+                (1 << 24) - 1,
+                1 << 24,
+                16_777_219,
+                16_777_223,
+                BYTES,
+            ]),
+        };
+        if self.manner == Reductions && random.one_in(2) {
+            self.window = random.of_length(24);
+        }
+
+        let usual = Host::usual_start();
+        self.start = Start {
+            moment: match random.below(8) {
+                0 => random.pick(&[1, MOMENT - LENGTH, MOMENT - 1_000_000, MOMENT]),
+                1 => random.of_length(60),
+                2..=4 => 0,
+                _ => random.of_length(20),
+            },
+            initial_rtt: match random.below(6) {
+                0 => random.pick(&[0, 1, LENGTH - 1, LENGTH]),
+                1 => random.of_length(36),
+                2 => 333_000_000,
+                _ => usual.initial_rtt,
+            },
+            beta: match random.below(10) {
+                0..=2 => 0.3,
+                3 => LEAST_GAIN,
+                4 => MOST_BETA,
+                5 => 0.5,
+                6 => f32::from_bits(0x3f2a_aaab), // 2/3
+                _ => between(random, LEAST_GAIN, MOST_BETA),
+            },
+            loss_threshold: unit(random, usual.loss_threshold),
+            headroom: unit(random, usual.headroom),
+            full_bw_threshold: match random.below(6) {
+                0 => 1.0,
+                1 => 8.0,
+                2 => between(random, 1.0, 8.0),
+                3 => f32::from_bits(bits(1.0) + 1),
+                _ => usual.full_bw_threshold,
+            },
+            cwnd_gain: gain(random),
+            pacing_gain: gain(random),
+            full_bw_rounds: random.pick(&[0, 1, 2, 3, 3, u64::MAX]),
+            queue_rounds: random.pick(&[0, 0, 1, 2, 3, u64::MAX]),
+            probe_rtt_period: match random.below(8) {
+                0 | 1 => 0,
+                2 => 1,
+                3 => LENGTH,
+                4 | 5 => random.of_length(24),
+                _ => usual.probe_rtt_period,
+            },
+            probe_base_duration: match random.below(6) {
+                0 => 0,
+                1 => LENGTH,
+                2 => random.of_length(36),
+                _ => usual.probe_base_duration,
+            },
+            ignore_app_limited: random.one_in(2),
+        };
+        Call::Start(self.start)
+    }
+
+    fn plan(&mut self, state: &State) {
+        let random = &mut self.random;
+        let mut plan = Vec::new();
+        match self.manner {
+            Anything => match random.below(20) {
+                0 | 1 => plan.extend([2, 3, 4]),
+                2 => plan.extend([2, 3]),
+                3 => plan.extend([3, 4]),
+                4 => plan.extend([3]),
+                5 => plan.extend([2, 5]),
+                6 => plan.extend([2, 6]),
+                7 => plan.extend([2, 7]),
+                8 | 9 => plan.push(1),
+                10 | 11 => plan.push(40 + random.below(6)),
+                12 => plan.push(random.pick(&Getter::ALL) as u64),
+                13 => plan.push(5 + random.below(3)),
+                _ => plan.push(8 + random.below(15)),
+            },
+            Rounds => {
+                plan.resize(random.below(3) as usize, 1);
+                plan.extend([2, 3]);
+                if random.one_in(3) {
+                    plan.push(random.pick(&[5, 6, 6, 7, 7, 9]));
+                }
+                if random.one_in(5) {
+                    plan.push(random.pick(&[10, 11, 12, 13, 15, 16, 17, 18, 22]));
+                }
+                if !random.one_in(8) {
+                    plan.push(4);
+                }
+                if random.one_in(4) {
+                    // The next phase, mostly.
+                    plan.push(match state[PHASE] {
+                        _ if random.one_in(6) => 40 + random.below(6),
+                        phase::UP => 40,
+                        phase::DOWN => random.pick(&[41, 42]),
+                        phase::CRUISE => 42,
+                        phase::REFILL => 43,
+                        _ => 40,
+                    });
+                }
+                if random.one_in(4) {
+                    plan.push(random.pick(&Getter::ALL) as u64);
+                }
+            }
+            Reductions => {
+                if random.one_in(3) {
+                    plan.push(1);
+                }
+                plan.extend([2, 3]);
+                if random.one_in(2) {
+                    plan.push(4);
+                }
+                if random.one_in(6) {
+                    plan.push(random.pick(&[17, 18, 18, 19, 20, 41, 42]));
+                }
+                if random.one_in(5) {
+                    plan.push(random.pick(&[23, 35]));
+                }
+            }
+        }
+        self.planned.extend(plan);
+    }
+
+    /// The call of this number, with arguments.
+    fn make(&mut self, number: u64, state: &State) -> Call {
+        match number {
+            1 => self.sent(state),
+            2 => Call::Record(self.record(state)),
+            3 => Call::Event(self.sample(state)),
+            4 => Call::Finish,
+            5 => Call::ExpireMinRtt,
+            6 => {
+                let events = state[LOSS_EVENTS_IN_ROUND];
+                let random = &mut self.random;
+                Call::InflightTooHigh {
+                    max_loss_events: match random.below(8) {
+                        0 => 0,
+                        1 => events + 1,
+                        2 => events.saturating_sub(1),
+                        3 => random.pick(&[1, 2, 8, u64::MAX]),
+                        _ => events,
+                    },
+                }
+            }
+            7 => Call::BandwidthGrowth,
+            8 => Call::RestartRound,
+            9 => Call::PersistentQueue { gain: self.gain() },
+            10 => Call::Bdp {
+                bandwidth: self.bandwidth(state),
+                gain: self.gain(),
+            },
+            11 => Call::Bdp1 {
+                bandwidth: self.bandwidth(state),
+            },
+            12 => Call::Bdp0,
+            13 => Call::WithHeadroom,
+            14 => Call::SetFullReached,
+            15 => Call::SetPacingGain(self.gain()),
+            16 => Call::SetCwndGain(self.gain()),
+            17 => Call::SetInflightHi(self.bound(state)),
+            18 => Call::CapInflightLo(self.bound(state)),
+            19 => Call::ClearInflightLo,
+            20 => Call::ClearBandwidthLo,
+            21 => Call::AdvanceMaxBandwidth,
+            22 => {
+                let most = LENGTH.min(MOMENT - state[MIN_RTT_TIMESTAMP]);
+                let random = &mut self.random;
+                let length = match random.below(6) {
+                    0 => random.pick(&[0, 1]),
+                    1 => most,
+                    2 => random.of_length(36),
+                    _ => random.of_length(24),
+                };
+                Call::PostponeMinRtt(length.min(most))
+            }
+            23..=38 => Call::Get(Getter::ALL[number as usize - 23]),
+            40 => Call::ProbeDown {
+                too_high: self.random.one_in(2),
+                risky: self.random.one_in(2),
+                moment: self.moment(state),
+            },
+            41 => Call::ProbeCruise {
+                moment: self.moment(state),
+            },
+            42 => Call::ProbeRefill {
+                rounds: match self.random.below(4) {
+                    0 => self.random.below(MOST_UP_ROUNDS + 1),
+                    1 => self
+                        .random
+                        .pick(&[1, 2, MOST_UP_ROUNDS - 1, MOST_UP_ROUNDS]),
+                    2 => state[PROBE_UP_ROUNDS],
+                    _ => 0,
+                },
+                moment: self.moment(state),
+            },
+            43 => Call::ProbeUp {
+                moment: self.moment(state),
+                cwnd: self.slope_window(state),
+            },
+            44 => Call::ExitProbeDown,
+            _ => Call::RaiseSlope {
+                cwnd: self.slope_window(state),
+            },
+        }
+    }
+
+    fn sent(&mut self, state: &State) -> Call {
+        let moment = self.moment(state);
+        let random = &mut self.random;
+        let any = self.manner == Anything;
+        let bytes = match random.below(8) {
+            0 if any => random.pick(&TURNS),
+            1 if any => random.of_length(40),
+            2 => random.below(1301),
+            _ => 1300,
+        };
+
+        // At inflight_hi, at the least of this round, or at the bytes at
+        // which a queue begins.
+        let hi = state[INFLIGHT_HI];
+        let queue = bdp(state) + 2600;
+        let in_flight = match random.below(8) {
+            0 | 1 if hi != UNSET => near(random, hi.saturating_sub(bytes)),
+            2 => near(random, queue),
+            3 if state[MIN_IN_FLIGHT] != UNSET => near(random, state[MIN_IN_FLIGHT]),
+            4 if any => random.pick(&TURNS),
+            5 if any => random.of_length(40),
+            _ => random.below(self.window + 1),
+        };
+
+        let last = state[LAST_SENT];
+        let number = match random.below(16) {
+            0 if any => random.pick(&[0, u64::MAX, last]),
+            1 if any => random.of_length(64),
+            2 => last.saturating_add(1 + random.below(4)),
+            _ => last.saturating_add(1),
+        };
+        Call::Sent {
+            moment,
+            in_flight: in_flight.min(BYTES),
+            number,
+            bytes,
+        }
+    }
+
+    fn record(&mut self, state: &State) -> Record {
+        // Only an event needs a moment that doesn't fall.
+        let expiry = self.planned.front() == Some(&5);
+        let event_time = if expiry || (self.manner == Anything && self.random.one_in(8)) {
+            let random = &mut self.random;
+            let due = state[MIN_RTT_TIMESTAMP] + self.start.probe_rtt_period;
+            match random.below(6) {
+                0 => random.of_length(62),
+                1 => near(random, state[MIN_RTT_TIMESTAMP]),
+                2 => due,
+                _ => near(random, due),
+            }
+            .min(MOMENT)
+        } else {
+            self.moment(state)
+        };
+
+        let window = match self.manner {
+            Anything => self.bytes(&[state[INFLIGHT_LO], state[PRIOR_IN_FLIGHT]]),
+            Rounds => {
+                let step = 1300 * self.random.below(4);
+                self.window = match self.random.below(3) {
+                    0 => self.window.saturating_sub(step).max(2600),
+                    _ => self.window + step,
+                };
+                self.window
+            }
+            Reductions => self.window,
+        };
+        let random = &mut self.random;
+        let prior_in_flight = match random.below(6) {
+            0 => near(random, window),
+            1 => window,
+            2 if self.manner == Anything => random.pick(&TURNS),
+            _ => random.below(window + 1),
+        };
+        let mut record = Record {
+            event_time,
+            prior_cwnd: window,
+            prior_in_flight: prior_in_flight.min(BYTES),
+            probing: match self.manner {
+                Anything => random.one_in(3),
+                Rounds => matches!(state[PHASE], phase::UP | phase::REFILL),
+                Reductions => random.one_in(12),
+            },
+            ..Record::default()
+        };
+
+        // What only a later call reads, or an event that gives none.
+        let later = !matches!(self.planned.front(), Some(&3));
+        if self.manner == Anything && (later || random.one_in(3)) {
+            let bandwidth = random.one_in(2).then(|| self.bandwidth(state));
+            let rtt = match self.random.below(4) {
+                0 if !expiry => None,
+                _ => Some(self.rtt(state)),
+            };
+            record.send_state = self.send_state(state, state[TOTAL_ACKED], 5);
+            let random = &mut self.random;
+            if random.one_in(4) {
+                record.bytes_in_flight = random.pick(&TURNS);
+                record.bytes_acked = random.pick(&[1, 1300, TOTAL]);
+                record.bytes_lost = random.pick(&[0, 1, 1300, TOTAL]);
+            }
+            record.round_ended = random.one_in(2);
+            record.bandwidth = bandwidth;
+            record.rtt = rtt;
+        }
+        record
+    }
+
+    fn sample(&mut self, state: &State) -> Sample {
+        let reductions = self.manner == Reductions;
+
+        let total = |random: &mut Random, total: u64, none: bool| {
+            let more = match random.below(10) {
+                _ if none => 0,
+                0 => 1,
+                1 => random.of_length(40),
+                2 if random.one_in(8) => TOTAL,
+                3 => random.below(1301),
+                _ => 1300 * (1 + random.below(8)),
+            };
+            (total + more).min(TOTAL)
+        };
+        let acked_none = self.random.one_in(4);
+        let total_acked = total(&mut self.random, state[TOTAL_ACKED], acked_none);
+        let lost_none = if reductions {
+            self.random.one_in(4)
+        } else {
+            !self.random.one_in(3)
+        };
+        let total_lost = total(&mut self.random, state[TOTAL_LOST], lost_none);
+
+        // What reductions are made of: a maximum, then lower samples.
+        let latest = state[BANDWIDTH_LATEST];
+        let bandwidth = match self.random.below(4) {
+            0 => None,
+            _ if reductions && latest > 0 => match self.random.below(4) {
+                0 => Some(self.random.below(latest)),
+                1 => Some(0),
+                _ => None,
+            },
+            _ => Some(self.bandwidth(state)),
+        };
+        let send_rate = self.random.one_in(3).then(|| self.bandwidth(state));
+        let ack_rate = self.random.one_in(3).then(|| self.bandwidth(state));
+        let rtt = match self.random.below(3) {
+            _ if reductions => None,
+            0 => None,
+            _ => Some(self.rtt(state)),
+        };
+        let max_inflight = match self.random.below(4) {
+            _ if reductions && !self.random.one_in(6) => 0,
+            0 => 0,
+            _ => self.bytes(&[state[INFLIGHT_LATEST], state[INFLIGHT_LO]]),
+        };
+        let send_state = self.send_state(state, total_acked, if reductions { 2 } else { 3 });
+
+        let random = &mut self.random;
+        let end = state[END];
+        let mut acked = [0; 3];
+        let acked_length = match random.below(6) {
+            0 if !reductions => 0,
+            1 => 2,
+            2 => 3,
+            _ => 1,
+        };
+        for number in &mut acked[..acked_length] {
+            *number = match random.below(6) {
+                0 => end,
+                1 | 2 => end.saturating_add(1),
+                3 => end.saturating_sub(1),
+                4 if self.manner == Anything => random.of_length(64),
+                _ => state[LAST_SENT],
+            };
+        }
+        if reductions && !random.one_in(12) {
+            acked[acked_length - 1] = end.saturating_add(1);
+        }
+
+        Sample {
+            bandwidth,
+            send_rate,
+            ack_rate,
+            app_limited: random.one_in(3),
+            rtt,
+            max_inflight,
+            extra_acked: match random.below(6) {
+                0 => 1,
+                1 => random.pick(&TURNS),
+                _ => 0,
+            },
+            send_state,
+            total_acked,
+            total_lost,
+            acked_length,
+            acked,
+        }
+    }
+
+    /// Valid in all but one of `valid` cases; one that isn't valid may hold
+    /// numbers too.
+    fn send_state(&mut self, state: &State, total: u64, valid: u64) -> SendState {
+        let random = &mut self.random;
+        let valid = !random.one_in(valid);
+        if !valid && !random.one_in(4) {
+            return SendState::default();
+        }
+        // An inflight of which the bytes lost in the round, or one byte fewer,
+        // are the bearable part.
+        let lost = state[BYTES_LOST_IN_ROUND];
+        let lost = lost.saturating_sub(random.below(2));
+        let tie = (lost as f64 / self.start.loss_threshold as f64).ceil() as u64;
+        SendState {
+            valid,
+            app_limited: random.one_in(3),
+            total_acked: match random.below(6) {
+                0 => 0,
+                1 => near(random, total),
+                2 => state[TOTAL_ACKED],
+                _ => total.saturating_sub(1300 * random.below(20)),
+            }
+            .min(TOTAL),
+            bytes_in_flight: match random.below(6) {
+                0 => random.pick(&TURNS),
+                1..=3 => near(random, tie),
+                _ => random.below(self.window + 1),
+            }
+            .min(BYTES),
+        }
+    }
+
+    fn moment(&mut self, state: &State) -> u64 {
+        let random = &mut self.random;
+        let last = state[LAST_MOMENT];
+        let due = state[MIN_RTT_TIMESTAMP] + self.start.probe_rtt_period;
+        let moment = match random.below(12) {
+            0 | 1 => last,
+            2 => last + 1,
+            3 => near(random, due),
+            4 => last + random.of_length(36),
+            5 if random.one_in(12) => MOMENT,
+            _ => last + random.of_length(24),
+        };
+        moment.clamp(last, MOMENT)
+    }
+
+    fn bandwidth(&mut self, state: &State) -> u64 {
+        let random = &mut self.random;
+        let most = state[SLOT_0].max(state[SLOT_1]);
+        let threshold = self.start.full_bw_threshold as f64;
+        let growth = (state[BASELINE] as f64 * threshold).round() as u64;
+        match random.below(12) {
+            0 => state[SLOT_0],
+            1 => near(random, most),
+            2 => near(random, state[BANDWIDTH_LATEST]),
+            3 => near(random, state[BANDWIDTH_LO]),
+            4 => near(random, growth),
+            5 => random.pick(&[0, 1, BANDWIDTH - 1, BANDWIDTH]),
+            6 => random.of_length(40),
+            _ => 1_000_000 + 1_000 * random.below(20_000),
+        }
+        .min(BANDWIDTH)
+    }
+
+    fn rtt(&mut self, state: &State) -> u64 {
+        let random = &mut self.random;
+        match random.below(8) {
+            0 | 1 => near(random, state[MIN_RTT]),
+            2 => random.pick(&[0, 1, LENGTH]),
+            3 => random.of_length(36),
+            _ => 10_000_000 + 1_000 * random.below(100_000),
+        }
+        .min(LENGTH)
+    }
+
+    fn bytes(&mut self, stored: &[u64]) -> u64 {
+        let random = &mut self.random;
+        let at = random.pick(stored);
+        match random.below(8) {
+            0..=2 if at != UNSET => near(random, at),
+            3 | 4 => random.pick(&TURNS),
+            5 => random.of_length(24),
+            6 if self.manner == Anything => random.of_length(40),
+            _ => random.below(self.window + 1),
+        }
+        .min(BYTES)
+    }
+
+    /// An inflight_hi or a cap, which may be unset.
+    fn bound(&mut self, state: &State) -> u64 {
+        if self.random.one_in(6) {
+            return UNSET;
+        }
+        self.bytes(&[state[INFLIGHT_LO], state[INFLIGHT_HI]])
+    }
+
+    fn slope_window(&mut self, state: &State) -> u64 {
+        let random = &mut self.random;
+        // Where the quotient reaches 1300.
+        let turn = 1300u64 << state[PROBE_UP_ROUNDS];
+        match random.below(5) {
+            0 => random.pick(&TURNS),
+            1 | 2 => near(random, turn),
+            3 => random.of_length(40),
+            _ => self.window,
+        }
+        .min(BYTES)
+    }
+
+    fn gain(&mut self) -> f32 {
+        gain(&mut self.random)
+    }
+}
+
+/// The number, one more or one less.
+fn near(random: &mut Random, number: u64) -> u64 {
+    match random.below(4) {
+        0 => number.saturating_add(1),
+        1 => number.saturating_sub(1),
+        _ => number,
+    }
+}
+
+fn between(random: &mut Random, least: f32, most: f32) -> f32 {
+    let least = bits(least) as u64;
+    f32::from_bits((least + random.below(bits(most) as u64 - least + 1)) as u32)
+}
+
+fn gain(random: &mut Random) -> f32 {
+    match random.below(8) {
+        0 => LEAST_GAIN,
+        1 => MOST_GAIN,
+        2 => f32::from_bits(random.gain()),
+        3 => 2.773,
+        4 => 1.25,
+        5 => 0.9,
+        6 => 1.0,
+        _ => 2.0,
+    }
+}
+
+/// A fraction from 0 to 1, negative zero too.
+fn unit(random: &mut Random, usual: f32) -> f32 {
+    match random.below(8) {
+        0 => 0.0,
+        1 => -0.0,
+        2 => 1.0,
+        3 => 0.5,
+        4 => between(random, 1.0 / 1024.0, 1.0),
+        5 => between(random, 0.0, 1.0),
+        _ => usual,
+    }
+}
+
+/// The bytes of the maximum bandwidth in the least round trip.
+pub fn bdp(state: &State) -> u64 {
+    let bits = state[SLOT_0].max(state[SLOT_1]) as u128 * state[MIN_RTT] as u128;
+    (bits / 8_000_000_000) as u64
+}

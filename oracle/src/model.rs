@@ -1,0 +1,355 @@
+//! Calls on a model and its cycle, and the state they leave, as plain numbers.
+//! What answers them is `Host`, which is appended to probe_bw.rs of the
+//! original, where it reaches what is private.
+
+pub use crate::recovery::gcongestion::Host;
+
+/// The 66 fields in the order of README.md: the model, the last accepted
+/// moment, the cycle, the record of the current event.
+pub type State = [u64; 66];
+
+/// An unset number of bytes, as the original stores it.
+pub const UNSET: u64 = u64::MAX;
+
+/// Places in a `State`.
+pub mod field {
+    pub const ROUND_TRIP_COUNT: usize = 0;
+    pub const LAST_SENT: usize = 1;
+    pub const END_SET: usize = 2;
+    pub const END: usize = 3;
+    pub const SLOT_0: usize = 4;
+    pub const SLOT_1: usize = 5;
+    pub const MIN_RTT: usize = 6;
+    pub const MIN_RTT_TIMESTAMP: usize = 7;
+    pub const BYTES_LOST_IN_ROUND: usize = 8;
+    pub const LOSS_EVENTS_IN_ROUND: usize = 9;
+    pub const MAX_DELIVERED: usize = 10;
+    pub const MIN_IN_FLIGHT: usize = 11;
+    pub const LIMITED_IN_ROUND: usize = 12;
+    pub const BANDWIDTH_LATEST: usize = 13;
+    pub const INFLIGHT_LATEST: usize = 14;
+    pub const BANDWIDTH_LO_SET: usize = 15;
+    pub const BANDWIDTH_LO: usize = 16;
+    pub const INFLIGHT_LO: usize = 17;
+    pub const INFLIGHT_HI: usize = 18;
+    pub const FULL_REACHED: usize = 22;
+    pub const BASELINE: usize = 23;
+    pub const ROUNDS_WITHOUT_GROWTH: usize = 24;
+    pub const ROUNDS_WITH_QUEUEING: usize = 25;
+    pub const IGNORE_APP_LIMITED: usize = 26;
+    pub const SEND_RATE_SET: usize = 27;
+    pub const SEND_RATE: usize = 28;
+    pub const ACK_RATE_SET: usize = 29;
+    pub const ACK_RATE: usize = 30;
+    pub const TOTAL_ACKED: usize = 31;
+    pub const TOTAL_LOST: usize = 32;
+    pub const LAST_MOMENT: usize = 33;
+    pub const PHASE: usize = 34;
+    pub const CYCLE_START: usize = 35;
+    pub const PROBE_UP_ROUNDS: usize = 41;
+    pub const PROBE_UP_BYTES_SET: usize = 42;
+    pub const PROBE_UP_BYTES: usize = 43;
+    pub const HAS_ADVANCED: usize = 46;
+    pub const FROM_PROBING: usize = 47;
+    pub const PROBED_TOO_HIGH: usize = 48;
+    pub const STOPPED_RISKY: usize = 49;
+    pub const EVENT_TIME: usize = 50;
+    pub const PRIOR_CWND: usize = 51;
+    pub const PRIOR_IN_FLIGHT: usize = 52;
+    pub const BYTES_LOST: usize = 55;
+    pub const ROUND_ENDED: usize = 56;
+    pub const PROBING: usize = 57;
+    pub const SAMPLE_SET: usize = 58;
+    pub const SAMPLE: usize = 59;
+    pub const RTT_SET: usize = 60;
+    pub const RTT: usize = 61;
+    pub const STATE_VALID: usize = 62;
+    pub const STATE_APP_LIMITED: usize = 63;
+    pub const STATE_ACKED: usize = 64;
+    pub const STATE_IN_FLIGHT: usize = 65;
+}
+
+/// The phases of a cycle, as the state numbers them.
+pub mod phase {
+    pub const UP: u64 = 1;
+    pub const DOWN: u64 = 2;
+    pub const CRUISE: u64 = 3;
+    pub const REFILL: u64 = 4;
+}
+
+/// The start of a sequence, with its parameters. Times are nanoseconds.
+#[derive(Clone, Copy, Debug)]
+pub struct Start {
+    pub moment: u64,
+    pub initial_rtt: u64,
+    pub beta: f32,
+    pub loss_threshold: f32,
+    pub headroom: f32,
+    pub full_bw_threshold: f32,
+    pub cwnd_gain: f32,
+    pub pacing_gain: f32,
+    pub full_bw_rounds: u64,
+    pub queue_rounds: u64,
+    pub probe_rtt_period: u64,
+    pub probe_base_duration: u64,
+    pub ignore_app_limited: bool,
+}
+
+/// The send state of an event's last packet.
+#[derive(Clone, Copy, Debug, Default)]
+pub struct SendState {
+    pub valid: bool,
+    pub app_limited: bool,
+    pub total_acked: u64,
+    pub bytes_in_flight: u64,
+}
+
+/// The record of an event, as it is handed to a call.
+#[derive(Clone, Copy, Debug, Default)]
+pub struct Record {
+    pub event_time: u64,
+    pub prior_cwnd: u64,
+    pub prior_in_flight: u64,
+    pub bytes_in_flight: u64,
+    pub bytes_acked: u64,
+    pub bytes_lost: u64,
+    pub round_ended: bool,
+    pub probing: bool,
+    pub bandwidth: Option<u64>,
+    pub rtt: Option<u64>,
+    pub send_state: SendState,
+}
+
+/// What the sampler answers to an event, the totals after the event, and the
+/// slice of acked numbers: the first `acked_length` of `acked`.
+#[derive(Clone, Copy, Debug, Default)]
+pub struct Sample {
+    pub bandwidth: Option<u64>,
+    pub send_rate: Option<u64>,
+    pub ack_rate: Option<u64>,
+    pub app_limited: bool,
+    pub rtt: Option<u64>,
+    pub max_inflight: u64,
+    pub extra_acked: u64,
+    pub send_state: SendState,
+    pub total_acked: u64,
+    pub total_lost: u64,
+    pub acked_length: usize,
+    pub acked: [u64; 3],
+}
+
+/// Calls that only answer, with their numbers.
+#[derive(Clone, Copy, Debug, PartialEq)]
+pub enum Getter {
+    BandwidthEstimate = 23,
+    MinRtt = 24,
+    MinRttTimestamp = 25,
+    MaxBandwidth = 26,
+    MaxBytesDelivered = 27,
+    TotalAcked = 28,
+    TotalLost = 29,
+    FullBandwidthReached = 30,
+    PacingGain = 31,
+    CwndGain = 32,
+    InflightHi = 33,
+    InflightHiDefault = 34,
+    InflightLo = 35,
+    LossEvents = 36,
+    RoundsWithQueueing = 37,
+    QueueingThreshold = 38,
+}
+
+impl Getter {
+    pub const ALL: [Getter; 16] = [
+        Getter::BandwidthEstimate,
+        Getter::MinRtt,
+        Getter::MinRttTimestamp,
+        Getter::MaxBandwidth,
+        Getter::MaxBytesDelivered,
+        Getter::TotalAcked,
+        Getter::TotalLost,
+        Getter::FullBandwidthReached,
+        Getter::PacingGain,
+        Getter::CwndGain,
+        Getter::InflightHi,
+        Getter::InflightHiDefault,
+        Getter::InflightLo,
+        Getter::LossEvents,
+        Getter::RoundsWithQueueing,
+        Getter::QueueingThreshold,
+    ];
+}
+
+#[derive(Clone, Copy, Debug)]
+pub enum Call {
+    Start(Start),
+    Sent {
+        moment: u64,
+        in_flight: u64,
+        number: u64,
+        bytes: u64,
+    },
+    /// Sets the current record; the original isn't called.
+    Record(Record),
+    Event(Sample),
+    Finish,
+    ExpireMinRtt,
+    InflightTooHigh {
+        max_loss_events: u64,
+    },
+    BandwidthGrowth,
+    RestartRound,
+    PersistentQueue {
+        gain: f32,
+    },
+    Bdp {
+        bandwidth: u64,
+        gain: f32,
+    },
+    Bdp1 {
+        bandwidth: u64,
+    },
+    Bdp0,
+    WithHeadroom,
+    SetFullReached,
+    SetPacingGain(f32),
+    SetCwndGain(f32),
+    SetInflightHi(u64),
+    CapInflightLo(u64),
+    ClearInflightLo,
+    ClearBandwidthLo,
+    AdvanceMaxBandwidth,
+    PostponeMinRtt(u64),
+    Get(Getter),
+    ProbeDown {
+        too_high: bool,
+        risky: bool,
+        moment: u64,
+    },
+    ProbeCruise {
+        moment: u64,
+    },
+    ProbeRefill {
+        rounds: u64,
+        moment: u64,
+    },
+    ProbeUp {
+        moment: u64,
+        cwnd: u64,
+    },
+    ExitProbeDown,
+    RaiseSlope {
+        cwnd: u64,
+    },
+}
+
+impl Call {
+    /// The number of the call, then its arguments.
+    pub fn numbers(&self) -> Vec<u64> {
+        match *self {
+            Call::Start(start) => vec![
+                0,
+                start.moment,
+                start.initial_rtt,
+                float(start.beta),
+                float(start.loss_threshold),
+                float(start.headroom),
+                float(start.full_bw_threshold),
+                float(start.cwnd_gain),
+                float(start.pacing_gain),
+                start.full_bw_rounds,
+                start.queue_rounds,
+                start.probe_rtt_period,
+                start.probe_base_duration,
+                start.ignore_app_limited as u64,
+            ],
+            Call::Sent {
+                moment,
+                in_flight,
+                number,
+                bytes,
+            } => vec![1, moment, in_flight, number, bytes],
+            Call::Record(record) => {
+                let mut numbers = vec![
+                    2,
+                    record.event_time,
+                    record.prior_cwnd,
+                    record.prior_in_flight,
+                    record.bytes_in_flight,
+                    record.bytes_acked,
+                    record.bytes_lost,
+                    record.round_ended as u64,
+                    record.probing as u64,
+                ];
+                numbers.extend(option(record.bandwidth));
+                numbers.extend(option(record.rtt));
+                numbers.extend(record.send_state.numbers());
+                numbers
+            }
+            Call::Event(sample) => {
+                let mut numbers = vec![3];
+                numbers.extend(option(sample.bandwidth));
+                numbers.extend(option(sample.send_rate));
+                numbers.extend(option(sample.ack_rate));
+                numbers.push(sample.app_limited as u64);
+                numbers.extend(option(sample.rtt));
+                numbers.extend([sample.max_inflight, sample.extra_acked]);
+                numbers.extend(sample.send_state.numbers());
+                numbers.extend([sample.total_acked, sample.total_lost]);
+                numbers.push(sample.acked_length as u64);
+                numbers.extend(sample.acked);
+                numbers
+            }
+            Call::Finish => vec![4],
+            Call::ExpireMinRtt => vec![5],
+            Call::InflightTooHigh { max_loss_events } => vec![6, max_loss_events],
+            Call::BandwidthGrowth => vec![7],
+            Call::RestartRound => vec![8],
+            Call::PersistentQueue { gain } => vec![9, float(gain)],
+            Call::Bdp { bandwidth, gain } => vec![10, bandwidth, float(gain)],
+            Call::Bdp1 { bandwidth } => vec![11, bandwidth],
+            Call::Bdp0 => vec![12],
+            Call::WithHeadroom => vec![13],
+            Call::SetFullReached => vec![14],
+            Call::SetPacingGain(gain) => vec![15, float(gain)],
+            Call::SetCwndGain(gain) => vec![16, float(gain)],
+            Call::SetInflightHi(bytes) => vec![17, bytes],
+            Call::CapInflightLo(cap) => vec![18, cap],
+            Call::ClearInflightLo => vec![19],
+            Call::ClearBandwidthLo => vec![20],
+            Call::AdvanceMaxBandwidth => vec![21],
+            Call::PostponeMinRtt(length) => vec![22, length],
+            Call::Get(getter) => vec![getter as u64],
+            Call::ProbeDown {
+                too_high,
+                risky,
+                moment,
+            } => vec![40, too_high as u64, risky as u64, moment],
+            Call::ProbeCruise { moment } => vec![41, moment],
+            Call::ProbeRefill { rounds, moment } => vec![42, rounds, moment],
+            Call::ProbeUp { moment, cwnd } => vec![43, moment, cwnd],
+            Call::ExitProbeDown => vec![44],
+            Call::RaiseSlope { cwnd } => vec![45, cwnd],
+        }
+    }
+}
+
+impl SendState {
+    fn numbers(&self) -> [u64; 4] {
+        [
+            self.valid as u64,
+            self.app_limited as u64,
+            self.total_acked,
+            self.bytes_in_flight,
+        ]
+    }
+}
+
+/// Whether it is set, and the number, 0 where it isn't.
+pub fn option(number: Option<u64>) -> [u64; 2] {
+    [number.is_some() as u64, number.unwrap_or(0)]
+}
+
+fn float(number: f32) -> u64 {
+    number.to_bits() as u64
+}
