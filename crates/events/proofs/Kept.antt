@@ -137,7 +137,7 @@ least-inflight : (least n : ℕ) → bytesOk n ≡ true → bytesOrUnsetOk (min 
 least-inflight least n h = or-first (bytesOk (min least n)) (eqb (min least n) (2 ^ 64 - 1)) (le-leb (min least n) (2 ^ 40) (omega (arith, leb-true n (2 ^ 40) h)))
 
 module _ (r : Round) (old new : Totals) (delivered inflight : ℕ) (H : roundOk r old ≡ true) (K : totalsOk new ≡ true)
-  (A : old .acked ≤ new .acked) (L : old .lost ≤ new .lost) (D : delivered ≤ new .acked) (I : bytesOk inflight ≡ true) where
+    (A : old .acked ≤ new .acked) (L : old .lost ≤ new .lost) (D : delivered ≤ new .acked) (I : bytesOk inflight ≡ true) where
   abbrev lost : ℕ
   lost = new .lost - old .lost
 
@@ -242,7 +242,7 @@ module _ (m : NetworkModel) (p : Params) (e : Record) (s : Sample) (acked : List
         less-ok (s .totals .lost) (m .totals .lost) (2 ^ 62) (and-right (totalOk (s .totals .acked)) (totalOk (s .totals .lost)) totals),
         bandwidth (s .bandwidth) (all-at (E.sampleTests s) 0 sk),
         rtt (s .rtt) (all-at (E.sampleTests s) 3 sk),
-        arms E.stateOk (s .state .valid) (s .state) (e .state) (all-at (E.sampleTests s) 6 sk) (all-at (E.recordTests e) 8 rk)
+        arms E.stateOk (s .state .valid) (s .state) (e .state) (all-at (E.sampleTests s) 6 sk) (all-at (E.recordTests e) 8 rk),
       )
     where
       bandwidth : (x : MaybeBandwidth) → maybeOk x ≡ true → maybeOk (E.bandwidthAfter (e .bandwidth) x (E.isChanged m s)) ≡ true
@@ -272,7 +272,7 @@ module _ (m : NetworkModel) (p : Params) (e : Record) (s : Sample) (acked : List
         all-at (modelTests m) 7 mk,
         and-both (maybeOk (s .send)) (maybeOk (s .ack)) (all-at (E.sampleTests s) 1 sk) (all-at (E.sampleTests s) 2 sk),
         totals,
-        all-at (E.recordTests e) 0 rk
+        all-at (E.recordTests e) 0 rk,
       )
 
 -- ---- the calls that judge the round

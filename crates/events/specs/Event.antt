@@ -33,7 +33,7 @@ use Rattle.events.specs.declared.record.Record.{Record}
 use Rattle.events.specs.declared.record.Sample.{Sample}
 use Rattle.events.specs.declared.record.SendState.{SendState}
 
--- ---- the bounds of what is handed in; "All numbers handed in are tested", those of a send state that is not valid too
+-- ---- the bounds of what is handed in: all numbers are tested, those of a send state that is not valid too
 abbrev pub maybeLengthOk : MaybeLength → Bool
 maybeLengthOk Missing = true
 maybeLengthOk (Length d) = lengthOk d
@@ -123,7 +123,7 @@ roundAfter r lost delivered inflight =
       losses = cond (ltb 0 lost) (r .losses + 1) (r .losses);
       delivered = max (r .delivered) delivered;
       least = min (r .least) inflight;
-      limited = r .limited
+      limited = r .limited;
     }
 
 -- "raise the latest bandwidth and inflight"
@@ -152,7 +152,7 @@ unfoldable pub lowerReduced : Lower → Bandwidth → Latest → ℕ → Float �
 lowerReduced l most latest window b =
     record {
       bandwidth = Set (largerOf (latest .bandwidth) (timesF32 (seedOf (l .bandwidth) most) b));
-      inflight = max (latest .inflight) (scaled (startOf (l .inflight) window) b)
+      inflight = max (latest .inflight) (scaled (startOf (l .inflight) window) b);
     }
 
 unfoldable pub lowerAfter : Lower → Bool → Bandwidth → Latest → ℕ → Float → Lower
@@ -179,7 +179,7 @@ recordOf m e s ended =
       probing = e .probing;
       bandwidth = bandwidthAfter (e .bandwidth) (s .bandwidth) (isChanged m s);
       rtt = rttAfter (e .rtt) (s .rtt);
-      state = stateAfter (e .state) (s .state)
+      state = stateAfter (e .state) (s .state);
     }
 
 unfoldable pub recordNext : NetworkModel → Record → Sample → List ℕ → Record
@@ -210,7 +210,7 @@ modelOf m p after s counter =
       growth = m .growth;
       rates = record { send = s .send; ack = s .ack };
       totals = s .totals;
-      moment = after .time
+      moment = after .time;
     }
 
 unfoldable pub modelNext : NetworkModel → Params → Record → Sample → List ℕ → NetworkModel

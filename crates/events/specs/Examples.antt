@@ -6,14 +6,17 @@ use lib.Dec.{eqb}
 use lib.Ieee.{Float, binary32, ofBits}
 use Rattle.filters.specs.declared.bandwidth.Bandwidth.{Bandwidth}
 use Rattle.filters.specs.MaxBandwidthFilter.{maxGet}
+use Rattle.model.specs.Answers.{settled}
 use Rattle.model.specs.declared.network_model.NetworkModel.{NetworkModel}
 use Rattle.model.specs.declared.params.Params.{Params}
 use Rattle.model.specs.declared.state.Latest.{Latest}
 use Rattle.model.specs.declared.state.Lower.{Lower}
 use Rattle.model.specs.declared.state.MaybeBandwidth.the-variants.{Unset}
-use Rattle.model.specs.Calls.{modelNew, one}
+use Rattle.model.specs.Calls.{startNumber, startModel, one}
 use Rattle.events.specs.Event.{lowerAfter}
-use Rattle.events.specs.Judge.{hasGrown}
+use Rattle.events.specs.declared.record.MaybeLength.the-variants.{Missing}
+use Rattle.events.specs.declared.record.Record.{Record}
+use Rattle.events.specs.Judge.{hasGrown, growthFull, judgedNumber}
 
 abbrev none : Bandwidth
 none = record { 0 = 0 }
@@ -27,10 +30,31 @@ unset = record { bandwidth = Unset; inflight = 2 ^ 64 - 1 }
 
 -- parameters with the threshold 1.25
 abbrev usual : Params
-usual = record { beta = one; loss = one; headroom = one; growth = ofBits binary32 0x3fa0_0000; cwnd = one; pacing = one; rounds = 3; queueing = 0; period = record { 0 = 0 }; base = record { 0 = 0 }; ignore = true }
+usual = record { beta = ofBits binary32 0x3e99_999a; loss = one; headroom = one; growth = ofBits binary32 0x3fa0_0000; cwnd = one; pacing = one; rounds = 3; queueing = 0; period = record { 0 = 0 }; base = record { 0 = 0 }; ignore = true }
 
 abbrev fresh : NetworkModel
-fresh = modelNew one one true (record { 0 = 0 }) (record { 0 = 0 })
+fresh = startModel usual (record { 0 = 0 }) (record { 0 = 0 })
+
+-- a record in which nothing happened
+abbrev idle : Record
+idle =
+    record {
+      time = record { 0 = 0 };
+      window = 0;
+      prior = 0;
+      inflight = 0;
+      acked = 0;
+      lost = 0;
+      ended = false;
+      probing = false;
+      bandwidth = Unset;
+      rtt = Missing;
+      state = record { valid = false; limited = false; acked = 0; inflight = 0 };
+    }
+
+-- the number of has_bandwidth_growth on a fresh model
+abbrev grown : ℕ
+grown = judgedNumber fresh usual idle (growthFull fresh usual idle)
 
 unfoldable pub eventExamples : List Bool
 eventExamples =
@@ -38,6 +62,8 @@ eventExamples =
     eqb (cut unset .inflight) 910
     ∷ eqb (cut (cut unset) .inflight) 637
     ∷ eqb (cut (cut (cut unset)) .inflight) 445
-    -- 12. A fresh model reports growth: 0 >= 0
-    ∷ hasGrown (fresh .growth) (maxGet (fresh .most)) usual
+    -- 12. A fresh model reports growth: 0 >= 0. Neither the start nor the question is refused
+    ∷ eqb (startNumber usual (record { 0 = 0 }) (record { 0 = 0 })) 0
+    ∷ eqb grown 0
+    ∷ settled grown (hasGrown (fresh .growth) (maxGet (fresh .most)) usual) false
     ∷ []

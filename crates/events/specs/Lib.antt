@@ -2,4 +2,3 @@
 pub mod Event
 pub mod Judge
 pub mod Examples
-

@@ -7,7 +7,6 @@ ghost use Rattle.filters.specs.Reply.{number};
 ghost use Rattle.filters.specs.RoundTripCounter.{roundsFull};
 ghost use Rattle.model.specs.Answers.{settled};
 ghost use Rattle.events.specs.Event.{bytesAcked, bytesLost, limitedAfter, stateAfter, isChanged, mostAfter, bandwidthAfter, leastAfter, rttAfter, deliveredBy, roundAfter, raisedBandwidth, latestRaised, acts, seedOf, startOf, newestOf, lowerReduced, lowerAfter, latestAfter, recordOf, recordNext, mostNext, roundNext, lowerNext, modelOf, modelNext, isLower, isFull, eventNumber};
-
 use crate::record::MaybeLength;
 use crate::record::Record;
 use crate::record::Sample;
@@ -49,7 +48,12 @@ fn state_after(was: SendState, new: SendState) -> SendState
     if new.valid { new } else { was }
 }
 
-fn most_after(filter: MaxBandwidthFilter, sample: MaybeBandwidth, changed: bool, limited: bool) -> MaxBandwidthFilter
+fn most_after(
+    filter: MaxBandwidthFilter,
+    sample: MaybeBandwidth,
+    changed: bool,
+    limited: bool,
+) -> MaxBandwidthFilter
     ensures { λ r. ⌜ r ≡ mostAfter filter sample changed limited ⌝ }
 {
     let MaybeBandwidth::Set(bandwidth) = sample else {
@@ -178,11 +182,21 @@ fn lower_reduced(lower: Lower, most: Bandwidth, latest: Latest, window: u64, b: 
     let slower = fastest.max(seed.mul_f32(b));
     Lower {
         bandwidth: MaybeBandwidth::Set(slower),
-        inflight: larger(latest.inflight, numbers::scale(start_of(lower.inflight, window), b)),
+        inflight: larger(
+            latest.inflight,
+            numbers::scale(start_of(lower.inflight, window), b),
+        ),
     }
 }
 
-fn lower_after(lower: Lower, reduces: bool, most: Bandwidth, latest: Latest, window: u64, beta: f32) -> Lower
+fn lower_after(
+    lower: Lower,
+    reduces: bool,
+    most: Bandwidth,
+    latest: Latest,
+    window: u64,
+    beta: f32,
+) -> Lower
     ensures { λ r. ⌜ r ≡ lowerAfter lower reduces most latest window beta ⌝ }
 {
     if reduces {
@@ -266,16 +280,35 @@ fn round_next(model: NetworkModel, after: Record, sample: Sample) -> Round
 {
     let round = model.round;
     let state = after.state;
-    round_after(round, after.lost, delivered_by(state, after.acked, sample.totals.acked), after.inflight)
+    round_after(
+        round,
+        after.lost,
+        delivered_by(state, after.acked, sample.totals.acked),
+        after.inflight,
+    )
 }
 
-fn lower_next(model: NetworkModel, params: Params, after: Record, sample: Sample, most: MaxBandwidthFilter, lost: u64) -> Lower
+fn lower_next(
+    model: NetworkModel,
+    params: Params,
+    after: Record,
+    sample: Sample,
+    most: MaxBandwidthFilter,
+    lost: u64,
+) -> Lower
     ensures { λ r. ⌜ r ≡ lowerNext model params after sample most lost ⌝ }
 {
     let lower = model.lower;
     let latest = model.latest;
     let reduces = after.ended & !after.probing & (0 < lost);
-    lower_after(lower, reduces, most.get(), latest_raised(latest, sample), after.window, params.beta)
+    lower_after(
+        lower,
+        reduces,
+        most.get(),
+        latest_raised(latest, sample),
+        after.window,
+        params.beta,
+    )
 }
 
 fn latest_next(model: NetworkModel, after: Record, sample: Sample) -> Latest
@@ -294,7 +327,13 @@ fn least_next(model: NetworkModel, after: Record, sample: Sample) -> MinRttFilte
 }
 
 // The model after the event.
-fn model_of(model: NetworkModel, params: Params, after: Record, sample: Sample, counter: RoundTripCounter) -> NetworkModel
+fn model_of(
+    model: NetworkModel,
+    params: Params,
+    after: Record,
+    sample: Sample,
+    counter: RoundTripCounter,
+) -> NetworkModel
     requires { ⌜ (model .round .lost + after .lost < 2 ^ 64) × (ltb 0 (after .lost) ≡ true → eqb (model .round .losses) (2 ^ 64 - 1) ≡ false) ⌝ }
     ensures { λ r. ⌜ r ≡ modelOf model params after sample counter ⌝ }
 {
@@ -340,7 +379,13 @@ fn is_full(model: NetworkModel, sample: Sample, acked: &[u64]) -> bool
     !reply.is_done() | ((0 < lost) & (model.round.losses == UNSET))
 }
 
-fn event_reply(model: NetworkModel, params: Params, event: Record, sample: Sample, acked: &[u64]) -> Reply
+fn event_reply(
+    model: NetworkModel,
+    params: Params,
+    event: Record,
+    sample: Sample,
+    acked: &[u64],
+) -> Reply
     ensures { λ r. ⌜ number r ≡ eventNumber model params event sample (now (acked .entry)) ⌝ }
 {
     let moment = model.moment;
@@ -355,7 +400,13 @@ fn event_reply(model: NetworkModel, params: Params, event: Record, sample: Sampl
 }
 
 // An event: packets acked, the record as far as it is known, and what the sampler says.
-pub fn on_congestion_event_start(model: NetworkModel, params: Params, event: Record, sample: Sample, acked: &[u64]) -> Event
+pub fn on_congestion_event_start(
+    model: NetworkModel,
+    params: Params,
+    event: Record,
+    sample: Sample,
+    acked: &[u64],
+) -> Event
     ensures reply { λ r. ⌜ number (r .reply) ≡ eventNumber model params event sample (now (acked .entry)) ⌝ }
     ensures model { λ r. ⌜ r .model ≡ settled (eventNumber model params event sample (now (acked .entry))) (modelNext model params event sample (now (acked .entry))) model ⌝ }
     ensures record { λ r. ⌜ r .record ≡ settled (eventNumber model params event sample (now (acked .entry))) (recordNext model event sample (now (acked .entry))) event ⌝ }

@@ -7,7 +7,6 @@ ghost use Rattle.filters.specs.Reply.{number};
 ghost use Rattle.filters.specs.MaxBandwidthFilter.{maxGet};
 ghost use Rattle.model.specs.Answers.{settled};
 ghost use Rattle.events.specs.Judge.{recordNumber, judgedNumber, finishNext, isGiven, isDue, isExpired, leastExpired, expireNext, isTooHigh, hasGrown, countsFlat, flatAfter, growthFlat, growthAfter, growthFull, growthNext, isQueueing, queueAfter, queueNumber, queueNext};
-
 use crate::record::MaybeLength;
 use crate::record::Record;
 use crate::record::SendState;
@@ -83,7 +82,12 @@ fn is_due(now: Moment, filter: MinRttFilter, period: Duration) -> bool
     !now.is_before(timestamp.plus(period))
 }
 
-fn least_expired(sample: MaybeLength, now: Moment, filter: MinRttFilter, period: Duration) -> MinRttFilter
+fn least_expired(
+    sample: MaybeLength,
+    now: Moment,
+    filter: MinRttFilter,
+    period: Duration,
+) -> MinRttFilter
     ensures { λ r. ⌜ r ≡ leastExpired sample now filter period ⌝ }
 {
     let MaybeLength::Length(rtt) = sample else {
@@ -114,7 +118,12 @@ pub fn maybe_expire_min_rtt(model: NetworkModel, params: Params, event: Record) 
 {
     let rtt = event.rtt;
     let yes = is_given(rtt) & is_due(event.time, model.least, params.period);
-    decide(judged_reply(model, params, event, false), model, expired(model, params, event), yes)
+    decide(
+        judged_reply(model, params, event, false),
+        model,
+        expired(model, params, event),
+        yes,
+    )
 }
 
 fn decide(reply: Reply, model: NetworkModel, next: NetworkModel, yes: bool) -> Decided
@@ -154,7 +163,10 @@ pub fn is_inflight_too_high(model: NetworkModel, params: Params, event: Record, 
 {
     let round = model.round;
     let state = event.state;
-    Flag::of(judged_reply(model, params, event, false), too_high(round, state, limit, params.loss))
+    Flag::of(
+        judged_reply(model, params, event, false),
+        too_high(round, state, limit, params.loss),
+    )
 }
 
 fn has_grown(growth: Growth, most: Bandwidth, params: Params) -> bool
@@ -253,11 +265,7 @@ pub fn has_bandwidth_growth(model: NetworkModel, params: Params, event: Record) 
 fn below_sum(least: u64, n: u64, more: u64) -> bool
     ensures { λ r. ⌜ r ≡ ltb least (n + more) ⌝ }
 {
-    if least < more {
-        true
-    } else {
-        least - more < n
-    }
+    if least < more { true } else { least - more < n }
 }
 
 fn is_queueing(model: NetworkModel, gain: f32) -> bool
@@ -292,7 +300,13 @@ fn queue_reply(model: NetworkModel, params: Params, gain: f32, queueing: bool) -
     ensures { λ r. ⌜ number r ≡ queueNumber model params gain ⌝ }
 {
     let full = queueing & (model.growth.queueing == UNSET);
-    refusal(!(model.ok() & params.ok()), !gain_ok(gain), false, false, full)
+    refusal(
+        !(model.ok() & params.ok()),
+        !gain_ok(gain),
+        false,
+        false,
+        full,
+    )
 }
 
 // The round is judged for a queue that does not drain.

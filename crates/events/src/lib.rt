@@ -1,14 +1,7 @@
 // The calls on the network model that carry an event, or judge the round: free functions over the model.
 pub mod event;
 pub mod judge;
-
 pub mod record;
-
-
-
-
-
-
 
 pub use event::on_congestion_event_start;
 pub use judge::check_persistent_queue;

@@ -1,7 +1,6 @@
 // An event's record and what the sampler says to it, with their bounds.
 ghost use mathlib.Core.Path.{_≡_};
 ghost use Rattle.events.specs.Event.{maybeLengthOk, stateOk, recordOk, sampleOk};
-
 use filters::Duration;
 use filters::Moment;
 use model::bounds::bytes_ok;

@@ -74,7 +74,7 @@ modelNew cwnd pacing ignore rtt now =
       growth = record { reached = false; baseline = record { 0 = 0 }; flat = 0; queueing = 0; ignore = ignore };
       rates = record { send = Unset; ack = Unset };
       totals = record { acked = 0; lost = 0 };
-      moment = now
+      moment = now;
     }
 
 unfoldable pub startNumber : Params → Duration → Moment → ℕ

@@ -3,7 +3,6 @@ ghost use mathlib.Core.Path.{_≡_};
 ghost use mathlib.Core.Bool.{false};
 ghost use Rattle.filters.specs.Reply.{number};
 ghost use Rattle.model.specs.Answers.{settled, noBandwidth, noLength, noMoment, noGain};
-
 use filters::Bandwidth;
 use filters::Duration;
 use filters::Moment;

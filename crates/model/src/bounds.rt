@@ -2,7 +2,6 @@
 ghost use mathlib.Core.Path.{_≡_};
 ghost use Rattle.filters.specs.Reply.{number};
 ghost use Rattle.model.specs.Bounds.{bytesOk, bytesOrUnsetOk, totalOk, momentOk, lengthOk, bandwidthOk, maybeOk, fractionOk, gainOk, rowOf};
-
 use crate::state::MaybeBandwidth;
 use filters::Bandwidth;
 use filters::Duration;
@@ -10,8 +9,11 @@ use filters::Moment;
 use filters::Reply;
 
 pub const MOST_BYTES: u64 = 0x100_0000_0000;
+
 pub const MOST_TOTAL: u64 = 0x4000_0000_0000_0000;
+
 pub const MOST_LENGTH: u64 = 0x10_0000_0000;
+
 pub const UNSET: u64 = 0xffff_ffff_ffff_ffff;
 
 // A byte count is at most 2^40.

@@ -8,7 +8,6 @@ ghost use Rattle.filters.specs.MaxBandwidthFilter.{maxGet};
 ghost use Rattle.model.specs.Answers.{settled, noBandwidth, noLength, noMoment, noGain};
 ghost use Rattle.model.specs.Bounds.{mostOk, leastOk, modelOk, bytesOk, bytesOrUnsetOk, bandwidthOk, gainOk};
 ghost use Rattle.model.specs.Calls.{one, modelNew, startNumber, startModel, storedNumber, givenNumber, sentNumber, sentNext, growthRestarted, restartNext, reachedNext, pacingNext, cwndNext, withHigh, capNext, clearInflightNext, clearBandwidthNext, advanceNext, postponed, postponeNumber, postponeNext, bdpOf, estimateOf, headroomOf, headroomNumber};
-
 use crate::Params;
 use crate::answers::BandwidthRead;
 use crate::answers::Flag;
@@ -227,7 +226,10 @@ impl NetworkModel {
         ensures reply { λ r. ⌜ number (r .reply) ≡ sentNumber self now inflight bytes ⌝ }
         ensures model { λ r. ⌜ r .model ≡ settled (sentNumber self now inflight bytes) (sentNext self now inflight packet bytes) self ⌝ }
     {
-        self.settle(self.sent_reply(now, inflight, bytes), self.sent(now, inflight, packet, bytes))
+        self.settle(
+            self.sent_reply(now, inflight, bytes),
+            self.sent(now, inflight, packet, bytes),
+        )
     }
 
     fn sent_reply(self, now: Moment, inflight: u64, bytes: u64) -> Reply
@@ -450,7 +452,10 @@ impl NetworkModel {
         ensures reply { λ r. ⌜ number (r .reply) ≡ givenNumber self (bandwidthOk bandwidth && gainOk gain) ⌝ }
         ensures value { λ r. ⌜ r .value ≡ settled (givenNumber self (bandwidthOk bandwidth && gainOk gain)) (bdpOf self bandwidth gain) 0 ⌝ }
     {
-        Number::of(self.given(bandwidth_ok(bandwidth) & gain_ok(gain)), self.product(bandwidth, gain))
+        Number::of(
+            self.given(bandwidth_ok(bandwidth) & gain_ok(gain)),
+            self.product(bandwidth, gain),
+        )
     }
 
     pub fn product(self, bandwidth: Bandwidth, gain: f32) -> u64
@@ -466,7 +471,10 @@ impl NetworkModel {
         ensures reply { λ r. ⌜ number (r .reply) ≡ givenNumber self (bandwidthOk bandwidth) ⌝ }
         ensures value { λ r. ⌜ r .value ≡ settled (givenNumber self (bandwidthOk bandwidth)) (bdpOf self bandwidth one) 0 ⌝ }
     {
-        Number::of(self.given(bandwidth_ok(bandwidth)), self.product(bandwidth, 1.0))
+        Number::of(
+            self.given(bandwidth_ok(bandwidth)),
+            self.product(bandwidth, 1.0),
+        )
     }
 
     // The same of the maximum bandwidth.
@@ -483,7 +491,10 @@ impl NetworkModel {
         ensures reply { λ r. ⌜ number (r .reply) ≡ headroomNumber self params ⌝ }
         ensures value { λ r. ⌜ r .value ≡ settled (headroomNumber self params) (headroomOf (self .high) (params .headroom)) 0 ⌝ }
     {
-        Number::of(self.stored_with(params), numbers::less(self.high, numbers::scale(self.high, params.headroom)))
+        Number::of(
+            self.stored_with(params),
+            numbers::less(self.high, numbers::scale(self.high, params.headroom)),
+        )
     }
 
     // The smaller of bandwidth_lo, if it is set, and the maximum.

@@ -1,7 +1,6 @@
 // The settings of the model.
 ghost use mathlib.Core.Path.{_≡_};
 ghost use Rattle.model.specs.Bounds.{paramsOk, betaOk, thresholdOk};
-
 use crate::bounds::fraction_ok;
 use crate::bounds::gain_ok;
 use crate::bounds::length_ok;

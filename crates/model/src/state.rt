@@ -2,7 +2,6 @@
 ghost use mathlib.Core.Path.{_≡_};
 ghost use Rattle.model.specs.Bounds.{roundOk, latestOk, lowerOk, gainsOk, growthOk, ratesOk, totalsOk};
 ghost use Rattle.model.specs.State.{roundNew, roundSent, lowerCapped};
-
 use crate::bounds::UNSET;
 use crate::bounds::bandwidth_ok;
 use crate::bounds::bytes_ok;

@@ -9,7 +9,7 @@ use Rattle.model.specs.Answers.{settled}
 use Rattle.model.specs.Bounds.{modelOk}
 use Rattle.phases.specs.declared.cycle.Cycle.{Cycle}
 use Rattle.phases.specs.declared.phases.Entered.{Entered}
-use Rattle.phases.specs.declared.phases.Raised.{Raised}
+use Rattle.phases.specs.declared.cycle.Turned.{Turned}
 use Rattle.phases.specs.Cycle.{cycleOk}
 use Rattle.model.proofs.Kept.{refused-kept}
 use Rattle.phases.proofs.Kept.{down-kept, cruise-kept, refill-kept, up-kept, exit-kept, slope-kept}
@@ -74,9 +74,9 @@ pub exit-done : DoneKeeps phases.exit_probe_down.Reads.Learnt
 exit-done κ a x s p = both-done _ _ _ _ _ _ _ _ (p .0) (p .1 .0) (p .1 .1) (exit-kept _ _)
 
 -- ---- raise_inflight_high_slope, of the cycle alone
-abbrev pub SlopeKeeps : {K : Type 0} {A E : K → Type 0} → ((κ : K) → A κ → Raised → E κ → Type 0) → ((κ : K) → A κ → Cycle) → Type 0
+abbrev pub SlopeKeeps : {K : Type 0} {A E : K → Type 0} → ((κ : K) → A κ → Turned → E κ → Type 0) → ((κ : K) → A κ → Cycle) → Type 0
 SlopeKeeps {K} {A} {E} learnt cycle =
-    (κ : K) (a : A κ) (x : Raised) (s : E κ) → learnt κ a x s →
+    (κ : K) (a : A κ) (x : Turned) (s : E κ) → learnt κ a x s →
     ((number (x .reply) ≡ 0 → ⊥) → x .cycle ≡ cycle κ a) × (number (x .reply) ≡ 0 → cycleOk (x .cycle) ≡ true)
 
 pub slope-keeps : SlopeKeeps phases.raise_inflight_high_slope.Reads.Learnt (λ κ a. a .0)

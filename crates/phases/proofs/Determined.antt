@@ -4,7 +4,7 @@ use Rattle.filters.specs.declared.reply.Reply.{Reply}
 use Rattle.model.specs.declared.network_model.NetworkModel.{NetworkModel}
 use Rattle.phases.specs.declared.cycle.Cycle.{Cycle}
 use Rattle.phases.specs.declared.phases.Entered.{Entered}
-use Rattle.phases.specs.declared.phases.Raised.{Raised}
+use Rattle.phases.specs.declared.cycle.Turned.{Turned}
 use Rattle.numbers.proofs.OneReply.{OneReply}
 use Rattle.filters.proofs.reply.Number.{number-injective}
 use Rattle.phases.proofs.cycle.Cycle as cycle
@@ -17,10 +17,10 @@ entered :
     _≡_ {A = Entered} (record { reply = r; model = m; cycle = c }) (record { reply = s; model = n; cycle = d })
 entered p q r = cc
 
-raised :
+turned :
     {r s : Reply} {c d : Cycle} → r ≡ s → c ≡ d →
-    _≡_ {A = Raised} (record { reply = r; cycle = c }) (record { reply = s; cycle = d })
-raised p q = cc
+    _≡_ {A = Turned} (record { reply = r; cycle = c }) (record { reply = s; cycle = d })
+turned p q = cc
 
 pub one-stay-from : OneReply stay.from.Reads.Learnt
 one-stay-from κ a x y s t p q = p ∙ sym q
@@ -29,7 +29,7 @@ pub one-slope-raised : OneReply slope.raised.Reads.Learnt
 one-slope-raised κ a x y s t p q = p ∙ sym q
 
 pub one-cycle-new : OneReply cycle.new.Reads.Learnt
-one-cycle-new κ a x y s t p q = p ∙ sym q
+one-cycle-new κ a x y s t p q = turned (number-injective _ _ (p .0 ∙ sym (q .0))) (p .1 ∙ sym (q .1))
 
 pub one-cycle-ok : OneReply cycle.ok.Reads.Learnt
 one-cycle-ok κ a x y s t p q = p ∙ sym q
@@ -38,7 +38,7 @@ pub one-exit-probe-down : OneReply phases.exit_probe_down.Reads.Learnt
 one-exit-probe-down κ a x y s t p q = entered (number-injective _ _ (p .0 ∙ sym (q .0))) (p .1 .0 ∙ sym (q .1 .0)) (p .1 .1 ∙ sym (q .1 .1))
 
 pub one-raise-inflight-high-slope : OneReply phases.raise_inflight_high_slope.Reads.Learnt
-one-raise-inflight-high-slope κ a x y s t p q = raised (number-injective _ _ (p .0 ∙ sym (q .0))) (p .1 ∙ sym (q .1))
+one-raise-inflight-high-slope κ a x y s t p q = turned (number-injective _ _ (p .0 ∙ sym (q .0))) (p .1 ∙ sym (q .1))
 
 pub one-enter-probe-down : OneReply phases.enter_probe_down.Reads.Learnt
 one-enter-probe-down κ a x y s t p q = entered (number-injective _ _ (p .0 ∙ sym (q .0))) (p .1 .0 ∙ sym (q .1 .0)) (p .1 .1 ∙ sym (q .1 .1))

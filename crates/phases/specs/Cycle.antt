@@ -1,10 +1,11 @@
 -- The cycle: mode.rs, Cycle, with document 01's bounds; probe_bw.rs, raise_inflight_high_slope.
 use Prim.Native.Nat.{ℕ, min, max, _+_, _/_, _^_}
-use mathlib.Core.Bool.{Bool, true, false}
+use mathlib.Core.Bool.{Bool, true, false, not}
 use mathlib.Core.List.{List, [], _∷_}
 use lib.Dec.{leb}
 use Rattle.filters.specs.declared.time.Moment.{Moment}
-use Rattle.model.specs.Bounds.{all, bytesOk, momentOk, totalOk}
+use Rattle.model.specs.Answers.{settled, noMoment}
+use Rattle.model.specs.Bounds.{all, bytesOk, momentOk, rowOf}
 use Rattle.phases.specs.declared.cycle.Cycle.{Cycle}
 use Rattle.phases.specs.declared.cycle.CyclePhase.{CyclePhase}
 use Rattle.phases.specs.declared.cycle.CyclePhase.the-variants.{NotStarted}
@@ -30,7 +31,7 @@ upBytesOk (Bytes n) = bytesOk n
 abbrev pub roundsOk : ℕ → Bool
 roundsOk n = leb n 30
 
--- probe_up_acked is a sum of events' bytes acked, so its bound is theirs, 2^62; only steps that are left out raise it. "Counters .. are free": rounds_in_phase, rounds_since_probe
+-- probe_up_acked is a byte count: the rest of the bytes acked after whole probe_up_bytes are taken off. "Counters .. are free": rounds_in_phase, rounds_since_probe
 unfoldable pub cycleTests : Cycle → List Bool
 cycleTests c =
     momentOk (c .stay .entered)
@@ -38,7 +39,7 @@ cycleTests c =
     ∷ waitOk (c .wait .length)
     ∷ roundsOk (c .slope .rounds)
     ∷ upBytesOk (c .slope .bytes)
-    ∷ totalOk (c .slope .acked)
+    ∷ bytesOk (c .slope .acked)
     ∷ []
 
 abbrev pub cycleOk : Cycle → Bool
@@ -59,6 +60,13 @@ cycleNew now =
       probing = false;
       last = record { high = false; risky = false };
     }
+
+-- its moment is an argument; a refused one is fresh at moment 0, as a refused start's model is
+unfoldable pub freshNumber : Moment → ℕ
+freshNumber now = rowOf false (not (momentOk now)) false false false
+
+unfoldable pub freshCycle : Moment → Cycle
+freshCycle now = settled (freshNumber now) (cycleNew now) (cycleNew noMoment)
 
 -- ---- raise_inflight_high_slope: "growth is 2^rounds; rounds become min(rounds + 1, 30); probe_up_bytes is max(window / growth, 1300)"
 abbrev pub nextRounds : ℕ → ℕ

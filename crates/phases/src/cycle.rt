@@ -1,14 +1,16 @@
 // The cycle of probing for bandwidth, by concern.
 ghost use mathlib.Core.Path.{_≡_};
 ghost use Prim.Native.Nat.{_/_, _^_};
-ghost use Rattle.phases.specs.Cycle.{waitOk, upBytesOk, cycleOk, stayFrom, cycleNew, slopeRaised, nextRounds};
+ghost use Rattle.filters.specs.Reply.{number};
+ghost use Rattle.phases.specs.Cycle.{waitOk, upBytesOk, cycleOk, stayFrom, cycleNew, freshNumber, freshCycle, slopeRaised, nextRounds};
 use filters::Duration;
 use filters::Moment;
+use filters::Reply;
 use model::NetworkModel;
 use model::bounds::MOST_LENGTH;
 use model::bounds::bytes_ok;
 use model::bounds::moment_ok;
-use model::bounds::total_ok;
+use model::bounds::refusal;
 use numbers::larger;
 
 pub enum CyclePhase {
@@ -68,6 +70,12 @@ pub struct Cycle {
     // is_sample_from_probing.
     pub probing: bool,
     pub last: Last,
+}
+
+// A call's reply, and the cycle after it.
+pub struct Turned {
+    pub reply: Reply,
+    pub cycle: Cycle,
 }
 
 // The stored wait is at most the longest length of time and the extra wait.
@@ -141,13 +149,33 @@ impl Slope {
     }
 }
 
+fn fresh_reply(now: Moment) -> Reply
+    ensures { λ r. ⌜ number r ≡ freshNumber now ⌝ }
+{
+    refusal(false, !moment_ok(now), false, false, false)
+}
+
 impl Cycle {
     pub const MOST_ROUNDS: u64 = 30;
 
     pub const EXTRA_WAIT: Duration = Duration(500_000);
 
-    // A cycle that has not started.
-    pub fn new(now: Moment) -> Cycle
+    // A cycle that has not started, with the start's moment.
+    pub fn new(now: Moment) -> Turned
+        ensures reply { λ r. ⌜ number (r .reply) ≡ freshNumber now ⌝ }
+        ensures cycle { λ r. ⌜ r .cycle ≡ freshCycle now ⌝ }
+    {
+        let reply = fresh_reply(now);
+        if reply.is_done() {
+            let cycle = Cycle::fresh(now);
+            Turned { reply, cycle }
+        } else {
+            let cycle = Cycle::fresh(Moment(0));
+            Turned { reply, cycle }
+        }
+    }
+
+    fn fresh(now: Moment) -> Cycle
         ensures { λ r. ⌜ r ≡ cycleNew now ⌝ }
     {
         Cycle {
@@ -188,6 +216,6 @@ impl Cycle {
             & wait_ok(length)
             & (slope.rounds <= Cycle::MOST_ROUNDS)
             & up_bytes_ok(bytes)
-            & total_ok(slope.acked)
+            & bytes_ok(slope.acked)
     }
 }

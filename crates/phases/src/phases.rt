@@ -13,6 +13,7 @@ use crate::cycle::MaybeBytes;
 use crate::cycle::MaybeLength;
 use crate::cycle::Slope;
 use crate::cycle::Stay;
+use crate::cycle::Turned;
 use crate::cycle::Wait;
 use filters::Duration;
 use filters::Moment;
@@ -27,12 +28,6 @@ use model::bounds::refusal;
 pub struct Entered {
     pub reply: Reply,
     pub model: NetworkModel,
-    pub cycle: Cycle,
-}
-
-// The slope's reply, and the cycle after it.
-pub struct Raised {
-    pub reply: Reply,
     pub cycle: Cycle,
 }
 
@@ -194,18 +189,18 @@ fn left_cycle(cycle: Cycle) -> Cycle
 // ---- raise_inflight_high_slope
 
 // probe_up_bytes for the next round, by the window.
-pub fn raise_inflight_high_slope(cycle: Cycle, window: u64) -> Raised
+pub fn raise_inflight_high_slope(cycle: Cycle, window: u64) -> Turned
     ensures reply { λ r. ⌜ number (r .reply) ≡ slopeNumber cycle window ⌝ }
     ensures cycle { λ r. ⌜ r .cycle ≡ settled (slopeNumber cycle window) (slopeCycle cycle window) cycle ⌝ }
 {
     let reply = slope_reply(cycle, window);
     if reply.is_done() {
-        Raised {
+        Turned {
             reply,
             cycle: slope_cycle(cycle, window),
         }
     } else {
-        Raised { reply, cycle }
+        Turned { reply, cycle }
     }
 }
 
