@@ -1,8 +1,8 @@
 // The port's state after a call, compared with the original's.
-use crate::call::Turn;
-use crate::call::World;
-use crate::call::arguments;
 use crate::fields::field;
+use calls::call::Turn;
+use calls::call::World;
+use calls::call::arguments;
 
 // What a line's comparison found.
 pub enum Found {

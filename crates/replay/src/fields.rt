@@ -1,7 +1,7 @@
 // The 66 numbers of a state, by their indices in the list.
-use crate::bits::bits_of;
-use crate::call::World;
-use crate::call::number_of;
+use calls::bits::bits_of;
+use calls::call::World;
+use calls::call::number_of;
 use events::Record;
 use events::record::MaybeLength;
 use events::record::SendState;

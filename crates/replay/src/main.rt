@@ -1,12 +1,10 @@
 // Replays a fixed list of calls on the port, compares its answer and its whole state after each with
 // the original's, and prints what was compared.
-mod bits;
-mod call;
 mod compare;
 mod fields;
-mod given;
 mod reader;
 
+use calls::call;
 use compare::Found;
 use libc::STDOUT_FILENO;
 
@@ -92,7 +90,7 @@ fn replay(name: &[u8]) {
         os::fail(name);
         return;
     }
-    let mut space = [0u8; 524_288];
+    let mut space = [0u8; 400_000];
     let n = io::read_full(file, &mut space);
     libc::close(file);
     replay_twice(&mut space[..n], name);

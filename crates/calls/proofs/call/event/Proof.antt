@@ -1,9 +1,9 @@
--- `replay::event` is safe: a number below 4 is at most the length of three packets. Assumes nothing.
+-- `calls::event` is safe: a number below 4 is at most the length of three packets. Assumes nothing.
 use borrow.Author.Needs.{needs}
 use native.Mathlib.Omega.{arith}
 use lib.ListN.{length-take}
-use Rattle.replay.proofs.call.event.Statement.{statement}
-use Rattle.replay.proofs.call.event.Tie as tie
+use Rattle.calls.proofs.call.event.Statement.{statement}
+use Rattle.calls.proofs.call.event.Tie as tie
 
 slice-aggregate-on-congestion-event-start : tie.Need-slice-aggregate-on-congestion-event-start
 slice-aggregate-on-congestion-event-start c = simp length-take (omega arith)

@@ -1,9 +1,9 @@
--- `replay::f32_of` is safe: the bits that are read as they are have no NaN's pattern. Assumes nothing.
+-- `calls::f32_of` is safe: the bits that are read as they are have no NaN's pattern. Assumes nothing.
 use borrow.Author.Needs.{needs}
 use lib.Ieee.{binary32}
 use Rattle.numbers.proofs.Fields.{plain-bits}
-use Rattle.replay.proofs.bits.f32_of.Statement.{statement}
-use Rattle.replay.proofs.bits.f32_of.Tie as tie
+use Rattle.calls.proofs.bits.f32_of.Statement.{statement}
+use Rattle.calls.proofs.bits.f32_of.Tie as tie
 
 float-from-bits-result : tie.Need-float-from-bits-result
 float-from-bits-result c = plain-bits binary32 _ (c .if1 .left)

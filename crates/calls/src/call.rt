@@ -80,9 +80,11 @@ fn start(n: &[u64; 192]) -> Turn {
     let begun = NetworkModel::new(params, Duration(n[2]), now);
     let reply = begun.reply;
     let model = begun.model;
+    let fresh = Cycle::new(now);
+    let cycle = fresh.cycle;
     let world = World {
         model,
-        cycle: Cycle::new(now),
+        cycle,
         record: given::record(&zeros),
         params,
     };

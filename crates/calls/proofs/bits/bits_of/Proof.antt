@@ -1,8 +1,8 @@
--- `replay::bits_of` is safe: a NaN has been turned away. Assumes nothing.
+-- `calls::bits_of` is safe: a NaN has been turned away. Assumes nothing.
 use borrow.Author.Needs.{needs}
 use Rattle.numbers.proofs.Fields.{no-nan}
-use Rattle.replay.proofs.bits.bits_of.Statement.{statement}
-use Rattle.replay.proofs.bits.bits_of.Tie as tie
+use Rattle.calls.proofs.bits.bits_of.Statement.{statement}
+use Rattle.calls.proofs.bits.bits_of.Tie as tie
 
 float-to-bits-wide : tie.Need-float-to-bits-wide
 float-to-bits-wide c = no-nan _ (c .if1 .left)
