@@ -1,5 +1,4 @@
 -- Laws and theorems of the events.
 pub mod Laws
 pub mod Room
-pub mod Kept
 pub mod Determined

@@ -1,5 +1,4 @@
 -- Laws and theorems of the model.
 pub mod Rows
 pub mod Settling
-pub mod Kept
 pub mod Determined

@@ -1,27 +1,26 @@
--- A call that is done leaves the model within its bounds; one that is refused leaves it as it was (`refused-kept`). Assumes nothing.
-use Prim.Native.Nat.{ℕ, min, _+_, _-_, _^_}
-use mathlib.Core.Bool.{Bool, true, false, cond, _&&_, _||_}
+-- A call of the model that is done leaves the model within its bounds. Assumes nothing.
+use Prim.Native.Nat.{ℕ, min, _-_, _^_}
+use mathlib.Core.Bool.{Bool, true, false, cond, not, _&&_}
 use mathlib.Core.Path.{_≡_, refl}
 use native.Mathlib.Nat.{min-eq-left, min-eq-right, le-of-lt}
 use lib.Dec.{leb, eqb}
 use lib.ListN.{set}
 use native.Mathlib.Omega.{arith}
-use borrow.Author.Tests.{leb-true, leb-false, le-leb, ne-eqb}
+use borrow.Author.Tests.{leb-true, leb-false, le-leb}
 use Rattle.filters.specs.declared.max_bandwidth_filter.MaxBandwidthFilter.{MaxBandwidthFilter}
 use lib.Ieee.{Float}
 use Rattle.filters.specs.declared.time.Duration.{Duration}
 use Rattle.filters.specs.declared.time.Moment.{Moment}
 use Rattle.filters.specs.MaxBandwidthFilter.{maxAdvance}
+use Rattle.filters.specs.Time.{isBefore}
 use Rattle.model.specs.declared.network_model.NetworkModel.{NetworkModel}
 use Rattle.model.specs.declared.state.Lower.{Lower}
-use Rattle.model.specs.declared.state.Round.{Round}
 use Rattle.model.specs.declared.state.Totals.{Totals}
-use Rattle.model.specs.Bounds.{bytesOk, bytesOrUnsetOk, totalOk, lengthOk, gainOk, bandwidthOk, maybeOk, mostOk, leastOk, roundOk, lowerOk, gainsOk, momentOk, modelTests, modelOk}
+use Rattle.model.specs.Bounds.{bytesOk, bytesOrUnsetOk, totalOk, lengthOk, betaOk, fractionOk, thresholdOk, gainOk, bandwidthOk, maybeOk, mostOk, roundOk, lowerOk, momentOk, modelTests, modelOk, paramsOk}
 use Rattle.model.specs.declared.params.Params.{Params}
-use Rattle.model.specs.Answers.{settled}
-use Rattle.model.specs.Calls.{withMost, withRounds, withRound, withLower, withGrowth, withMoment, withHigh, withGains, withLeast, growthRestarted, modelNew, sentNext, reachedNext, pacingNext, cwndNext, postponed, postponeNext, restartNext, capNext, clearInflightNext, clearBandwidthNext, advanceNext}
+use Rattle.model.specs.Calls.{withMost, withRounds, withRound, withLower, withGrowth, withMoment, withHigh, withGains, withLeast, growthRestarted, modelNew, startNumber, storedNumber, givenNumber, sentNumber, sentNext, reachedNext, pacingNext, cwndNext, postponed, postponeNumber, postponeNext, restartNext, capNext, clearInflightNext, clearBandwidthNext, advanceNext}
 use Rattle.model.specs.State.{roundNew, roundSent, lowerCapped}
-use Rattle.model.proofs.Rows.{and-left, and-right, and-both, all-at, all-put}
+use Rattle.model.proofs.Rows.{and-left, and-right, and-both, all-at, all-put, row-stored, row-argument}
 
 -- ---- the parts
 pub round-new-ok : (t : Totals) → roundOk roundNew t ≡ true
@@ -88,19 +87,48 @@ pub advance-kept : (m : NetworkModel) → modelOk m ≡ true → modelOk (advanc
 unfolding modelTests advanceNext withMost
 advance-kept m h = all-put (modelTests m) 0 (mostOk (maxAdvance (m .most))) h (max-advance-ok (m .most) (all-at (modelTests m) 0 h))
 
--- ---- a refused call: what it leaves is `settled` of its number, so this law speaks of every call
-pub refused-kept : {A : Type 0} (n : ℕ) (next old : A) → (n ≡ 0 → ⊥) → settled n next old ≡ old
-unfolding settled
-refused-kept n next old h = simp (ne-eqb n 0 h)
-
 -- ---- the start, the send and the setters
-pub start-kept : (cwnd pacing : Float) (ignore : Bool) (rtt : Duration) (now : Moment) → gainOk cwnd ≡ true → gainOk pacing ≡ true → lengthOk rtt ≡ true → momentOk now ≡ true → modelOk (modelNew cwnd pacing ignore rtt now) ≡ true
+new-kept : (cwnd pacing : Float) (ignore : Bool) (rtt : Duration) (now : Moment) → gainOk cwnd ≡ true → gainOk pacing ≡ true → lengthOk rtt ≡ true → momentOk now ≡ true → modelOk (modelNew cwnd pacing ignore rtt now) ≡ true
 unfolding modelTests modelNew roundOk
-start-kept cwnd pacing ignore rtt now c p r t = simp (c, p, r, t)
+new-kept cwnd pacing ignore rtt now c p r t = simp (c, p, r, t)
 
-pub sent-kept : (m : NetworkModel) (now : Moment) (inflight packet bytes : ℕ) → modelOk m ≡ true → momentOk now ≡ true → bytesOk inflight ≡ true → modelOk (sentNext m now inflight packet bytes) ≡ true
-unfolding modelTests sentNext withMoment withRounds withRound roundSent roundOk
-sent-kept m now inflight packet bytes h t i =
+fifth-sixth : (a b c d e f g h : Bool) → (a && b && c && d && e && f && g && h) ≡ true → (e ≡ true) × (f ≡ true)
+fifth-sixth a b c d e f g h k =
+    let six = and-left (a && b && c && d && e && f) g (and-left (a && b && c && d && e && f && g) h k) in
+    (and-right (a && b && c && d) e (and-left (a && b && c && d && e) f six), and-right (a && b && c && d && e) f six)
+
+gains-of : (p : Params) → paramsOk p ≡ true → (gainOk (p .cwnd) ≡ true) × (gainOk (p .pacing) ≡ true)
+unfolding paramsOk
+gains-of p = fifth-sixth (betaOk (p .beta)) (fractionOk (p .loss)) (fractionOk (p .headroom)) (thresholdOk (p .growth)) (gainOk (p .cwnd)) (gainOk (p .pacing)) (lengthOk (p .period)) (lengthOk (p .base))
+
+pub start-kept : (p : Params) (rtt : Duration) (now : Moment) → startNumber p rtt now ≡ 0 → modelOk (modelNew (p .cwnd) (p .pacing) (p .ignore) rtt now) ≡ true
+unfolding startNumber
+start-kept p rtt now h =
+    let times = row-argument (not (paramsOk p)) (lengthOk rtt && momentOk now) false false false h in
+    let gains = gains-of p (row-stored (paramsOk p) (not (lengthOk rtt && momentOk now)) false false false h) in
+    new-kept (p .cwnd) (p .pacing) (p .ignore) rtt now (gains .0) (gains .1) (and-left (lengthOk rtt) (momentOk now) times) (and-right (lengthOk rtt) (momentOk now) times)
+
+-- a call with no argument, and one with an argument of which `fine` says whether it is within its bounds
+pub stored : (m : NetworkModel) → storedNumber m ≡ 0 → modelOk m ≡ true
+unfolding storedNumber
+stored m h = row-stored (modelOk m) false false false false h
+
+pub given-stored : (m : NetworkModel) (fine : Bool) → givenNumber m fine ≡ 0 → modelOk m ≡ true
+unfolding givenNumber
+given-stored m fine h = row-stored (modelOk m) (not fine) false false false h
+
+pub given-fine : (m : NetworkModel) (fine : Bool) → givenNumber m fine ≡ 0 → fine ≡ true
+unfolding givenNumber
+given-fine m fine h = row-argument (not (modelOk m)) fine false false false h
+
+pub sent-kept : (m : NetworkModel) (now : Moment) (inflight packet bytes : ℕ) → sentNumber m now inflight bytes ≡ 0 → modelOk (sentNext m now inflight packet bytes) ≡ true
+unfolding sentNumber modelTests sentNext withMoment withRounds withRound roundSent roundOk
+sent-kept m now inflight packet bytes done =
+    let given = momentOk now && bytesOk inflight && bytesOk bytes in
+    let h = row-stored (modelOk m) (not given) (isBefore now (m .moment)) false false done in
+    let fine = and-left (momentOk now && bytesOk inflight) (bytesOk bytes) (row-argument (not (modelOk m)) given (isBefore now (m .moment)) false false done) in
+    let t = and-left (momentOk now) (bytesOk inflight) fine in
+    let i = and-right (momentOk now) (bytesOk inflight) fine in
     let r = m .round in
     let was = all-at (modelTests m) 2 h in
     let sums = totalOk (r .lost) && totalOk (r .delivered) in
@@ -130,6 +158,9 @@ pub high-kept : (m : NetworkModel) (n : ℕ) → modelOk m ≡ true → bytesOrU
 unfolding modelTests withHigh
 high-kept m n h k = all-put (modelTests m) 5 (bytesOrUnsetOk n) h k
 
-pub postpone-kept : (m : NetworkModel) (d : Duration) → modelOk m ≡ true → momentOk (postponed m d) ≡ true → modelOk (postponeNext m d) ≡ true
-unfolding modelTests postponeNext withLeast
-postpone-kept m d h k = all-put (modelTests m) 1 (lengthOk (m .least .rtt) && momentOk (postponed m d)) h (and-both (lengthOk (m .least .rtt)) (momentOk (postponed m d)) (and-left (lengthOk (m .least .rtt)) (momentOk (m .least .timestamp)) (all-at (modelTests m) 1 h)) k)
+pub postpone-kept : (m : NetworkModel) (d : Duration) → postponeNumber m d ≡ 0 → modelOk (postponeNext m d) ≡ true
+unfolding modelTests postponeNumber postponeNext withLeast
+postpone-kept m d done =
+    let h = given-stored m (lengthOk d && momentOk (postponed m d)) done in
+    let k = and-right (lengthOk d) (momentOk (postponed m d)) (given-fine m (lengthOk d && momentOk (postponed m d)) done) in
+    all-put (modelTests m) 1 (lengthOk (m .least .rtt) && momentOk (postponed m d)) h (and-both (lengthOk (m .least .rtt)) (momentOk (postponed m d)) (and-left (lengthOk (m .least .rtt)) (momentOk (m .least .timestamp)) (all-at (modelTests m) 1 h)) k)

@@ -1,4 +1,4 @@
--- A call that is done leaves model and cycle within their bounds. (That a refused one leaves both as they were is a law of the model's, `refused-kept`.) Assumes nothing.
+-- A call that is done leaves model and cycle within their bounds. Assumes nothing.
 use Prim.Native.Nat.{ℕ, _+_, _^_}
 use mathlib.Core.Bool.{Bool, true, false, cond}
 use mathlib.Core.Path.{_≡_, refl}
@@ -9,18 +9,17 @@ use borrow.Author.Tests.{leb-true, le-leb}
 use Rattle.filters.specs.declared.time.Moment.{Moment}
 use Rattle.model.specs.declared.network_model.NetworkModel.{NetworkModel}
 use Rattle.model.specs.declared.params.Params.{Params}
-use Rattle.model.specs.Answers.{settled, noMoment}
-use Rattle.model.specs.Bounds.{modelOk, paramsOk, momentOk, bytesOk, rowOf}
+use Rattle.model.specs.Bounds.{modelOk, paramsOk, momentOk, bytesOk}
 use Rattle.model.specs.Calls.{restartNext, clearInflightNext, clearBandwidthNext, advanceNext}
 use Rattle.phases.specs.declared.cycle.Cycle.{Cycle}
 use Rattle.phases.specs.declared.cycle.CyclePhase.{CyclePhase}
 use Rattle.phases.specs.declared.cycle.CyclePhase.the-variants.{Up, Cruise, Refill}
 use Rattle.phases.specs.declared.cycle.MaybeLength.the-variants.{Length}
-use Rattle.phases.specs.Cycle.{waitOk, roundsOk, cycleTests, cycleOk, cycleNew, freshNumber, freshCycle, stayFrom, nextRounds, upBytes, slopeRaised}
+use Rattle.phases.specs.Cycle.{waitOk, roundsOk, cycleTests, cycleOk, cycleNew, freshNumber, stayFrom, nextRounds, upBytes, slopeRaised}
 use Rattle.phases.specs.Phases.{restartedAt, isDown, exitNumber, exitModel, exitCycle, leftModel, leftCycle, slopeNumber, slopeCycle, downNumber, downCycle, cycleIn, cappedByHigh, cruiseNumber, cruiseModel, cruiseCycle, refillNumber, refillModel, refilled, refillCycle, upNumber, upCycle}
 use Rattle.phases.proofs.Accepted as accepted
-use Rattle.model.proofs.Kept.{high-ok, moment-kept, restart-kept, cap-kept, clear-inflight-kept, clear-bandwidth-kept, advance-kept}
-use Rattle.model.proofs.Rows.{all-put}
+use Rattle.laws.proofs.Model.{high-ok, moment-kept, restart-kept, cap-kept, clear-inflight-kept, clear-bandwidth-kept, advance-kept}
+use Rattle.model.proofs.Rows.{all-put, row-argument}
 
 -- ---- the steps of the model keep its bounds
 pub restarted-kept : (m : NetworkModel) (now : Moment) → modelOk m ≡ true → momentOk now ≡ true → modelOk (restartedAt m now) ≡ true
@@ -80,17 +79,13 @@ raised-kept c window h k =
     (up-bytes-ok window (c .slope .rounds) k)
 
 -- ---- a call that is done leaves both within their bounds
-pub new-kept : (now : Moment) → momentOk now ≡ true → cycleOk (cycleNew now) ≡ true
+new-kept : (now : Moment) → momentOk now ≡ true → cycleOk (cycleNew now) ≡ true
 unfolding cycleTests cycleNew stayFrom
 new-kept now k = rw k
 
-pub fresh-kept : (now : Moment) → cycleOk (freshCycle now) ≡ true
-unfolding freshNumber freshCycle settled rowOf
-fresh-kept now = go (momentOk now) refl
-  where
-    go : (t : Bool) → momentOk now ≡ t → cycleOk (freshCycle now) ≡ true
-    go true h = rw h (new-kept now h)
-    go false h = rw h (new-kept noMoment refl)
+pub fresh-kept : (now : Moment) → freshNumber now ≡ 0 → cycleOk (cycleNew now) ≡ true
+unfolding freshNumber
+fresh-kept now h = new-kept now (row-argument false (momentOk now) false false false h)
 
 pub down-kept : (m : NetworkModel) (c : Cycle) (p : Params) (high risky : Bool) (now : Moment) → downNumber m c p now ≡ 0 → (modelOk (restartedAt m now) ≡ true) × (cycleOk (downCycle c p high risky now) ≡ true)
 unfolding cycleTests downCycle stayFrom

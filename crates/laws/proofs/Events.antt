@@ -1,13 +1,12 @@
--- An event that is not refused leaves a model and a record within the bounds (`event-kept`); so do the other calls of this crate. beta is an f32, so the format holds it. Assumes nothing.
-use Prim.Native.Nat.{ℕ, min, max, _+_, _-_, _^_, _≤_, _<_}
+-- A call that carries an event, or counts rounds, and is done leaves the model, and the event's the record too, within the bounds. beta is an f32, so the format holds it. Assumes nothing.
+use Prim.Native.Nat.{ℕ, min, max, _+_, _-_, _^_, _≤_}
 use mathlib.Core.Bool.{Bool, true, false, cond, not, _&&_, _||_}
 use mathlib.Core.List.{List}
-use mathlib.Core.Path.{_≡_, refl, sym, ap, _∙_, subst}
+use mathlib.Core.Path.{_≡_, refl, sym, _∙_, subst}
 use native.Mathlib.Omega.{arith}
 use lib.Dec.{T, leb, ltb, eqb}
 use lib.Ieee.{Float, binary32, fits, le, ofBits}
-use lib.Ieee.Exact.{HasValue}
-use borrow.Author.Tests.{leb-true, le-leb, ltb-true, ltb-false, eqb-true, eq-eqb, not-false}
+use borrow.Author.Tests.{leb-true, le-leb, ltb-false, not-false}
 use Rattle.numbers.specs.Scaling.{scaled, scaledF64, complement, Parts}
 use Rattle.numbers.proofs.ScaleLaws.{scale-bound, scale-f64-law}
 use Rattle.numbers.proofs.Complement.{complement-law}
@@ -26,18 +25,18 @@ use Rattle.model.specs.declared.state.MaybeBandwidth.{MaybeBandwidth}
 use Rattle.model.specs.declared.state.MaybeBandwidth.the-variants.{Unset, Set}
 use Rattle.model.specs.declared.state.Round.{Round}
 use Rattle.model.specs.declared.state.Totals.{Totals}
-use Rattle.model.specs.Bounds.{within, betaOk, bytesOk, bytesOrUnsetOk, totalOk, momentOk, lengthOk, bandwidthOk, maybeOk, mostOk, leastOk, roundOk, latestOk, lowerOk, totalsOk, modelTests, modelOk, paramsOk}
+use Rattle.model.specs.Bounds.{within, betaOk, bytesOk, bytesOrUnsetOk, totalOk, momentOk, lengthOk, bandwidthOk, maybeOk, mostOk, leastOk, roundOk, latestOk, lowerOk, totalsOk, modelTests, modelOk, paramsOk, gainOk}
 use Rattle.model.specs.Calls.{withRound, withLeast, withGrowth}
 use Rattle.model.specs.State.{roundNew}
-use Rattle.model.proofs.Kept.{round-new-ok}
-use Rattle.model.proofs.Rows.{none, and-left, and-right, and-both, or-left, or-right, all-at, all-put}
+use Rattle.laws.proofs.Model.{round-new-ok}
+use Rattle.model.proofs.Rows.{none, row-stored, row-argument, and-left, and-right, and-both, or-left, or-right, all-at, all-put}
 use Rattle.events.specs.declared.record.MaybeLength.{MaybeLength}
 use Rattle.events.specs.declared.record.MaybeLength.the-variants.{Missing, Length}
 use Rattle.events.specs.declared.record.Record.{Record}
 use Rattle.events.specs.declared.record.Sample.{Sample}
 use Rattle.events.specs.declared.record.SendState.{SendState}
 use Rattle.events.specs.Event as E
 use Rattle.events.specs.Judge as J
 
 -- a test holds of both arms
 arms : {A : Type 0} (ok : A → Bool) (t : Bool) (x y : A) → ok x ≡ true → ok y ≡ true → ok (cond t x y) ≡ true
@@ -276,34 +275,54 @@ module _ (m : NetworkModel) (p : Params) (e : Record) (s : Sample) (acked : List
       )
 
 -- ---- the calls that judge the round
-pub finish-kept : (m : NetworkModel) (e : Record) → modelOk m ≡ true → modelOk (J.finishNext m e) ≡ true
-unfolding modelTests J.finishNext withRound
-finish-kept m e h = go (e .ended)
+judged : (m : NetworkModel) (p : Params) (e : Record) (full : Bool) → J.judgedNumber m p e full ≡ 0 → (modelOk m ≡ true) × (E.recordOk e ≡ true)
+unfolding J.judgedNumber
+judged m p e full h =
+    (and-left (modelOk m) (paramsOk p) (row-stored (modelOk m && paramsOk p) (not (E.recordOk e)) false false full h), row-argument (not (modelOk m && paramsOk p)) (E.recordOk e) false false full h)
+
+pub finish-kept : (m : NetworkModel) (e : Record) → J.recordNumber m e ≡ 0 → modelOk (J.finishNext m e) ≡ true
+unfolding modelTests J.recordNumber J.finishNext withRound
+finish-kept m e done = go (e .ended)
   where
+    h : modelOk m ≡ true
+    h = row-stored (modelOk m) (not (E.recordOk e)) false false false done
+
     go : (t : Bool) → modelOk (cond t (withRound m roundNew) m) ≡ true
     go true = all-put (modelTests m) 2 (roundOk roundNew (m .totals)) h (round-new-ok (m .totals))
     go false = h
 
-pub expire-kept : (m : NetworkModel) (p : Params) (e : Record) → modelOk m ≡ true → E.recordOk e ≡ true → modelOk (J.expireNext m p e) ≡ true
+pub expire-kept : (m : NetworkModel) (p : Params) (e : Record) → J.judgedNumber m p e false ≡ 0 → modelOk (J.expireNext m p e) ≡ true
 unfolding modelTests E.recordTests J.expireNext withLeast
-expire-kept m p e h k = all-put (modelTests m) 1 (leastOk (J.leastExpired (e .rtt) (e .time) (m .least) (p .period))) h (go (e .rtt) (all-at (E.recordTests e) 7 k))
+expire-kept m p e done = all-put (modelTests m) 1 (leastOk (J.leastExpired (e .rtt) (e .time) (m .least) (p .period))) h (go (e .rtt) (all-at (E.recordTests e) 7 k))
   where
+    h : modelOk m ≡ true
+    h = judged m p e false done .0
+
+    k : E.recordOk e ≡ true
+    k = judged m p e false done .1
+
     go : (x : MaybeLength) → E.maybeLengthOk x ≡ true → leastOk (J.leastExpired x (e .time) (m .least) (p .period)) ≡ true
     go Missing l = all-at (modelTests m) 1 h
     go (Length d) l = arms leastOk (J.isDue (e .time) (m .least) (p .period)) (record { rtt = d; timestamp = e .time }) (m .least) (and-both (lengthOk d) (momentOk (e .time)) l (all-at (E.recordTests e) 0 k)) (all-at (modelTests m) 1 h)
 
-pub growth-kept : (m : NetworkModel) (p : Params) (e : Record) → modelOk m ≡ true → modelOk (J.growthNext m p e) ≡ true
+pub growth-kept : (m : NetworkModel) (p : Params) (e : Record) → J.judgedNumber m p e (J.growthFull m p e) ≡ 0 → modelOk (J.growthNext m p e) ≡ true
 unfolding modelTests J.growthNext withGrowth J.growthAfter J.growthFlat
-growth-kept m p e h = go (J.hasGrown (m .growth) (maxGet (m .most)) p)
+growth-kept m p e done = go (J.hasGrown (m .growth) (maxGet (m .most)) p)
   where
+    h : modelOk m ≡ true
+    h = judged m p e (J.growthFull m p e) done .0
+
     go : (t : Bool) → modelOk (withGrowth m (cond t (record { reached = m .growth .reached; baseline = maxGet (m .most); flat = 0; queueing = m .growth .queueing; ignore = m .growth .ignore }) (J.growthFlat (m .growth) (e .state) p))) ≡ true
     go true = all-put (modelTests m) 7 (bandwidthOk (maxGet (m .most))) h (most-max (m .most) (all-at (modelTests m) 0 h))
     go false = h
 
-pub queue-kept : (m : NetworkModel) (p : Params) (gain : Float) → modelOk m ≡ true → modelOk (J.queueNext m p gain) ≡ true
-unfolding modelTests J.queueNext withGrowth J.queueAfter
-queue-kept m p gain h = go (J.isQueueing m gain)
+pub queue-kept : (m : NetworkModel) (p : Params) (gain : Float) → J.queueNumber m p gain ≡ 0 → modelOk (J.queueNext m p gain) ≡ true
+unfolding modelTests J.queueNumber J.queueNext withGrowth J.queueAfter
+queue-kept m p gain done = go (J.isQueueing m gain)
   where
+    h : modelOk m ≡ true
+    h = and-left (modelOk m) (paramsOk p) (row-stored (modelOk m && paramsOk p) (not (gainOk gain)) false false (J.isQueueing m gain && eqb (m .growth .queueing) (2 ^ 64 - 1)) done)
+
     go : (t : Bool) → modelOk (withGrowth m (J.queueAfter (m .growth) t p)) ≡ true
     go true = h
     go false = h

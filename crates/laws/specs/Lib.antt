@@ -1,0 +1,2 @@
+-- The laws of all calls, as statements.
+pub mod Laws
