@@ -4,7 +4,7 @@ use mathlib.Core.Logic.{inl, inr}
 use mathlib.Core.Bool.{false}
 use Prim.Native.Nat.{ℕ, _+_, _-_, _*_, _/_, _^_, _≤_, _<_, min}
 use native.Mathlib.Nat.{le-trans, le-of-eq, le-of-lt, lt-of-le-of-lt, le-of-suc-le-suc, eq-or-lt-of-le, le-antisymm, mul-one, one-mul, mul-assoc, mul-comm, mul-pos, mul-le-mul-right, mul-le-mul-left, mul-le-mul}
-use native.Mathlib.Nat.{le-div-iff-mul-le, div-lt-iff-lt-mul, div-mul-le-self, div-le-of-le-mul, lt-div-mul-add, le-of-mul-le-mul-right, le-min, min-le-left, min-eq-left}
+use native.Mathlib.Nat.{le-div-iff-mul-le, div-lt-iff-lt-mul, div-mul-le-self, div-le-of-le-mul, lt-div-mul-add, lt-of-mul-lt-mul-right, mul-lt-mul-of-pos-right, le-min, min-le-left, min-eq-left}
 use native.Mathlib.Omega.{arith}
 use lib.IntN.{pos}
 use lib.Dec.{lit≤, lit<}
@@ -63,13 +63,11 @@ module _ {a c x d : ℕ} (C : 0 < c) (b : Between 13 a c x d) where
   rounded-within : WithinHalf a c W
   rounded-within = record {
     not-over =
-        le-of-mul-le-mul-right
-        (omega (arith, mul-le-mul-right c (div-mul-le-self (x * 2 + d) (d * 2)), mul-le-mul-right c (b .not-over), mul-le-mul-right d (le-of-lt (ceiling-under (a * 8192) c C))))
-        (b .positive);
+        lt-of-mul-lt-mul-right d
+        (omega (arith, mul-le-mul-right c (div-mul-le-self (x * 2 + d) (d * 2)), mul-le-mul-right c (b .not-over), mul-lt-mul-of-pos-right (ceiling-under (a * 8192) c C) (b .positive)));
     not-short =
-        le-of-mul-le-mul-right
-        (omega (arith, mul-le-mul-right c (lt-div-mul-add {a = x * 2 + d} two-d), mul-le-mul-right c (b .not-under), mul-le-mul-right d (lt-div-mul-add {a = a * 8192} C)))
-        (b .positive);
+        lt-of-mul-lt-mul-right d
+        (omega (arith, mul-lt-mul-of-pos-right (lt-div-mul-add {a = x * 2 + d} two-d) C, mul-le-mul-right c (b .not-under), mul-le-mul-right d (lt-div-mul-add {a = a * 8192} C)));
   }
 
   -- x / d at most the whole number n: so is W

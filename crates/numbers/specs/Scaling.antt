@@ -34,10 +34,10 @@ ScaleLaw = (n a c : ℕ) (g : Float) → n ≤ 2 ^ 24 → 0 < c → a ≤ c → 
 abbrev pub ScaleBound : Type 0
 ScaleBound = (n a c : ℕ) (g : Float) → n ≤ 2 ^ 40 → 0 < c → a ≤ c → HasValue g false a c → scaled n g ≤ 2 ^ 40
 
--- r differs from a / c by at most 1/2 + 2 ^ -13, which is 4097 / 8192
+-- r differs from a / c by less than 1/2 + 2 ^ -13, which is 4097 / 8192
 pub record WithinHalf (a c r : ℕ) : Type 0 where
-  pub not-over : r * c * 8192 ≤ a * 8192 + c * 4097
-  pub not-short : a * 8192 ≤ r * c * 8192 + c * 4097
+  pub not-over : r * c * 8192 < a * 8192 + c * 4097
+  pub not-short : a * 8192 < r * c * 8192 + c * 4097
 
 -- n up to 2 ^ 40 is what document 01 lets a bandwidth be
 abbrev pub ScaleF64Law : Type 0

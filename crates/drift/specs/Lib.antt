@@ -1,0 +1,4 @@
+-- Runs of calls, and how far the lower bounds can have moved.
+pub mod Calls
+pub mod Exact
+pub mod Drift
