@@ -26,7 +26,7 @@ pub data Low : Type 0 where
 unfoldable pub inflightLow : State → Low
 inflightLow s = let n = s .model .lower .inflight in cond (eqb n (2 ^ 64 - 1)) none (at n)
 
-abbrev lowOf : MaybeBandwidth → Low
+abbrev pub lowOf : MaybeBandwidth → Low
 lowOf Unset = none
 lowOf (Set b) = at (b .0)
 

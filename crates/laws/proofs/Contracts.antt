@@ -125,7 +125,7 @@ beta-fits p vs h = passes (fits binary32 (p .beta)) (h .1 .1 .0 .1)
 pub event-keeps :
     Keeps event.on_congestion_event_start.Kinds.ps event.on_congestion_event_start.Reads.Learnt (λ (x : Event). x .reply) (λ x. (x .model, x .record)) (λ κs a. (a .0, a .1 .1 .0))
     (both modelOk recordOk)
-event-keeps κs a x s g p = keeps-both modelOk recordOk _ _ _ _ _ _ _ _ (p .0) (p .1 .0) (p .1 .1) (λ h. let f = beta-fits (a .1 .0) _ (g .1 .0) in (N.event-model-kept _ _ _ _ _ f h, N.event-record-kept _ _ _ _ _ f h))
+event-keeps κs a x s g p = keeps-both modelOk recordOk _ _ _ _ _ _ _ _ (p .0) (p .1 .0) (p .1 .1) (λ h. (N.event-model-kept _ _ _ _ _ h (beta-fits (a .1 .0) _ (g .1 .0)), N.event-record-kept _ _ _ _ _ h))
 
 -- ---- the phase entries leave a model and a cycle
 abbrev PhaseKeeps : {n : ℕ} (ps : List (PK n)) {E : Lfts n → Type 0} → ((κs : Lfts n) → Dens κs ps → Entered → E κs → Type 0) → ((κs : Lfts n) → Dens κs ps → NetworkModel × Cycle) → Type 0

@@ -47,7 +47,7 @@ larger-ok : (a b k : ℕ) → leb a k ≡ true → leb b k ≡ true → leb (max
 larger-ok a b k p q = le-leb (max a b) k (omega (arith, leb-true a k p, leb-true b k q))
 
 -- ---- part by part
-most-kept : (f : MaxBandwidthFilter) (b : MaybeBandwidth) (c l : Bool) → mostOk f ≡ true → maybeOk b ≡ true → mostOk (E.mostAfter f b c l) ≡ true
+pub most-kept : (f : MaxBandwidthFilter) (b : MaybeBandwidth) (c l : Bool) → mostOk f ≡ true → maybeOk b ≡ true → mostOk (E.mostAfter f b c l) ≡ true
 unfolding maxUpdate
 most-kept f Unset c l h k = h
 most-kept f (Set b) c l h k =
@@ -60,7 +60,7 @@ least-kept f Missing now h k t = h
 least-kept f (Length d) now h k t = arms leastOk (ltb (d .0) (f .rtt .0)) (record { rtt = d; timestamp = now }) f (and-both (lengthOk d) (momentOk now) k t) h
 
 -- the largest of the filter
-most-max : (f : MaxBandwidthFilter) → mostOk f ≡ true → bandwidthOk (maxGet f) ≡ true
+pub most-max : (f : MaxBandwidthFilter) → mostOk f ≡ true → bandwidthOk (maxGet f) ≡ true
 unfolding maxGet
 most-max f h = larger-ok (f .slot0 .0) (f .slot1 .0) (2 ^ 40) (and-left (bandwidthOk (f .slot0)) (bandwidthOk (f .slot1)) h) (and-right (bandwidthOk (f .slot0)) (bandwidthOk (f .slot1)) h)
 
@@ -196,22 +196,22 @@ less-ok : (a b k : ℕ) → leb a k ≡ true → leb (a - b) k ≡ true
 less-ok a b k h = le-leb (a - b) k (omega (arith, leb-true a k h))
 
 -- ---- the event
-module _ (m : NetworkModel) (p : Params) (e : Record) (s : Sample) (acked : List ℕ) (F : T (fits binary32 (p .beta))) (N : E.eventNumber m p e s acked ≡ 0) where
-  mk : modelOk m ≡ true
+module _ (m : NetworkModel) (p : Params) (e : Record) (s : Sample) (acked : List ℕ) (N : E.eventNumber m p e s acked ≡ 0) where
+  pub event-model : modelOk m ≡ true
   unfolding E.eventNumber
-  mk = and-left (modelOk m) (paramsOk p) (not-false (modelOk m && paramsOk p) (none _ _ _ _ _ N .stored-fine))
+  event-model = and-left (modelOk m) (paramsOk p) (not-false (modelOk m && paramsOk p) (none _ _ _ _ _ N .stored-fine))
 
-  pk : paramsOk p ≡ true
+  event-params : paramsOk p ≡ true
   unfolding E.eventNumber
-  pk = and-right (modelOk m) (paramsOk p) (not-false (modelOk m && paramsOk p) (none _ _ _ _ _ N .stored-fine))
+  event-params = and-right (modelOk m) (paramsOk p) (not-false (modelOk m && paramsOk p) (none _ _ _ _ _ N .stored-fine))
 
-  rk : E.recordOk e ≡ true
+  event-record : E.recordOk e ≡ true
   unfolding E.eventNumber
-  rk = and-left (E.recordOk e) (E.sampleOk s) (not-false (E.recordOk e && E.sampleOk s) (none _ _ _ _ _ N .argument-fine))
+  event-record = and-left (E.recordOk e) (E.sampleOk s) (not-false (E.recordOk e && E.sampleOk s) (none _ _ _ _ _ N .argument-fine))
 
-  sk : E.sampleOk s ≡ true
+  pub event-sample : E.sampleOk s ≡ true
   unfolding E.eventNumber
-  sk = and-right (E.recordOk e) (E.sampleOk s) (not-false (E.recordOk e && E.sampleOk s) (none _ _ _ _ _ N .argument-fine))
+  event-sample = and-right (E.recordOk e) (E.sampleOk s) (not-false (E.recordOk e && E.sampleOk s) (none _ _ _ _ _ N .argument-fine))
 
   acked-up : m .totals .acked ≤ s .totals .acked
   unfolding E.eventNumber
@@ -226,52 +226,52 @@ module _ (m : NetworkModel) (p : Params) (e : Record) (s : Sample) (acked : List
 
   inflight-ok : bytesOk (e .prior - E.bytesAcked m s - E.bytesLost m s) ≡ true
   unfolding E.recordTests
-  inflight-ok = less-ok (e .prior - E.bytesAcked m s) (E.bytesLost m s) (2 ^ 40) (less-ok (e .prior) (E.bytesAcked m s) (2 ^ 40) (all-at (E.recordTests e) 2 rk))
+  inflight-ok = less-ok (e .prior - E.bytesAcked m s) (E.bytesLost m s) (2 ^ 40) (less-ok (e .prior) (E.bytesAcked m s) (2 ^ 40) (all-at (E.recordTests e) 2 event-record))
 
   pub event-record-kept : E.recordOk (E.recordNext m e s acked) ≡ true
   unfolding E.recordTests E.sampleTests E.recordNext E.recordOf E.stateAfter
   event-record-kept =
-      let totals : totalsOk (s .totals) ≡ true = all-at (E.sampleTests s) 7 sk in
+      let totals : totalsOk (s .totals) ≡ true = all-at (E.sampleTests s) 7 event-sample in
       simp (
-        all-at (E.recordTests e) 0 rk,
-        all-at (E.recordTests e) 1 rk,
-        all-at (E.recordTests e) 2 rk,
+        all-at (E.recordTests e) 0 event-record,
+        all-at (E.recordTests e) 1 event-record,
+        all-at (E.recordTests e) 2 event-record,
         inflight-ok,
         less-ok (s .totals .acked) (m .totals .acked) (2 ^ 62) (and-left (totalOk (s .totals .acked)) (totalOk (s .totals .lost)) totals),
         less-ok (s .totals .lost) (m .totals .lost) (2 ^ 62) (and-right (totalOk (s .totals .acked)) (totalOk (s .totals .lost)) totals),
-        bandwidth (s .bandwidth) (all-at (E.sampleTests s) 0 sk),
-        rtt (s .rtt) (all-at (E.sampleTests s) 3 sk),
-        arms E.stateOk (s .state .valid) (s .state) (e .state) (all-at (E.sampleTests s) 6 sk) (all-at (E.recordTests e) 8 rk),
+        bandwidth (s .bandwidth) (all-at (E.sampleTests s) 0 event-sample),
+        rtt (s .rtt) (all-at (E.sampleTests s) 3 event-sample),
+        arms E.stateOk (s .state .valid) (s .state) (e .state) (all-at (E.sampleTests s) 6 event-sample) (all-at (E.recordTests e) 8 event-record),
       )
     where
       bandwidth : (x : MaybeBandwidth) → maybeOk x ≡ true → maybeOk (E.bandwidthAfter (e .bandwidth) x (E.isChanged m s)) ≡ true
-      bandwidth Unset h = all-at (E.recordTests e) 6 rk
-      bandwidth (Set b) h = arms maybeOk (E.isChanged m s) (Set b) (e .bandwidth) h (all-at (E.recordTests e) 6 rk)
+      bandwidth Unset h = all-at (E.recordTests e) 6 event-record
+      bandwidth (Set b) h = arms maybeOk (E.isChanged m s) (Set b) (e .bandwidth) h (all-at (E.recordTests e) 6 event-record)
 
       rtt : (x : MaybeLength) → E.maybeLengthOk x ≡ true → E.maybeLengthOk (E.rttAfter (e .rtt) x) ≡ true
-      rtt Missing h = all-at (E.recordTests e) 7 rk
+      rtt Missing h = all-at (E.recordTests e) 7 event-record
       rtt (Length d) h = h
 
-  pub event-model-kept : modelOk (E.modelNext m p e s acked) ≡ true
+  pub event-model-kept : T (fits binary32 (p .beta)) → modelOk (E.modelNext m p e s acked) ≡ true
   unfolding modelTests E.recordTests E.sampleTests E.modelNext E.modelOf E.recordNext E.recordOf E.mostNext E.roundNext E.lowerNext
-  event-model-kept =
-      let bandwidth = all-at (E.sampleTests s) 0 sk in
-      let inflight = all-at (E.sampleTests s) 4 sk in
-      let totals = all-at (E.sampleTests s) 7 sk in
-      let most = most-kept (m .most) (s .bandwidth) (E.isChanged m s) (s .limited) (all-at (modelTests m) 0 mk) bandwidth in
-      let raised = raised-kept (m .latest) s (all-at (modelTests m) 3 mk) bandwidth inflight in
+  event-model-kept fit =
+      let bandwidth = all-at (E.sampleTests s) 0 event-sample in
+      let inflight = all-at (E.sampleTests s) 4 event-sample in
+      let totals = all-at (E.sampleTests s) 7 event-sample in
+      let most = most-kept (m .most) (s .bandwidth) (E.isChanged m s) (s .limited) (all-at (modelTests m) 0 event-model) bandwidth in
+      let raised = raised-kept (m .latest) s (all-at (modelTests m) 3 event-model) bandwidth inflight in
       simp (
         most,
-        least-kept (m .least) (s .rtt) (e .time) (all-at (modelTests m) 1 mk) (all-at (E.sampleTests s) 3 sk) (all-at (E.recordTests e) 0 rk),
-        round-kept (m .round) (m .totals) (s .totals) (E.deliveredBy (after .state) (E.bytesAcked m s) (s .totals .acked)) (e .prior - E.bytesAcked m s - E.bytesLost m s) (all-at (modelTests m) 2 mk) totals acked-up lost-up (delivered-le (after .state) (E.bytesAcked m s) (s .totals .acked)) inflight-ok,
+        least-kept (m .least) (s .rtt) (e .time) (all-at (modelTests m) 1 event-model) (all-at (E.sampleTests s) 3 event-sample) (all-at (E.recordTests e) 0 event-record),
+        round-kept (m .round) (m .totals) (s .totals) (E.deliveredBy (after .state) (E.bytesAcked m s) (s .totals .acked)) (e .prior - E.bytesAcked m s - E.bytesLost m s) (all-at (modelTests m) 2 event-model) totals acked-up lost-up (delivered-le (after .state) (E.bytesAcked m s) (s .totals .acked)) inflight-ok,
         latest-kept (E.latestRaised (m .latest) s) (after .ended) s raised bandwidth inflight,
-        lower-kept (m .lower) (E.acts (after .ended) (after .probing) (E.roundNext m after s .lost)) (maxGet (E.mostNext m s)) (E.latestRaised (m .latest) s) (e .window) (p .beta) (beta-parts p F pk) (all-at (modelTests m) 4 mk) (most-max (E.mostNext m s) most) raised (all-at (E.recordTests e) 1 rk),
-        all-at (modelTests m) 5 mk,
-        all-at (modelTests m) 6 mk,
-        all-at (modelTests m) 7 mk,
-        and-both (maybeOk (s .send)) (maybeOk (s .ack)) (all-at (E.sampleTests s) 1 sk) (all-at (E.sampleTests s) 2 sk),
+        lower-kept (m .lower) (E.acts (after .ended) (after .probing) (E.roundNext m after s .lost)) (maxGet (E.mostNext m s)) (E.latestRaised (m .latest) s) (e .window) (p .beta) (beta-parts p fit event-params) (all-at (modelTests m) 4 event-model) (most-max (E.mostNext m s) most) raised (all-at (E.recordTests e) 1 event-record),
+        all-at (modelTests m) 5 event-model,
+        all-at (modelTests m) 6 event-model,
+        all-at (modelTests m) 7 event-model,
+        and-both (maybeOk (s .send)) (maybeOk (s .ack)) (all-at (E.sampleTests s) 1 event-sample) (all-at (E.sampleTests s) 2 event-sample),
         totals,
-        all-at (E.recordTests e) 0 rk,
+        all-at (E.recordTests e) 0 event-record,
       )
 
 -- ---- the calls that judge the round

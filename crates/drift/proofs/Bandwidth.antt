@@ -1,0 +1,131 @@
+-- bandwidth_lo follows the exact run (`bandwidth-drift`). Assumes nothing.
+use Prim.Native.Nat.{ℕ, min, max, _+_, _-_, _*_, _^_, _≤_, _<_}
+use mathlib.Core.Bool.{Bool, true, false, cond, _&&_}
+use mathlib.Core.List.{List}
+use mathlib.Core.Path.{_≡_, refl, sym, subst}
+use native.Mathlib.Omega.{arith}
+use lib.Dec.{eqb}
+use lib.Ieee.{Float}
+use borrow.Author.Tests.{leb-true}
+use Rattle.numbers.specs.Scaling.{scaledF64, complement, Parts}
+use Rattle.numbers.proofs.ScaleLaws.{scale-f64-law}
+use Rattle.filters.specs.declared.bandwidth.Bandwidth.{Bandwidth}
+use Rattle.filters.specs.declared.time.Duration.{Duration}
+use Rattle.filters.specs.declared.time.Moment.{Moment}
+use Rattle.filters.specs.Bandwidth.{largerOf, timesF32}
+use Rattle.filters.specs.MaxBandwidthFilter.{maxGet}
+use Rattle.model.specs.declared.network_model.NetworkModel.{NetworkModel}
+use Rattle.model.specs.declared.params.Params.{Params}
+use Rattle.model.specs.declared.state.Lower.{Lower}
+use Rattle.model.specs.declared.state.MaybeBandwidth.{MaybeBandwidth}
+use Rattle.model.specs.declared.state.MaybeBandwidth.the-variants.{Unset, Set}
+use Rattle.model.specs.Answers.{settled, noLength, noMoment}
+use Rattle.model.specs.Bounds.{bandwidthOk, maybeOk, bytesOrUnsetOk, modelTests}
+use Rattle.model.specs.Calls.{one, startNumber, startModel, modelNew, withRounds, withRound, withLower, withGrowth, withMoment, restartNext, capNext, clearInflightNext, clearBandwidthNext}
+use Rattle.model.specs.State.{lowerCapped}
+use Rattle.model.proofs.Rows.{and-left, all-at}
+use Rattle.events.specs.declared.record.Record.{Record}
+use Rattle.events.specs.declared.record.Sample.{Sample}
+use Rattle.events.specs.Event as E
+use Rattle.phases.specs.declared.cycle.Cycle.{Cycle}
+use Rattle.phases.specs.Phases.{restartedAt, cruiseModel, refillModel, leftModel}
+use Rattle.laws.proofs.Events.{event-model, event-sample, most-kept, most-max}
+use Rattle.drift.specs.Calls.{Call, event, cap, clearInflight, clearBandwidth, cruise, refill, other, State, numberOf, nextOf, run, started}
+use Rattle.drift.specs.Exact.{Turn, stays, clears, reduces, Exact, unset, over, isReduced, bandwidthTurn, exactly, exactRun}
+use Rattle.drift.specs.Drift.{none, at, lowOf, bandwidthLow, Differ, Follows, HasBeta, BandwidthDrift}
+use Rattle.drift.proofs.Others.{other-apart, left-same}
+use Rattle.drift.proofs.Runs.{run-kept}
+use Rattle.drift.proofs.Sums.{Held, near, first, again}
+
+module _ (beta : Float) (b : Parts (complement beta)) where
+  abbrev cut : Bandwidth → Bandwidth
+  cut x = timesF32 x (complement beta)
+
+  -- one cut of a bandwidth within its bound is off by less than 4097 / 8192
+  step : (x : Bandwidth) → bandwidthOk x ≡ true → Differ (cut x .0 * 2 ^ 24 * 8192) (x .0 * b .parts * 8192) (2 ^ 24 * 4097)
+  unfolding timesF32
+  step x h =
+      let law = scale-f64-law (x .0) (b .parts) (2 ^ 24) (complement beta) (leb-true (x .0) (2 ^ 40) h) (omega arith) (omega (arith, b .not-all)) (b .value) .0 in
+      (omega (arith, law .not-over), omega (arith, law .not-short))
+
+  -- ---- what is kept
+  abbrev Kept : MaybeBandwidth → Exact → Type 0
+  Kept Unset unset = Unit {0}
+  Kept Unset (over num k) = ⊥
+  Kept (Set x) unset = ⊥
+  Kept (Set x) (over num k) = Held 4097 8192 (b .parts) (x .0) num k
+
+  follows : (l : MaybeBandwidth) (x : Exact) → Kept l x → Follows 4097 8192 (b .parts) (lowOf l) x
+  follows Unset unset h = tt
+  follows Unset (over num k) h = absurd h
+  follows (Set y) unset h = absurd h
+  follows (Set y) (over num k) h = near 4097 8192 (b .parts) (y .0) num k (b .not-all) h
+
+  -- ---- the calls
+  reduce-kept : (l : MaybeBandwidth) (seed latest : Bandwidth) (x : Exact) → maybeOk l ≡ true → bandwidthOk seed ≡ true → Kept l x
+      → Kept (Set (largerOf latest (cut (E.seedOf l seed)))) (exactly (b .parts) (reduces (seed .0) (latest .0)) x)
+  unfolding exactly
+  reduce-kept Unset seed latest unset p q h = first 4097 8192 (b .parts) (seed .0) (cut seed .0) (latest .0) (step seed q)
+  reduce-kept Unset seed latest (over num k) p q h = absurd h
+  reduce-kept (Set y) seed latest unset p q h = absurd h
+  reduce-kept (Set y) seed latest (over num k) p q h = again 4097 8192 (b .parts) (y .0) (cut y .0) num k (latest .0) (step y p) h
+
+  event-kept : (m : NetworkModel) (p : Params) (e : Record) (s : Sample) (acked : List ℕ) (x : Exact) → p .beta ≡ beta → E.eventNumber m p e s acked ≡ 0 → Kept (m .lower .bandwidth) x
+      → Kept (E.modelNext m p e s acked .lower .bandwidth) (exactly (b .parts) (cond (isReduced m e s acked) (reduces (maxGet (E.mostNext m s) .0) (E.latestRaised (m .latest) s .bandwidth .0)) stays) x)
+  unfolding modelTests E.sampleTests E.modelNext E.modelOf E.lowerNext E.lowerAfter E.lowerReduced E.recordNext E.recordOf E.mostNext isReduced exactly
+  event-kept m p e s acked x same done h = go (E.acts (after .ended) (after .probing) (E.roundNext m after s .lost))
+    where
+      after : Record
+      after = E.recordNext m e s acked
+
+      lo-ok : maybeOk (m .lower .bandwidth) ≡ true
+      lo-ok = and-left (maybeOk (m .lower .bandwidth)) (bytesOrUnsetOk (m .lower .inflight)) (all-at (modelTests m) 4 (event-model m p e s acked done))
+
+      most-ok : bandwidthOk (maxGet (E.mostNext m s)) ≡ true
+      most-ok = most-max (E.mostNext m s) (most-kept (m .most) (s .bandwidth) (E.isChanged m s) (s .limited) (all-at (modelTests m) 0 (event-model m p e s acked done)) (all-at (E.sampleTests s) 0 (event-sample m p e s acked done)))
+
+      go : (t : Bool) →
+          Kept (cond t (E.lowerReduced (m .lower) (maxGet (E.mostNext m s)) (E.latestRaised (m .latest) s) (e .window) (complement (p .beta))) (m .lower) .bandwidth)
+          (exactly (b .parts) (cond t (reduces (maxGet (E.mostNext m s) .0) (E.latestRaised (m .latest) s .bandwidth .0)) stays) x)
+      go true =
+          let most = maxGet (E.mostNext m s) in
+          let latest = E.latestRaised (m .latest) s .bandwidth in
+          subst (λ (f : Float). Kept (Set (largerOf latest (timesF32 (E.seedOf (m .lower .bandwidth) most) (complement f)))) (exactly (b .parts) (reduces (most .0) (latest .0)) x)) (sym same)
+          (reduce-kept (m .lower .bandwidth) most latest x lo-ok most-ok h)
+      go false = h
+
+  same-kept : (l old : Lower) (x : Exact) → l ≡ old → Kept (old .bandwidth) x → Kept (l .bandwidth) x
+  same-kept l old x p h = subst (λ (z : Lower). Kept (z .bandwidth) x) (sym p) h
+
+  capped-kept : (l : Lower) (bytes : ℕ) (x : Exact) → Kept (l .bandwidth) x → Kept (lowerCapped l bytes .bandwidth) x
+  unfolding lowerCapped
+  capped-kept l bytes x h = go (eqb (l .inflight) (2 ^ 64 - 1))
+    where
+      go : (t : Bool) → Kept (cond t l (record { bandwidth = l .bandwidth; inflight = min bytes (l .inflight) }) .bandwidth) x
+      go true = h
+      go false = h
+
+  next-kept : (c : Call) (s : State) (x : Exact) → HasBeta beta c → numberOf c s ≡ 0 → Kept (s .model .lower .bandwidth) x → Kept (nextOf c s .model .lower .bandwidth) (exactly (b .parts) (bandwidthTurn c s) x)
+  unfolding numberOf nextOf bandwidthTurn exactly capNext clearInflightNext clearBandwidthNext withLower cruiseModel withMoment refillModel restartedAt restartNext withGrowth withRounds withRound
+  next-kept (event p e y acked) s x same done h = event-kept (s .model) p e y acked x same done h
+  next-kept (cap bytes) s x same done h = capped-kept (s .model .lower) bytes x h
+  next-kept clearInflight s x same done h = h
+  next-kept clearBandwidth s x same done h = tt
+  next-kept (cruise now) s x same done h =
+      let l = leftModel (s .model) (s .cycle) in capped-kept (l .lower) (l .high) x (same-kept (l .lower) (s .model .lower) x (left-same (s .model) (s .cycle) .lower) h)
+  next-kept (refill rounds now) s x same done h = tt
+  next-kept (other c) s x same done h = same-kept (nextOf (other c) s .model .lower) (s .model .lower) x (other-apart c s .lower) h
+
+  start-kept : (p : Params) (rtt : Duration) (now : Moment) → Kept (started p rtt now .model .lower .bandwidth) unset
+  unfolding started startModel settled modelNew
+  start-kept p rtt now = go (eqb (startNumber p rtt now) 0)
+    where
+      go : (t : Bool) → Kept (cond t (modelNew (p .cwnd) (p .pacing) (p .ignore) rtt now) (modelNew one one false noLength noMoment) .lower .bandwidth) unset
+      go true = tt
+      go false = tt
+
+pub bandwidth-drift : BandwidthDrift
+unfolding bandwidthLow
+bandwidth-drift beta b p rtt now calls begun same =
+    follows beta b (run calls (started p rtt now) .model .lower .bandwidth) (exactRun bandwidthTurn (b .parts) calls (started p rtt now) unset)
+    (run-kept bandwidthTurn (b .parts) (λ s x. Kept beta b (s .model .lower .bandwidth) x) (HasBeta beta) (next-kept beta b) calls (started p rtt now) unset same (start-kept beta b p rtt now))
