@@ -4,3 +4,4 @@ pub mod Others
 pub mod Runs
 pub mod Inflight
 pub mod Bandwidth
+pub mod Returned

@@ -2,3 +2,4 @@
 pub mod Calls
 pub mod Exact
 pub mod Drift
+pub mod Returned

@@ -1,0 +1,123 @@
+-- What the public functions return is what the definitions say, so the theorems hold of it. Assumes nothing.
+use Prim.Native.Nat.{ℕ}
+use mathlib.Core.Bool.{Bool, true, false, cond}
+use mathlib.Core.List.{List, [], _∷_}
+use mathlib.Core.Path.{_≡_, refl, sym, ap, subst, _∙_}
+use lib.Dec.{eqb}
+use lib.Ieee.{Float}
+use denote.Ref.{now}
+use Rattle.filters.specs.declared.time.Duration.{Duration}
+use Rattle.filters.specs.declared.time.Moment.{Moment}
+use Rattle.model.specs.declared.network_model.NetworkModel.{NetworkModel}
+use Rattle.model.specs.declared.params.Params.{Params}
+use Rattle.model.specs.Answers.{settled}
+use Rattle.model.specs.Calls.{startModel}
+use Rattle.events.specs.declared.record.Record.{Record}
+use Rattle.events.specs.declared.record.Sample.{Sample}
+use Rattle.events.specs.Event.{eventNumber, modelNext}
+use Rattle.phases.specs.declared.cycle.Cycle.{Cycle}
+use Rattle.phases.specs.Cycle.{freshCycle}
+use Rattle.drift.specs.Calls as Calls
+use Rattle.drift.specs.Calls.{Call, Other, State, otherNumber, otherNext, numberOf, nextOf, after, run, started}
+use Rattle.drift.specs.Exact.{Exact, unset, inflightTurn, bandwidthTurn, exactRun}
+use Rattle.drift.specs.Drift.{inflightLow, bandwidthLow, Follows}
+use Rattle.drift.specs.Returned.{Returned, Leaves, MadeOther, Made, Begun, Ran, CodeInflightDrift, CodeBandwidthDrift}
+use Rattle.drift.proofs.Inflight.{inflight-drift}
+use Rattle.drift.proofs.Bandwidth.{bandwidth-drift}
+
+-- ---- the state, settled part by part
+model-made : (s t : State) (k : ℕ) (got next : NetworkModel) → got ≡ settled k next (s .model) → t ≡ record { model = got; cycle = s .cycle } → t ≡ settled k (record { model = next; cycle = s .cycle }) s
+unfolding settled
+model-made s t k got next p q = q ∙ ap (λ (m : NetworkModel). record { model = m; cycle = s .cycle }) p ∙ go (eqb k 0)
+  where
+    go : (b : Bool) → _≡_ {A = State} (record { model = cond b next (s .model); cycle = s .cycle }) (cond b (record { model = next; cycle = s .cycle }) s)
+    go true = refl
+    go false = refl
+
+cycle-made : (s t : State) (k : ℕ) (got next : Cycle) → got ≡ settled k next (s .cycle) → t ≡ record { model = s .model; cycle = got } → t ≡ settled k (record { model = s .model; cycle = next }) s
+unfolding settled
+cycle-made s t k got next p q = q ∙ ap (λ (c : Cycle). record { model = s .model; cycle = c }) p ∙ go (eqb k 0)
+  where
+    go : (b : Bool) → _≡_ {A = State} (record { model = s .model; cycle = cond b next (s .cycle) }) (cond b (record { model = s .model; cycle = next }) s)
+    go true = refl
+    go false = refl
+
+both-made : (s t : State) (k : ℕ) (got next : NetworkModel) (turned entered : Cycle) → got ≡ settled k next (s .model) → turned ≡ settled k entered (s .cycle) → t ≡ record { model = got; cycle = turned }
+    → t ≡ settled k (record { model = next; cycle = entered }) s
+unfolding settled
+both-made s t k got next turned entered p r q = q ∙ (λ i. record { model = p i; cycle = r i }) ∙ go (eqb k 0)
+  where
+    go : (b : Bool) → _≡_ {A = State} (record { model = cond b next (s .model); cycle = cond b entered (s .cycle) }) (cond b (record { model = next; cycle = entered }) s)
+    go true = refl
+    go false = refl
+
+-- ---- what a contract says of the arguments given
+said : {K : Type 0} {A E : K → Type 0} {R : Type 0} (learnt : (κ : K) → A κ → R → E κ → Type 0) (args : (κ : K) → A κ) (left : R → State) (t : State)
+    → Leaves learnt args left t → (κ : K) × (x : R) × (e : E κ) × learnt κ (args κ) x e × (t ≡ left x)
+said {K} {A} learnt args left t r = (r .0, r .2, r .3, subst (λ (a : A (r .0)). learnt (r .0) a (r .2) (r .3)) (r .5 .0) (r .4), r .5 .1)
+
+made-other : (c : Other) (s t : State) → MadeOther c s t → t ≡ settled (otherNumber c s) (otherNext c s) s
+unfolding otherNumber otherNext
+made-other (Calls.sent time inflight packet bytes) s t r = let q = said _ _ _ t r in model-made s t _ _ _ (q .3 .1) (q .4)
+made-other (Calls.finish e) s t r = let q = said _ _ _ t r in model-made s t _ _ _ (q .3 .1) (q .4)
+made-other (Calls.expire p e) s t r = let q = said _ _ _ t r in model-made s t _ _ _ (q .3 .1 .0) (q .4)
+made-other (Calls.growth p e) s t r = let q = said _ _ _ t r in model-made s t _ _ _ (q .3 .1 .0) (q .4)
+made-other (Calls.queue p gain) s t r = let q = said _ _ _ t r in model-made s t _ _ _ (q .3 .1) (q .4)
+made-other Calls.restart s t r = let q = said _ _ _ t r in model-made s t _ _ _ (q .3 .1) (q .4)
+made-other Calls.reached s t r = let q = said _ _ _ t r in model-made s t _ _ _ (q .3 .1) (q .4)
+made-other (Calls.pacing gain) s t r = let q = said _ _ _ t r in model-made s t _ _ _ (q .3 .1) (q .4)
+made-other (Calls.cwnd gain) s t r = let q = said _ _ _ t r in model-made s t _ _ _ (q .3 .1) (q .4)
+made-other (Calls.high bytes) s t r = let q = said _ _ _ t r in model-made s t _ _ _ (q .3 .1) (q .4)
+made-other Calls.advance s t r = let q = said _ _ _ t r in model-made s t _ _ _ (q .3 .1) (q .4)
+made-other (Calls.postpone d) s t r = let q = said _ _ _ t r in model-made s t _ _ _ (q .3 .1) (q .4)
+made-other (Calls.down p hi risky time) s t r = let q = said _ _ _ t r in both-made s t _ _ _ _ _ (q .3 .1 .0) (q .3 .1 .1) (q .4)
+made-other (Calls.up time window) s t r = let q = said _ _ _ t r in both-made s t _ _ _ _ _ (q .3 .1 .0) (q .3 .1 .1) (q .4)
+made-other Calls.exit s t r = let q = said _ _ _ t r in both-made s t _ _ _ _ _ (q .3 .1 .0) (q .3 .1 .1) (q .4)
+made-other (Calls.slope window) s t r = let q = said _ _ _ t r in cycle-made s t _ _ _ (q .3 .1) (q .4)
+
+event-same : {m m′ : NetworkModel} {p p′ : Params} {e e′ : Record} {y y′ : Sample} {l l′ : List ℕ} → m ≡ m′ → p ≡ p′ → e ≡ e′ → y ≡ y′ → l ≡ l′
+    → settled (eventNumber m p e y l) (modelNext m p e y l) m ≡ settled (eventNumber m′ p′ e′ y′ l′) (modelNext m′ p′ e′ y′ l′) m′
+event-same a b c d f = λ i. settled (eventNumber (a i) (b i) (c i) (d i) (f i)) (modelNext (a i) (b i) (c i) (d i) (f i)) (a i)
+
+event-made : (p : Params) (e : Record) (y : Sample) (acked : List ℕ) (s t : State) → Made (Calls.event p e y acked) s t → t ≡ settled (eventNumber (s .model) p e y acked) (record { model = modelNext (s .model) p e y acked; cycle = s .cycle }) s
+event-made p e y acked s t r =
+    let q = r .5 in model-made s t _ _ _ (r .4 .1 .0 ∙ event-same (q .0) (q .1) (q .2) (q .3) (q .4)) (q .5)
+
+made : (c : Call) (s t : State) → Made c s t → t ≡ after c s
+unfolding after numberOf nextOf
+made (Calls.event p e y acked) s t r = event-made p e y acked s t r
+made (Calls.cap bytes) s t r = let q = said _ _ _ t r in model-made s t _ _ _ (q .3 .1) (q .4)
+made Calls.clearInflight s t r = let q = said _ _ _ t r in model-made s t _ _ _ (q .3 .1) (q .4)
+made Calls.clearBandwidth s t r = let q = said _ _ _ t r in model-made s t _ _ _ (q .3 .1) (q .4)
+made (Calls.cruise time) s t r = let q = said _ _ _ t r in both-made s t _ _ _ _ _ (q .3 .1 .0) (q .3 .1 .1) (q .4)
+made (Calls.refill rounds time) s t r = let q = said _ _ _ t r in both-made s t _ _ _ _ _ (q .3 .1 .0) (q .3 .1 .1) (q .4)
+made (Calls.other c) s t r = made-other c s t r
+
+ran : (calls : List Call) (s t : State) → Ran calls s t → t ≡ run calls s
+unfolding run
+ran [] s t r = r
+ran (c ∷ calls) s t r = ran calls (r .0) t (r .2) ∙ ap (run calls) (made c s (r .0) (r .1))
+
+start-same : {p p′ : Params} {d d′ : Duration} {t t′ : Moment} → p ≡ p′ → d ≡ d′ → t ≡ t′ → startModel p d t ≡ startModel p′ d′ t′
+start-same a b c = λ i. startModel (a i) (b i) (c i)
+
+begun : (p : Params) (rtt : Duration) (time : Moment) (s : State) → Begun p rtt time s → s ≡ started p rtt time
+unfolding started
+begun p rtt time s r =
+    let m = r .0 .5 in
+    let c = r .1 .5 in
+    let model : s .model ≡ startModel p rtt time = m .1 ∙ r .0 .4 .1 ∙ start-same (λ i. m .0 i .0) (λ i. m .0 i .1 .0) (λ i. m .0 i .1 .1 .0) in
+    let cycle : s .cycle ≡ freshCycle time = c .1 ∙ r .1 .4 .1 ∙ ap freshCycle (λ i. c .0 i .0) in
+    λ i. record { model = model i; cycle = cycle i }
+
+pub code-inflight-drift : CodeInflightDrift
+code-inflight-drift beta b p rtt time calls s t done same sizes r q =
+    let e = begun p rtt time s r in
+    subst (λ (z : State). Follows 1 1 (b .parts) (inflightLow z) (exactRun inflightTurn (b .parts) calls s unset)) (sym (ran calls s t q))
+    (subst (λ (z : State). Follows 1 1 (b .parts) (inflightLow (run calls z)) (exactRun inflightTurn (b .parts) calls z unset)) (sym e) (inflight-drift beta b p rtt time calls done same sizes))
+
+pub code-bandwidth-drift : CodeBandwidthDrift
+code-bandwidth-drift beta b p rtt time calls s t done same r q =
+    let e = begun p rtt time s r in
+    subst (λ (z : State). Follows 4097 8192 (b .parts) (bandwidthLow z) (exactRun bandwidthTurn (b .parts) calls s unset)) (sym (ran calls s t q))
+    (subst (λ (z : State). Follows 4097 8192 (b .parts) (bandwidthLow (run calls z)) (exactRun bandwidthTurn (b .parts) calls z unset)) (sym e) (bandwidth-drift beta b p rtt time calls done same))

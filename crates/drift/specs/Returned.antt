@@ -1,0 +1,82 @@
+-- The same of the code: a run made by the public functions themselves, of which no more is known than their contracts.
+use Prim.Native.Nat.{ℕ}
+use mathlib.Core.List.{List, [], _∷_}
+use mathlib.Core.Path.{_≡_}
+use denote.Ref.{now}
+use lib.Ieee.{Float}
+use Rattle.numbers.specs.Scaling.{complement, Parts}
+use Rattle.filters.specs.declared.time.Duration.{Duration}
+use Rattle.filters.specs.declared.time.Moment.{Moment}
+use Rattle.model.specs.declared.params.Params.{Params}
+use Rattle.model.specs.Calls.{startNumber}
+use Rattle.model.proofs.network_model.NetworkModel as model
+use Rattle.events.proofs.event as events
+use Rattle.events.proofs.judge as judge
+use Rattle.phases.proofs.cycle.Cycle as cycle
+use Rattle.phases.proofs.phases as phases
+use Rattle.drift.specs.Calls as Calls
+use Rattle.drift.specs.Calls.{Call, Other, State}
+use Rattle.drift.specs.Exact.{unset, inflightTurn, bandwidthTurn, exactRun}
+use Rattle.drift.specs.Drift.{inflightLow, bandwidthLow, Follows, All, HasBeta, IsSmall}
+
+-- a function was called and has returned: P of its arguments and its reply, of which its contract holds (`Reads.Learnt`, as the checker reads it)
+abbrev pub Returned : {K : Type 0} {A E : K → Type 0} {R : Type 0} → ((κ : K) → A κ → R → E κ → Type 0) → ((κ : K) → A κ → R → Type 0) → Type 0
+Returned {K} {A} {E} {R} learnt P = (κ : K) × (a : A κ) × (x : R) × (e : E κ) × learnt κ a x e × P κ a x
+
+-- it was called with these arguments, and its reply makes this state
+abbrev pub Leaves : {K : Type 0} {A E : K → Type 0} {R : Type 0} → ((κ : K) → A κ → R → E κ → Type 0) → ((κ : K) → A κ) → (R → State) → State → Type 0
+Leaves learnt args left t = Returned learnt (λ κ a x. (a ≡ args κ) × (t ≡ left x))
+
+-- ---- a call by the public function of its name: the state s becomes t
+abbrev pub MadeOther : Other → State → State → Type 0
+MadeOther (Calls.sent time inflight packet bytes) s t = Leaves model.on_packet_sent.Reads.Learnt (λ κ. (s .model, (time, (inflight, (packet, (bytes, tt)))))) (λ x. record { model = x .model; cycle = s .cycle }) t
+MadeOther (Calls.finish e) s t = Leaves judge.on_congestion_event_finish.Reads.Learnt (λ κ. (s .model, (e, tt))) (λ x. record { model = x .model; cycle = s .cycle }) t
+MadeOther (Calls.expire p e) s t = Leaves judge.maybe_expire_min_rtt.Reads.Learnt (λ κ. (s .model, (p, (e, tt)))) (λ x. record { model = x .model; cycle = s .cycle }) t
+MadeOther (Calls.growth p e) s t = Leaves judge.has_bandwidth_growth.Reads.Learnt (λ κ. (s .model, (p, (e, tt)))) (λ x. record { model = x .model; cycle = s .cycle }) t
+MadeOther (Calls.queue p gain) s t = Leaves judge.check_persistent_queue.Reads.Learnt (λ κ. (s .model, (p, (gain, tt)))) (λ x. record { model = x .model; cycle = s .cycle }) t
+MadeOther Calls.restart s t = Leaves model.restart_round_early.Reads.Learnt (λ κ. (s .model, tt)) (λ x. record { model = x .model; cycle = s .cycle }) t
+MadeOther Calls.reached s t = Leaves model.set_full_bandwidth_reached.Reads.Learnt (λ κ. (s .model, tt)) (λ x. record { model = x .model; cycle = s .cycle }) t
+MadeOther (Calls.pacing gain) s t = Leaves model.set_pacing_gain.Reads.Learnt (λ κ. (s .model, (gain, tt))) (λ x. record { model = x .model; cycle = s .cycle }) t
+MadeOther (Calls.cwnd gain) s t = Leaves model.set_cwnd_gain.Reads.Learnt (λ κ. (s .model, (gain, tt))) (λ x. record { model = x .model; cycle = s .cycle }) t
+MadeOther (Calls.high bytes) s t = Leaves model.set_inflight_hi.Reads.Learnt (λ κ. (s .model, (bytes, tt))) (λ x. record { model = x .model; cycle = s .cycle }) t
+MadeOther Calls.advance s t = Leaves model.advance_max_bandwidth_filter.Reads.Learnt (λ κ. (s .model, tt)) (λ x. record { model = x .model; cycle = s .cycle }) t
+MadeOther (Calls.postpone d) s t = Leaves model.postpone_min_rtt_timestamp.Reads.Learnt (λ κ. (s .model, (d, tt))) (λ x. record { model = x .model; cycle = s .cycle }) t
+MadeOther (Calls.down p hi risky time) s t = Leaves phases.enter_probe_down.Reads.Learnt (λ κ. (s .model, (s .cycle, (p, (hi, (risky, (time, tt))))))) (λ x. record { model = x .model; cycle = x .cycle }) t
+MadeOther (Calls.up time window) s t = Leaves phases.enter_probe_up.Reads.Learnt (λ κ. (s .model, (s .cycle, (time, (window, tt))))) (λ x. record { model = x .model; cycle = x .cycle }) t
+MadeOther Calls.exit s t = Leaves phases.exit_probe_down.Reads.Learnt (λ κ. (s .model, (s .cycle, tt))) (λ x. record { model = x .model; cycle = x .cycle }) t
+MadeOther (Calls.slope window) s t = Leaves phases.raise_inflight_high_slope.Reads.Learnt (λ κ. (s .cycle, (window, tt))) (λ x. record { model = s .model; cycle = x .cycle }) t
+
+abbrev pub Made : Call → State → State → Type 0
+Made (Calls.event p e y acked) s t =
+    Returned events.on_congestion_event_start.Reads.Learnt
+    (λ κ a x. (a .0 ≡ s .model) × (a .1 .0 ≡ p) × (a .1 .1 .0 ≡ e) × (a .1 .1 .1 .0 ≡ y) × (now (a .1 .1 .1 .1 .0) ≡ acked) × (t ≡ record { model = x .model; cycle = s .cycle }))
+Made (Calls.cap bytes) s t = Leaves model.cap_inflight_lo.Reads.Learnt (λ κ. (s .model, (bytes, tt))) (λ x. record { model = x .model; cycle = s .cycle }) t
+Made Calls.clearInflight s t = Leaves model.clear_inflight_lo.Reads.Learnt (λ κ. (s .model, tt)) (λ x. record { model = x .model; cycle = s .cycle }) t
+Made Calls.clearBandwidth s t = Leaves model.clear_bandwidth_lo.Reads.Learnt (λ κ. (s .model, tt)) (λ x. record { model = x .model; cycle = s .cycle }) t
+Made (Calls.cruise time) s t = Leaves phases.enter_probe_cruise.Reads.Learnt (λ κ. (s .model, (s .cycle, (time, tt)))) (λ x. record { model = x .model; cycle = x .cycle }) t
+Made (Calls.refill rounds time) s t = Leaves phases.enter_probe_refill.Reads.Learnt (λ κ. (s .model, (s .cycle, (rounds, (time, tt))))) (λ x. record { model = x .model; cycle = x .cycle }) t
+Made (Calls.other c) s t = MadeOther c s t
+
+-- a fresh model and a fresh cycle
+abbrev pub Begun : Params → Duration → Moment → State → Type 0
+Begun p rtt time s =
+    Returned model.new.Reads.Learnt (λ κ a x. (a ≡ (p, (rtt, (time, tt)))) × (s .model ≡ x .model))
+    × Returned cycle.new.Reads.Learnt (λ κ a x. (a ≡ (time, tt)) × (s .cycle ≡ x .cycle))
+
+-- ---- a run: each call on what the one before it returned
+abbrev pub Ran : List Call → State → State → Type 0
+Ran [] s t = t ≡ s
+Ran (c ∷ calls) s t = (u : State) × Made c s u × Ran calls u t
+
+-- ---- the two theorems of specs/Drift.antt, of the states that the public functions return
+abbrev pub CodeInflightDrift : Type 0
+CodeInflightDrift =
+    (beta : Float) (b : Parts (complement beta)) (p : Params) (rtt : Duration) (time : Moment) (calls : List Call) (s t : State) →
+    startNumber p rtt time ≡ 0 → All (HasBeta beta) calls → All IsSmall calls → Begun p rtt time s → Ran calls s t →
+    Follows 1 1 (b .parts) (inflightLow t) (exactRun inflightTurn (b .parts) calls s unset)
+
+abbrev pub CodeBandwidthDrift : Type 0
+CodeBandwidthDrift =
+    (beta : Float) (b : Parts (complement beta)) (p : Params) (rtt : Duration) (time : Moment) (calls : List Call) (s t : State) →
+    startNumber p rtt time ≡ 0 → All (HasBeta beta) calls → Begun p rtt time s → Ran calls s t →
+    Follows 4097 8192 (b .parts) (bandwidthLow t) (exactRun bandwidthTurn (b .parts) calls s unset)
