@@ -5,3 +5,5 @@ pub mod Runs
 pub mod Inflight
 pub mod Bandwidth
 pub mod Returned
+pub mod Usual
+pub mod Examples

@@ -87,3 +87,29 @@ BandwidthDrift =
     (beta : Float) (b : Parts (complement beta)) (p : Params) (rtt : Duration) (now : Moment) (calls : List Call) →
     startNumber p rtt now ≡ 0 → All (HasBeta beta) calls →
     Follows 4097 8192 (b .parts) (bandwidthLow (run calls (started p rtt now))) (exactRun bandwidthTurn (b .parts) calls (started p rtt now) unset)
+
+-- ---- both at beta 0.3, the f32 with the bits 3E99999A, where b is 11744051 / 2^24
+abbrev pub usualBeta : Float
+usualBeta = ofBits binary32 0x3e99_999a
+
+abbrev pub usualParts : ℕ
+usualParts = 11744051
+
+-- the stored one differs from the exact one by less than so many hundredths
+abbrev pub Under : (hundredths : ℕ) → Low → Exact → Type 0
+Under h none unset = Unit {0}
+Under h none (over num k) = ⊥
+Under h (at n) unset = ⊥
+Under h (at n) (over num k) = Differ (n * 2 ^ (24 * k) * 100) (num * 100) (h * 2 ^ (24 * k))
+
+-- under 3.34 bytes
+abbrev pub UsualInflightDrift : Type 0
+UsualInflightDrift =
+    (p : Params) (rtt : Duration) (now : Moment) (calls : List Call) → startNumber p rtt now ≡ 0 → All (HasBeta usualBeta) calls → All IsSmall calls →
+    Under 334 (inflightLow (run calls (started p rtt now))) (exactRun inflightTurn usualParts calls (started p rtt now) unset)
+
+-- under 1.67 bits per second
+abbrev pub UsualBandwidthDrift : Type 0
+UsualBandwidthDrift =
+    (p : Params) (rtt : Duration) (now : Moment) (calls : List Call) → startNumber p rtt now ≡ 0 → All (HasBeta usualBeta) calls →
+    Under 167 (bandwidthLow (run calls (started p rtt now))) (exactRun bandwidthTurn usualParts calls (started p rtt now) unset)

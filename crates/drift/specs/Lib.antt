@@ -3,3 +3,4 @@ pub mod Calls
 pub mod Exact
 pub mod Drift
 pub mod Returned
+pub mod Examples

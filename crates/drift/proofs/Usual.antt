@@ -1,0 +1,42 @@
+-- The drift at beta 0.3. Assumes nothing.
+use Prim.Native.Nat.{ℕ, _+_, _-_, _*_, _^_, _<_}
+use mathlib.Core.Path.{_≡_, refl}
+use native.Mathlib.Omega.{arith}
+use lib.Dec.{lit<, lit≤}
+use mathlib.Core.Bool.{false}
+use lib.Ieee.{ofBits, sub}
+use lib.Ieee.Exact.{HasValue}
+use Rattle.numbers.specs.Scaling.{complement, Parts}
+use Rattle.drift.specs.Exact.{Exact, unset, over, inflightTurn, bandwidthTurn, exactRun}
+use Rattle.drift.specs.Calls.{run, started}
+use Rattle.drift.specs.Drift.{Low, none, at, inflightLow, bandwidthLow, Differ, Near, Follows, usualBeta, usualParts, Under, UsualInflightDrift, UsualBandwidthDrift}
+use Rattle.drift.proofs.Inflight.{inflight-drift}
+use Rattle.drift.proofs.Bandwidth.{bandwidth-drift}
+
+usual-value : HasValue (complement usualBeta) false usualParts (2 ^ 24)
+unfolding ofBits sub
+usual-value = (refl, refl)
+
+abbrev usual : Parts (complement usualBeta)
+usual = record { parts = usualParts; value = usual-value; some = lit< tt; not-all = lit< tt; at-least = lit≤ tt; at-most = lit≤ tt }
+
+inflight-under : (a num d : ℕ) → Differ (a * 1 * (2 ^ 24 - usualParts)) (num * 1 * (2 ^ 24 - usualParts)) (2 ^ 24 * 1 * d) → Differ (a * 100) (num * 100) (334 * d)
+inflight-under a num d h = (omega (arith, h .0), omega (arith, h .1))
+
+bandwidth-under : (a num d : ℕ) → Differ (a * 8192 * (2 ^ 24 - usualParts)) (num * 8192 * (2 ^ 24 - usualParts)) (2 ^ 24 * 4097 * d) → Differ (a * 100) (num * 100) (167 * d)
+bandwidth-under a num d h = (omega (arith, h .0), omega (arith, h .1))
+
+under : (u v h : ℕ) → ((a num d : ℕ) → Differ (a * v * (2 ^ 24 - usualParts)) (num * v * (2 ^ 24 - usualParts)) (2 ^ 24 * u * d) → Differ (a * 100) (num * 100) (h * d))
+    → (l : Low) (x : Exact) → Follows u v usualParts l x → Under h l x
+under u v h rate none unset f = tt
+under u v h rate none (over num k) f = f
+under u v h rate (at n) unset f = f
+under u v h rate (at n) (over num k) f = rate (n * 2 ^ (24 * k)) num (2 ^ (24 * k)) (f .by-rate)
+
+pub usual-inflight-drift : UsualInflightDrift
+usual-inflight-drift p rtt now calls begun same sizes = under 1 1 334 inflight-under (inflightLow (run calls (started p rtt now))) (exactRun inflightTurn usualParts calls (started p rtt now) unset)
+    (inflight-drift usualBeta usual p rtt now calls begun same sizes)
+
+pub usual-bandwidth-drift : UsualBandwidthDrift
+usual-bandwidth-drift p rtt now calls begun same = under 4097 8192 167 bandwidth-under (bandwidthLow (run calls (started p rtt now))) (exactRun bandwidthTurn usualParts calls (started p rtt now) unset)
+    (bandwidth-drift usualBeta usual p rtt now calls begun same)
