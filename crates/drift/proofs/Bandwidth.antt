@@ -1,13 +1,13 @@
 -- bandwidth_lo follows the exact run (`bandwidth-drift`). Assumes nothing.
-use Prim.Native.Nat.{ℕ, min, max, _+_, _-_, _*_, _^_, _≤_, _<_}
-use mathlib.Core.Bool.{Bool, true, false, cond, _&&_}
+use Prim.Native.Nat.{ℕ, min, _-_, _*_, _^_}
+use mathlib.Core.Bool.{Bool, true, false, cond}
 use mathlib.Core.List.{List}
-use mathlib.Core.Path.{_≡_, refl, sym, subst}
+use mathlib.Core.Path.{_≡_, sym, subst}
 use native.Mathlib.Omega.{arith}
 use lib.Dec.{eqb}
 use lib.Ieee.{Float}
 use borrow.Author.Tests.{leb-true}
-use Rattle.numbers.specs.Scaling.{scaledF64, complement, Parts}
+use Rattle.numbers.specs.Scaling.{complement, Parts}
 use Rattle.numbers.proofs.ScaleLaws.{scale-f64-law}
 use Rattle.filters.specs.declared.bandwidth.Bandwidth.{Bandwidth}
 use Rattle.filters.specs.declared.time.Duration.{Duration}
@@ -27,13 +27,12 @@ use Rattle.model.proofs.Rows.{and-left, all-at}
 use Rattle.events.specs.declared.record.Record.{Record}
 use Rattle.events.specs.declared.record.Sample.{Sample}
 use Rattle.events.specs.Event as E
-use Rattle.phases.specs.declared.cycle.Cycle.{Cycle}
 use Rattle.phases.specs.Phases.{restartedAt, cruiseModel, refillModel, leftModel}
 use Rattle.laws.proofs.Events.{event-model, event-sample, most-kept, most-max}
 use Rattle.drift.specs.Calls.{Call, event, cap, clearInflight, clearBandwidth, cruise, refill, other, State, numberOf, nextOf, run, started}
-use Rattle.drift.specs.Exact.{Turn, stays, clears, reduces, Exact, unset, over, isReduced, bandwidthTurn, exactly, exactRun}
-use Rattle.drift.specs.Drift.{none, at, lowOf, bandwidthLow, Differ, Follows, HasBeta, BandwidthDrift}
-use Rattle.drift.proofs.Others.{other-apart, left-same}
+use Rattle.drift.specs.Exact.{stays, reduces, Exact, unset, over, isReduced, bandwidthTurn, exactly, exactRun}
+use Rattle.drift.specs.Drift.{lowOf, bandwidthLow, Differ, Follows, HasBeta, BandwidthDrift}
+use Rattle.drift.proofs.Others.{other-same, left-same}
 use Rattle.drift.proofs.Runs.{run-kept}
 use Rattle.drift.proofs.Sums.{Held, near, first, again}
 
@@ -114,7 +113,7 @@ module _ (beta : Float) (b : Parts (complement beta)) where
   next-kept (cruise now) s x same done h =
       let l = leftModel (s .model) (s .cycle) in capped-kept (l .lower) (l .high) x (same-kept (l .lower) (s .model .lower) x (left-same (s .model) (s .cycle) .lower) h)
   next-kept (refill rounds now) s x same done h = tt
-  next-kept (other c) s x same done h = same-kept (nextOf (other c) s .model .lower) (s .model .lower) x (other-apart c s .lower) h
+  next-kept (other c) s x same done h = same-kept (nextOf (other c) s .model .lower) (s .model .lower) x (other-same c s .lower) h
 
   start-kept : (p : Params) (rtt : Duration) (now : Moment) → Kept (started p rtt now .model .lower .bandwidth) unset
   unfolding started startModel settled modelNew

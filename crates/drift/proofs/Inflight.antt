@@ -1,16 +1,15 @@
 -- inflight_lo follows the exact run (`inflight-drift`). Assumes nothing.
-use Prim.Native.Nat.{ℕ, min, max, _+_, _-_, _*_, _^_, _≤_, _<_}
+use Prim.Native.Nat.{ℕ, max, _-_, _*_, _^_, _≤_}
 use mathlib.Core.Bool.{Bool, true, false, cond}
-use mathlib.Core.List.{List, [], _∷_}
-use mathlib.Core.Path.{_≡_, refl, sym, ap, subst, _∙_}
-use native.Mathlib.Nat.{mul-le-mul-left, mul-one, lt-of-mul-lt-mul-right}
+use mathlib.Core.List.{List}
+use mathlib.Core.Path.{_≡_, refl, sym, subst}
+use native.Mathlib.Nat.{mul-le-mul-left}
 use native.Mathlib.Omega.{arith}
 use lib.Dec.{eqb, ltb}
 use lib.Ieee.{Float}
 use borrow.Author.Tests.{eq-eqb, ne-eqb}
 use Rattle.numbers.specs.Scaling.{scaled, complement, Parts}
 use Rattle.numbers.proofs.ScaleLaws.{scale-law}
-use Rattle.filters.specs.declared.bandwidth.Bandwidth.{Bandwidth}
 use Rattle.filters.specs.declared.time.Duration.{Duration}
 use Rattle.filters.specs.declared.time.Moment.{Moment}
 use Rattle.filters.specs.MaxBandwidthFilter.{maxGet}
@@ -26,10 +25,10 @@ use Rattle.events.specs.declared.record.Sample.{Sample}
 use Rattle.events.specs.Event as E
 use Rattle.phases.specs.declared.cycle.Cycle.{Cycle}
 use Rattle.phases.specs.Phases.{restartedAt, cruiseModel, refillModel, leftModel}
-use Rattle.drift.specs.Calls.{Call, event, cap, clearInflight, clearBandwidth, cruise, refill, other, State, numberOf, nextOf, after, run, started}
-use Rattle.drift.specs.Exact.{Turn, stays, clears, caps, reduces, Exact, unset, over, isReduced, inflightTurn, exactly, exactRun}
-use Rattle.drift.specs.Drift.{Low, none, at, inflightLow, Differ, Near, Follows, All, HasBeta, IsSmall, InflightDrift}
-use Rattle.drift.proofs.Others.{other-apart, left-same}
+use Rattle.drift.specs.Calls.{Call, event, cap, clearInflight, clearBandwidth, cruise, refill, other, State, nextOf, after, run, started}
+use Rattle.drift.specs.Exact.{stays, caps, reduces, Exact, unset, over, isReduced, inflightTurn, exactly, exactRun}
+use Rattle.drift.specs.Drift.{none, at, inflightLow, Differ, Follows, HasBeta, IsSmall, InflightDrift}
+use Rattle.drift.proofs.Others.{other-same, left-same, left-high}
 use Rattle.drift.proofs.Runs.{run-kept, all-both}
 use Rattle.drift.proofs.Sums.{Held, near, first, again, cut-off}
 
@@ -118,7 +117,7 @@ module _ (beta : Float) (b : Parts (complement beta)) where
   cruise-kept m c now x h =
       let l = left-same m c in
       let k = cap-kept (leftModel m c) (leftModel m c .high) x (same-kept (leftModel m c) m x (l .lower) (l .latest) h) in
-      subst (λ (bytes : ℕ). Kept (withMoment (capNext (leftModel m c) (leftModel m c .high)) now) (exactly (b .parts) (caps bytes) x)) (l .high) (record { small = k .small; raw = k .raw })
+      subst (λ (bytes : ℕ). Kept (withMoment (capNext (leftModel m c) (leftModel m c .high)) now) (exactly (b .parts) (caps bytes) x)) (left-high m c) (record { small = k .small; raw = k .raw })
 
   refill-kept : (m : NetworkModel) (c : Cycle) (now : Moment) (x : Exact) → Kept m x → Kept (refillModel m c now) unset
   unfolding refillModel restartedAt restartNext clearInflightNext clearBandwidthNext withLower withMoment withGrowth withRounds withRound
@@ -132,7 +131,7 @@ module _ (beta : Float) (b : Parts (complement beta)) where
   next-kept clearBandwidth s x same sizes h = record { small = h .small; raw = h .raw }
   next-kept (cruise now) s x same sizes h = cruise-kept (s .model) (s .cycle) now x h
   next-kept (refill rounds now) s x same sizes h = refill-kept (s .model) (s .cycle) now x h
-  next-kept (other c) s x same sizes h = let a = other-apart c s in same-kept (nextOf (other c) s .model) (s .model) x (a .lower) (a .latest) h
+  next-kept (other c) s x same sizes h = let a = other-same c s in same-kept (nextOf (other c) s .model) (s .model) x (a .lower) (a .latest) h
 
   start-kept : (p : Params) (rtt : Duration) (now : Moment) → Kept (started p rtt now .model) unset
   unfolding started startModel settled modelNew

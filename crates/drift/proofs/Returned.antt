@@ -4,8 +4,6 @@ use mathlib.Core.Bool.{Bool, true, false, cond}
 use mathlib.Core.List.{List, [], _∷_}
 use mathlib.Core.Path.{_≡_, refl, sym, ap, subst, _∙_}
 use lib.Dec.{eqb}
-use lib.Ieee.{Float}
-use denote.Ref.{now}
 use Rattle.filters.specs.declared.time.Duration.{Duration}
 use Rattle.filters.specs.declared.time.Moment.{Moment}
 use Rattle.model.specs.declared.network_model.NetworkModel.{NetworkModel}
@@ -19,9 +17,9 @@ use Rattle.phases.specs.declared.cycle.Cycle.{Cycle}
 use Rattle.phases.specs.Cycle.{freshCycle}
 use Rattle.drift.specs.Calls as Calls
 use Rattle.drift.specs.Calls.{Call, Other, State, otherNumber, otherNext, numberOf, nextOf, after, run, started}
-use Rattle.drift.specs.Exact.{Exact, unset, inflightTurn, bandwidthTurn, exactRun}
+use Rattle.drift.specs.Exact.{unset, inflightTurn, bandwidthTurn, exactRun}
 use Rattle.drift.specs.Drift.{inflightLow, bandwidthLow, Follows}
-use Rattle.drift.specs.Returned.{Returned, Leaves, MadeOther, Made, Begun, Ran, CodeInflightDrift, CodeBandwidthDrift}
+use Rattle.drift.specs.Returned.{Leaves, MadeOther, Made, Begun, Ran, CodeInflightDrift, CodeBandwidthDrift}
 use Rattle.drift.proofs.Inflight.{inflight-drift}
 use Rattle.drift.proofs.Bandwidth.{bandwidth-drift}
 

@@ -1,8 +1,8 @@
 -- One turn on the stored number and on the exact fraction, over plain numbers. The errors of the reductions add up to a geometric sum, from which both bounds follow. Assumes nothing.
 use Prim.Native.Nat.{ℕ, zero, suc, min, max, _+_, _-_, _*_, _^_, _≤_, _<_}
 use mathlib.Core.Bool.{Bool, true, false}
-use mathlib.Core.Path.{_≡_, refl, sym, ap, _∙_}
-use native.Mathlib.Nat.{le-of-lt, mul-pos, mul-le-mul-left, mul-le-mul-right, mul-lt-mul-of-pos-right, max-eq-left, max-eq-right, min-eq-left, min-eq-right}
+use mathlib.Core.Path.{_≡_, refl, ap, _∙_}
+use native.Mathlib.Nat.{le-of-lt, mul-le-mul-left, mul-le-mul-right, mul-lt-mul-of-pos-right, max-eq-left, max-eq-right, min-eq-left, min-eq-right}
 use native.Mathlib.Omega.{arith}
 use lib.Dec.{leb}
 use lib.Pow.{pow-add, pow-pos}

@@ -1,6 +1,6 @@
 -- The drift at beta 0.3. Assumes nothing.
-use Prim.Native.Nat.{ℕ, _+_, _-_, _*_, _^_, _<_}
-use mathlib.Core.Path.{_≡_, refl}
+use Prim.Native.Nat.{ℕ, _-_, _*_, _^_, _<_}
+use mathlib.Core.Path.{refl}
 use native.Mathlib.Omega.{arith}
 use lib.Dec.{lit<, lit≤}
 use mathlib.Core.Bool.{false}
@@ -9,7 +9,7 @@ use lib.Ieee.Exact.{HasValue}
 use Rattle.numbers.specs.Scaling.{complement, Parts}
 use Rattle.drift.specs.Exact.{Exact, unset, over, inflightTurn, bandwidthTurn, exactRun}
 use Rattle.drift.specs.Calls.{run, started}
-use Rattle.drift.specs.Drift.{Low, none, at, inflightLow, bandwidthLow, Differ, Near, Follows, usualBeta, usualParts, Under, UsualInflightDrift, UsualBandwidthDrift}
+use Rattle.drift.specs.Drift.{Low, none, at, inflightLow, bandwidthLow, Differ, Follows, usualBeta, usualParts, Under, UsualInflightDrift, UsualBandwidthDrift}
 use Rattle.drift.proofs.Inflight.{inflight-drift}
 use Rattle.drift.proofs.Bandwidth.{bandwidth-drift}
 

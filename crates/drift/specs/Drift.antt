@@ -1,6 +1,6 @@
 -- How far inflight_lo and bandwidth_lo can have moved from the same rules on exact fractions. Statements; proofs/ proves them.
 use Prim.Native.Nat.{ℕ, _+_, _-_, _*_, _^_, _≤_, _<_}
-use mathlib.Core.Bool.{Bool, cond}
+use mathlib.Core.Bool.{cond}
 use mathlib.Core.List.{List, [], _∷_}
 use mathlib.Core.Path.{_≡_}
 use lib.Dec.{eqb}
@@ -16,7 +16,7 @@ use Rattle.events.specs.declared.record.Record.{Record}
 use Rattle.events.specs.declared.record.Sample.{Sample}
 use Rattle.drift.specs.Calls as Calls
 use Rattle.drift.specs.Calls.{Call, State, run, started}
-use Rattle.drift.specs.Exact.{Turn, Exact, unset, over, inflightTurn, bandwidthTurn, exactRun}
+use Rattle.drift.specs.Exact.{Exact, unset, over, inflightTurn, bandwidthTurn, exactRun}
 
 -- ---- a lower bound as it is stored: unset, or a number
 pub data Low : Type 0 where

@@ -2,9 +2,12 @@
 use Prim.Native.Nat.{ℕ, min, max, _+_, _*_, _^_}
 use mathlib.Core.Bool.{Bool, cond}
 use mathlib.Core.List.{List, [], _∷_}
+use mathlib.Core.Path.{_≡_}
 use Rattle.filters.specs.MaxBandwidthFilter.{maxGet}
 use Rattle.model.specs.Answers.{settled}
 use Rattle.model.specs.declared.network_model.NetworkModel.{NetworkModel}
+use Rattle.model.specs.declared.state.Lower.{Lower}
+use Rattle.model.specs.Calls.{withLower}
 use Rattle.events.specs.declared.record.Record.{Record}
 use Rattle.events.specs.declared.record.Sample.{Sample}
 use Rattle.events.specs.Event.{recordNext, roundNext, mostNext, latestRaised, acts}
@@ -42,6 +45,10 @@ bandwidthTurn Calls.clearBandwidth s = clears
 bandwidthTurn (Calls.cruise now) s = stays
 bandwidthTurn (Calls.refill rounds now) s = clears
 bandwidthTurn (Calls.other c) s = stays
+
+-- neither turn depends on the lower bounds that are stored, so the exact run takes nothing from a rounded number
+abbrev pub Blind : (Call → State → Turn) → Type 0
+Blind turn = (c : Call) (s : State) (l : Lower) → turn c (record { model = withLower (s .model) l; cycle = s .cycle }) ≡ turn c s
 
 -- ---- the exact value: unset, or num / 2^(24 k), where k counts the reductions since it was last unset
 pub data Exact : Type 0 where

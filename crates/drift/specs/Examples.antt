@@ -4,7 +4,6 @@ use mathlib.Core.Bool.{Bool, true, false, cond}
 use mathlib.Core.List.{List, [], _∷_, _++_}
 use lib.Dec.{eqb, ltb}
 use lib.Ieee.{Float, binary32, ofBits}
-use Rattle.filters.specs.declared.bandwidth.Bandwidth.{Bandwidth}
 use Rattle.model.specs.declared.params.Params.{Params}
 use Rattle.model.specs.declared.state.MaybeBandwidth.{MaybeBandwidth}
 use Rattle.model.specs.declared.state.MaybeBandwidth.the-variants.{Unset, Set}

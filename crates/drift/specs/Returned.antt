@@ -1,5 +1,4 @@
 -- The same of the code: a run made by the public functions themselves, of which no more is known than their contracts.
-use Prim.Native.Nat.{ℕ}
 use mathlib.Core.List.{List, [], _∷_}
 use mathlib.Core.Path.{_≡_}
 use denote.Ref.{now}

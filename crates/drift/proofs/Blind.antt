@@ -1,0 +1,26 @@
+-- The turns of the exact run do not depend on the lower bounds that are stored. Assumes nothing.
+use mathlib.Core.Path.{refl}
+use Rattle.model.specs.Calls.{withLower}
+use Rattle.events.specs.Event.{recordNext, recordOf, roundNext, mostNext}
+use Rattle.drift.specs.Calls.{event, cap, clearInflight, clearBandwidth, cruise, refill, other}
+use Rattle.drift.specs.Exact.{isReduced, inflightTurn, bandwidthTurn, Blind}
+
+pub inflight-blind : Blind inflightTurn
+unfolding inflightTurn withLower isReduced recordNext recordOf roundNext
+inflight-blind (event p e x acked) s l = refl
+inflight-blind (cap bytes) s l = refl
+inflight-blind clearInflight s l = refl
+inflight-blind clearBandwidth s l = refl
+inflight-blind (cruise now) s l = refl
+inflight-blind (refill rounds now) s l = refl
+inflight-blind (other c) s l = refl
+
+pub bandwidth-blind : Blind bandwidthTurn
+unfolding bandwidthTurn withLower isReduced recordNext recordOf roundNext mostNext
+bandwidth-blind (event p e x acked) s l = refl
+bandwidth-blind (cap bytes) s l = refl
+bandwidth-blind clearInflight s l = refl
+bandwidth-blind clearBandwidth s l = refl
+bandwidth-blind (cruise now) s l = refl
+bandwidth-blind (refill rounds now) s l = refl
+bandwidth-blind (other c) s l = refl
