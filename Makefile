@@ -15,9 +15,12 @@ test:
 
 # Makes the lists of the original's answers again (oracle/README.md).
 lists:
+	rm -rf target/lists
 	cargo run --release --quiet --manifest-path oracle/Cargo.toml -- target/lists
-	mv target/lists/sequences.txt crates/replay/data/
-	mv target/lists/*.txt crates/answers/data/
+	for program in $$(ls target/lists); do \
+		rm -f crates/$$program/data/*; \
+		mv target/lists/$$program/* crates/$$program/data/; \
+	done
 
 clean:
 	rm -rf target oracle/target

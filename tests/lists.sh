@@ -21,9 +21,7 @@ ORIGINAL=$(cd "$original" && pwd) CARGO_TARGET_DIR=$PWD/target/oracle \
     exit 1
 }
 rm -f "$made.log"
-for list in "$made"/*.txt; do
-    kept=crates/answers/data/$(basename "$list")
-    [ -f "$kept" ] || kept=crates/replay/data/$(basename "$list")
-    cmp "$list" "$kept"
+for lists in "$made"/*; do
+    diff -r "$lists" "crates/$(basename "$lists")/data"
 done
-echo "lists: $(cat "$made"/*.txt | wc -l) answers of the original, the same as those kept in crates/answers/data and crates/replay/data"
+echo "lists: $(cat "$made"/*/*.txt | wc -l) lines in $(ls "$made"/*/*.txt | wc -l) lists, the same as those kept in the programs' folders data"

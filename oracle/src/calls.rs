@@ -15,19 +15,17 @@ use crate::model::SendState;
 use crate::model::Start;
 use crate::model::State;
 use crate::model::UNSET;
+use crate::replies::BANDWIDTH;
+use crate::replies::BYTES;
+use crate::replies::LEAST_GAIN;
+use crate::replies::LENGTH;
+use crate::replies::MOMENT;
+use crate::replies::MOST_BETA;
+use crate::replies::MOST_GAIN;
+use crate::replies::TOTAL;
+use crate::replies::UP_ROUNDS;
 use crate::values::bits;
 use crate::values::Random;
-
-/// The bounds of document 01, inclusive.
-pub const BYTES: u64 = 1 << 40;
-pub const BANDWIDTH: u64 = 1 << 40;
-pub const TOTAL: u64 = 1 << 62;
-pub const MOMENT: u64 = 1 << 62;
-pub const LENGTH: u64 = 1 << 36;
-const MOST_UP_ROUNDS: u64 = 30;
-const LEAST_GAIN: f32 = 1.0 / 1024.0;
-const MOST_GAIN: f32 = 8.0;
-const MOST_BETA: f32 = 1023.0 / 1024.0;
 
 /// Numbers of bytes at which something turns.
 const TURNS: [u64; 17] = [
@@ -49,93 +47,6 @@ const TURNS: [u64; 17] = [
     BYTES - 1,
     BYTES,
 ];
-
-/// What the port would refuse this call for, if it would.
-pub fn refusal(call: &Call, state: &State) -> Option<&'static str> {
-    let gain = |gain: f32| (LEAST_GAIN..=MOST_GAIN).contains(&gain);
-    let send_state =
-        |state: &SendState| state.total_acked <= TOTAL && state.bytes_in_flight <= BYTES;
-    let bandwidth = |bandwidth: Option<u64>| bandwidth.unwrap_or(0) <= BANDWIDTH;
-    let length = |length: Option<u64>| length.unwrap_or(0) <= LENGTH;
-    let unit = |number: f32| (0.0..=1.0).contains(&number);
-
-    let (within, moment) = match *call {
-        Call::Start(start) => (
-            start.moment <= MOMENT
-                && start.initial_rtt <= LENGTH
-                && (LEAST_GAIN..=MOST_BETA).contains(&start.beta)
-                && unit(start.loss_threshold)
-                && unit(start.headroom)
-                && (1.0..=8.0).contains(&start.full_bw_threshold)
-                && gain(start.cwnd_gain)
-                && gain(start.pacing_gain)
-                && start.probe_rtt_period <= LENGTH
-                && start.probe_base_duration <= LENGTH,
-            None,
-        ),
-        Call::Sent {
-            moment,
-            in_flight,
-            bytes,
-            ..
-        } => (in_flight <= BYTES && bytes <= BYTES, Some(moment)),
-        Call::Record(record) => (
-            record.event_time <= MOMENT
-                && record.prior_cwnd <= BYTES
-                && record.prior_in_flight <= BYTES
-                && record.bytes_in_flight <= BYTES
-                && record.bytes_acked <= TOTAL
-                && record.bytes_lost <= TOTAL
-                && bandwidth(record.bandwidth)
-                && length(record.rtt)
-                && send_state(&record.send_state),
-            None,
-        ),
-        Call::Event(sample) => {
-            if sample.total_acked < state[TOTAL_ACKED] || sample.total_lost < state[TOTAL_LOST] {
-                return Some("a total falls");
-            }
-            let within = bandwidth(sample.bandwidth)
-                && bandwidth(sample.send_rate)
-                && bandwidth(sample.ack_rate)
-                && length(sample.rtt)
-                && sample.max_inflight <= BYTES
-                && sample.extra_acked <= BYTES
-                && send_state(&sample.send_state)
-                && sample.total_acked <= TOTAL
-                && sample.total_lost <= TOTAL
-                && sample.acked_length <= 3;
-            (within, Some(state[EVENT_TIME]))
-        }
-        Call::PersistentQueue { gain: g } | Call::SetPacingGain(g) | Call::SetCwndGain(g) => {
-            (gain(g), None)
-        }
-        Call::Bdp {
-            bandwidth: b,
-            gain: g,
-        } => (bandwidth(Some(b)) && gain(g), None),
-        Call::Bdp1 { bandwidth: b } => (bandwidth(Some(b)), None),
-        Call::SetInflightHi(bytes) | Call::CapInflightLo(bytes) => {
-            (bytes <= BYTES || bytes == UNSET, None)
-        }
-        Call::PostponeMinRtt(by) => (
-            length(Some(by)) && state[MIN_RTT_TIMESTAMP] + by <= MOMENT,
-            None,
-        ),
-        Call::ProbeDown { moment, .. } | Call::ProbeCruise { moment } => (true, Some(moment)),
-        Call::ProbeRefill { rounds, moment } => (rounds <= MOST_UP_ROUNDS, Some(moment)),
-        Call::ProbeUp { moment, cwnd } => (cwnd <= BYTES, Some(moment)),
-        Call::RaiseSlope { cwnd } => (cwnd <= BYTES, None),
-        _ => (true, None),
-    };
-    if !within || moment.is_some_and(|moment| moment > MOMENT) {
-        return Some("an argument is out of bounds");
-    }
-    if moment.is_some_and(|moment| moment < state[LAST_MOMENT]) {
-        return Some("a moment falls");
-    }
-    None
-}
 
 /// How a sequence goes.
 #[derive(Clone, Copy, PartialEq)]
@@ -408,10 +319,8 @@ impl Calls {
             },
             42 => Call::ProbeRefill {
                 rounds: match self.random.below(4) {
-                    0 => self.random.below(MOST_UP_ROUNDS + 1),
-                    1 => self
-                        .random
-                        .pick(&[1, 2, MOST_UP_ROUNDS - 1, MOST_UP_ROUNDS]),
+                    0 => self.random.below(UP_ROUNDS + 1),
+                    1 => self.random.pick(&[1, 2, UP_ROUNDS - 1, UP_ROUNDS]),
                     2 => state[PROBE_UP_ROUNDS],
                     _ => 0,
                 },

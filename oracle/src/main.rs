@@ -2,9 +2,12 @@
 
 mod calls;
 mod filters;
+mod limits;
 mod marks;
 mod model;
 mod numbers;
+mod replies;
+mod run;
 mod sequences;
 mod values;
 
@@ -15,6 +18,8 @@ use std::fs;
 use std::path::Path;
 use std::process;
 
+use run::Part;
+
 /// Named by gcongestion/mod.rs of the original.
 #[derive(Debug)]
 pub enum Error {
@@ -23,14 +28,14 @@ pub enum Error {
 
 /// One list: every line an answer.
 pub struct List {
-    name: &'static str,
+    name: String,
     text: String,
 }
 
 impl List {
-    fn new(name: &'static str) -> Self {
+    fn new(name: impl Into<String>) -> Self {
         List {
-            name,
+            name: name.into(),
             text: String::new(),
         }
     }
@@ -54,7 +59,7 @@ fn main() {
     };
     let folder = Path::new(folder);
 
-    let lists = [
+    let answers = vec![
         numbers::to_f32(),
         numbers::to_f64(),
         numbers::to_u64(),
@@ -67,23 +72,33 @@ fn main() {
         filters::max_bandwidth_filter(),
         filters::min_rtt_filter(),
         filters::round_trip_counter(),
-        sequences::sequences(),
     ];
+    let mut folders = vec![("answers", answers)];
+    let (sequences, limits) = (sequences::sequences(), limits::limits());
+    for part in Part::ALL {
+        let mut lists = sequences.lists(part, "sequences");
+        lists.extend(limits.lists(part, "limits"));
+        folders.push((part.folder(), lists));
+    }
 
-    if let Err(error) = write(folder, &lists) {
+    if let Err(error) = write(folder, &folders) {
         eprintln!("The lists can't be written: {error}.");
         process::exit(1);
     }
 }
 
-fn write(folder: &Path, lists: &[List]) -> std::io::Result<()> {
-    fs::create_dir_all(folder)?;
-    for list in lists {
-        let lines = list.text.lines().count();
-        eprintln!("{}: {lines} lines, {} bytes", list.name, list.text.len());
-        fs::write(folder.join(list.name), &list.text)?;
+/// Writes each program's lists into a folder of its own.
+fn write(folder: &Path, folders: &[(&str, Vec<List>)]) -> std::io::Result<()> {
+    let mut bytes = 0;
+    for (program, lists) in folders {
+        fs::create_dir_all(folder.join(program))?;
+        for List { name, text } in lists {
+            let lines = text.lines().count();
+            eprintln!("{program}/{name}: {lines} lines, {} bytes", text.len());
+            fs::write(folder.join(program).join(name), text)?;
+            bytes += text.len();
+        }
     }
-    let bytes: usize = lists.iter().map(|list| list.text.len()).sum();
-    eprintln!("{} lists, {bytes} bytes", lists.len());
+    eprintln!("{bytes} bytes");
     Ok(())
 }

@@ -4,7 +4,6 @@
 use std::collections::BTreeMap;
 
 use crate::calls::bdp;
-use crate::calls::MOMENT;
 use crate::model::field::*;
 use crate::model::phase;
 use crate::model::Call;
@@ -13,6 +12,7 @@ use crate::model::Sample;
 use crate::model::Start;
 use crate::model::State;
 use crate::model::UNSET;
+use crate::replies::MOMENT;
 
 /// What has to occur, each at least `LEAST` times. The number of a fact is its
 /// number in the list of silent points.

@@ -32,6 +32,8 @@ pub mod field {
     pub const BANDWIDTH_LO: usize = 16;
     pub const INFLIGHT_LO: usize = 17;
     pub const INFLIGHT_HI: usize = 18;
+    pub const CWND_GAIN: usize = 19;
+    pub const PACING_GAIN: usize = 20;
     pub const FULL_REACHED: usize = 22;
     pub const BASELINE: usize = 23;
     pub const ROUNDS_WITHOUT_GROWTH: usize = 24;
@@ -46,9 +48,13 @@ pub mod field {
     pub const LAST_MOMENT: usize = 33;
     pub const PHASE: usize = 34;
     pub const CYCLE_START: usize = 35;
+    pub const PHASE_START: usize = 36;
+    pub const PROBE_WAIT_SET: usize = 39;
+    pub const PROBE_WAIT: usize = 40;
     pub const PROBE_UP_ROUNDS: usize = 41;
     pub const PROBE_UP_BYTES_SET: usize = 42;
     pub const PROBE_UP_BYTES: usize = 43;
+    pub const PROBE_UP_ACKED: usize = 44;
     pub const HAS_ADVANCED: usize = 46;
     pub const FROM_PROBING: usize = 47;
     pub const PROBED_TOO_HIGH: usize = 48;
@@ -56,6 +62,8 @@ pub mod field {
     pub const EVENT_TIME: usize = 50;
     pub const PRIOR_CWND: usize = 51;
     pub const PRIOR_IN_FLIGHT: usize = 52;
+    pub const BYTES_IN_FLIGHT: usize = 53;
+    pub const BYTES_ACKED: usize = 54;
     pub const BYTES_LOST: usize = 55;
     pub const ROUND_ENDED: usize = 56;
     pub const PROBING: usize = 57;
@@ -243,49 +251,38 @@ pub enum Call {
     },
 }
 
+impl Start {
+    /// The parameters, as numbers.
+    pub fn parameters(&self) -> [u64; 11] {
+        [
+            float(self.beta),
+            float(self.loss_threshold),
+            float(self.headroom),
+            float(self.full_bw_threshold),
+            float(self.cwnd_gain),
+            float(self.pacing_gain),
+            self.full_bw_rounds,
+            self.queue_rounds,
+            self.probe_rtt_period,
+            self.probe_base_duration,
+            self.ignore_app_limited as u64,
+        ]
+    }
+}
+
 impl Call {
-    /// The number of the call, then its arguments.
+    /// The number of the call, then its arguments. The parameters of a start
+    /// and the record stand with the state.
     pub fn numbers(&self) -> Vec<u64> {
         match *self {
-            Call::Start(start) => vec![
-                0,
-                start.moment,
-                start.initial_rtt,
-                float(start.beta),
-                float(start.loss_threshold),
-                float(start.headroom),
-                float(start.full_bw_threshold),
-                float(start.cwnd_gain),
-                float(start.pacing_gain),
-                start.full_bw_rounds,
-                start.queue_rounds,
-                start.probe_rtt_period,
-                start.probe_base_duration,
-                start.ignore_app_limited as u64,
-            ],
+            Call::Start(start) => vec![0, start.moment, start.initial_rtt],
             Call::Sent {
                 moment,
                 in_flight,
                 number,
                 bytes,
             } => vec![1, moment, in_flight, number, bytes],
-            Call::Record(record) => {
-                let mut numbers = vec![
-                    2,
-                    record.event_time,
-                    record.prior_cwnd,
-                    record.prior_in_flight,
-                    record.bytes_in_flight,
-                    record.bytes_acked,
-                    record.bytes_lost,
-                    record.round_ended as u64,
-                    record.probing as u64,
-                ];
-                numbers.extend(option(record.bandwidth));
-                numbers.extend(option(record.rtt));
-                numbers.extend(record.send_state.numbers());
-                numbers
-            }
+            Call::Record(_) => vec![2],
             Call::Event(sample) => {
                 let mut numbers = vec![3];
                 numbers.extend(option(sample.bandwidth));

@@ -1,14 +1,6 @@
-//! The list of sequences of calls on a model and its cycle: a line is a call
-//! that goes on from the line before.
+//! The lists of sequences of calls on a model and its cycle, all accepted.
 
-use crate::calls::refusal;
 use crate::calls::Calls;
-use crate::calls::BANDWIDTH;
-use crate::calls::BYTES;
-use crate::calls::LENGTH;
-use crate::calls::MOMENT;
-use crate::calls::TOTAL;
-use crate::marks::Marks;
 use crate::model::field::*;
 use crate::model::Call;
 use crate::model::Getter;
@@ -17,139 +9,23 @@ use crate::model::Record;
 use crate::model::Sample;
 use crate::model::SendState;
 use crate::model::Start;
-use crate::model::State;
 use crate::model::UNSET;
-use crate::List;
+use crate::replies::BANDWIDTH;
+use crate::replies::BYTES;
+use crate::replies::LENGTH;
+use crate::replies::MOMENT;
+use crate::replies::TOTAL;
+use crate::run::Run;
+use crate::run::ACKED;
+use crate::run::LOST;
+use crate::run::NONE;
 
 /// The least number of calls chosen at random.
 const CHOSEN: usize = 3500;
 
-struct Run {
-    list: List,
-    host: Host,
-    state: State,
-    marks: Marks,
-}
-
-impl Run {
-    /// Makes the call and writes it down, with its answer and the fields that
-    /// differ from the line before.
-    fn call(&mut self, call: Call) -> u64 {
-        if let Some(reason) = refusal(&call, &self.state) {
-            panic!("the port would refuse {call:?}: {reason}");
-        }
-        let answer = self.host.call(&call);
-        let before = self.state;
-        self.state = self.host.state();
-        self.marks.look(&call, answer, &before, &self.state);
-
-        let mut line = call.numbers();
-        let pairs = before.iter().zip(&self.state).enumerate();
-        let changed: Vec<_> = pairs.filter(|(_, (old, new))| old != new).collect();
-        line.extend([answer, changed.len() as u64]);
-        for (at, (_, &new)) in changed {
-            line.extend([at as u64, new]);
-        }
-        self.list.add(&line);
-        answer
-    }
-
-    fn start(&mut self, start: Start) {
-        self.call(Call::Start(start));
-    }
-
-    fn get(&mut self, getter: Getter) -> u64 {
-        self.call(Call::Get(getter))
-    }
-
-    fn sent(&mut self, in_flight: u64, number: u64, bytes: u64) {
-        self.call(Call::Sent {
-            moment: self.state[LAST_MOMENT],
-            in_flight,
-            number,
-            bytes,
-        });
-    }
-
-    /// Sets a record of the last moment with this window.
-    fn record(&mut self, record: Record) {
-        self.call(Call::Record(Record {
-            event_time: record.event_time.max(self.state[LAST_MOMENT]),
-            ..record
-        }));
-    }
-
-    /// An event that adds to the totals those of `more`, and acks `number`,
-    /// if one is given.
-    fn event(&mut self, number: Option<u64>, more: Sample) {
-        self.call(Call::Event(Sample {
-            total_acked: self.state[TOTAL_ACKED] + more.total_acked,
-            total_lost: self.state[TOTAL_LOST] + more.total_lost,
-            acked_length: number.is_some() as usize,
-            acked: [number.unwrap_or(0), 0, 0],
-            ..more
-        }));
-    }
-
-    /// A record of this moment and an event on it that ends no round.
-    fn event_at(&mut self, event_time: u64, more: Sample) {
-        self.record(Record {
-            event_time,
-            prior_cwnd: 13_000,
-            prior_in_flight: 13_000,
-            ..Record::default()
-        });
-        self.event(None, more);
-    }
-
-    /// An event that ends the round.
-    fn round(&mut self, more: Sample) {
-        let past = match self.state[END_SET] {
-            0 => 0,
-            _ => self.state[END] + 1,
-        };
-        self.event(Some(past), more);
-    }
-}
-
-const NONE: Sample = Sample {
-    bandwidth: None,
-    send_rate: None,
-    ack_rate: None,
-    app_limited: false,
-    rtt: None,
-    max_inflight: 0,
-    extra_acked: 0,
-    send_state: SendState {
-        valid: false,
-        app_limited: false,
-        total_acked: 0,
-        bytes_in_flight: 0,
-    },
-    total_acked: 0,
-    total_lost: 0,
-    acked_length: 0,
-    acked: [0; 3],
-};
-
-const LOST: Sample = Sample {
-    total_lost: 1,
-    ..NONE
-};
-
-const ACKED: Sample = Sample {
-    total_acked: 1300,
-    ..NONE
-};
-
-pub fn sequences() -> List {
+pub fn sequences() -> Run {
     let usual = Host::usual_start();
-    let mut run = Run {
-        list: List::new("sequences.txt"),
-        host: Host::new(&usual),
-        state: [0; 66],
-        marks: Marks::new(usual),
-    };
+    let mut run = Run::new(usual);
 
     marked(&mut run, usual);
     events(&mut run, usual);
@@ -168,7 +44,7 @@ pub fn sequences() -> List {
 
     let all = run.marks.tell();
     assert!(all, "something wanted is too rare");
-    run.list
+    run
 }
 
 /// The marked examples of document 01 that a sequence can show.

@@ -36,7 +36,7 @@ pub struct Turn {
 }
 
 // Whether the port answers as the line has it, and what the next line asks.
-pub fn answer(asked: Asked, n: [u64; 10]) -> Turn {
+pub fn answer(asked: Asked, n: &[u64; 128]) -> Turn {
     match asked {
         Asked::Windowed(filter) => windowed(filter, n),
         Asked::MaxBandwidth(filter) => max_bandwidth(filter, n),
@@ -50,7 +50,7 @@ pub fn answer(asked: Asked, n: [u64; 10]) -> Turn {
 }
 
 // Whether a conversion or a bandwidth is as the line has it.
-fn number(asked: Asked, n: [u64; 10]) -> bool {
+fn number(asked: Asked, n: &[u64; 128]) -> bool {
     match asked {
         Asked::ToF32 => f32_is(numbers::to_f32(n[0]), n[1]),
         Asked::ToF64 => f64_is(numbers::to_f64(n[0]), n[1]),
@@ -64,11 +64,11 @@ fn number(asked: Asked, n: [u64; 10]) -> bool {
     }
 }
 
-fn order(a: Bandwidth, b: Bandwidth, n: [u64; 10]) -> bool {
+fn order(a: Bandwidth, b: Bandwidth, n: &[u64; 128]) -> bool {
     (a.lt(b) == (n[2] == 1)) & (a.max(b).0 == n[3]) & (a.min(b).0 == n[4])
 }
 
-fn windowed(filter: WindowedFilter, n: [u64; 10]) -> Turn {
+fn windowed(filter: WindowedFilter, n: &[u64; 128]) -> Turn {
     let op = n[0];
     let next = match op {
         0 => WindowedFilter::new(n[1]),
@@ -92,7 +92,7 @@ fn updated(filter: WindowedFilter, sample: u64, time: u64) -> WindowedFilter {
     }
 }
 
-fn holds(filter: WindowedFilter, n: [u64; 10]) -> bool {
+fn holds(filter: WindowedFilter, n: &[u64; 128]) -> bool {
     let held = filter.held;
     match held {
         Held::Empty => {
@@ -116,7 +116,7 @@ fn holds(filter: WindowedFilter, n: [u64; 10]) -> bool {
     }
 }
 
-fn max_bandwidth(filter: MaxBandwidthFilter, n: [u64; 10]) -> Turn {
+fn max_bandwidth(filter: MaxBandwidthFilter, n: &[u64; 128]) -> Turn {
     let op = n[0];
     let next = match op {
         0 => MaxBandwidthFilter::new(),
@@ -129,7 +129,7 @@ fn max_bandwidth(filter: MaxBandwidthFilter, n: [u64; 10]) -> Turn {
     }
 }
 
-fn min_rtt(filter: MinRttFilter, n: [u64; 10]) -> Turn {
+fn min_rtt(filter: MinRttFilter, n: &[u64; 128]) -> Turn {
     let rtt = Duration(n[1]);
     let now = Moment(n[2]);
     let op = n[0];
@@ -144,7 +144,7 @@ fn min_rtt(filter: MinRttFilter, n: [u64; 10]) -> Turn {
     }
 }
 
-fn rounds(counter: RoundTripCounter, n: [u64; 10]) -> Turn {
+fn rounds(counter: RoundTripCounter, n: &[u64; 128]) -> Turn {
     let op = n[0];
     let next = match op {
         0 => RoundTripCounter::new(),
@@ -158,7 +158,7 @@ fn rounds(counter: RoundTripCounter, n: [u64; 10]) -> Turn {
     }
 }
 
-fn acked(counter: RoundTripCounter, n: [u64; 10]) -> Turn {
+fn acked(counter: RoundTripCounter, n: &[u64; 128]) -> Turn {
     let packets = [n[2], n[3], n[4]];
     let few = (n[1] % 4) as usize;
     let answer = counter.on_packets_acked(&packets[..few]);
@@ -169,7 +169,7 @@ fn acked(counter: RoundTripCounter, n: [u64; 10]) -> Turn {
     }
 }
 
-fn stands(counter: RoundTripCounter, n: [u64; 10]) -> bool {
+fn stands(counter: RoundTripCounter, n: &[u64; 128]) -> bool {
     let end = counter.end;
     let set = match end {
         RoundEnd::NotSet => (n[8] == 0) & (n[9] == 0),

@@ -1,7 +1,6 @@
 // Compares the port with fixed lists of the original's answers, and prints what was compared.
 mod asked;
 mod bits;
-mod list;
 
 use asked::Asked;
 use filters::Duration;
@@ -11,6 +10,9 @@ use filters::Moment;
 use filters::RoundTripCounter;
 use filters::WindowedFilter;
 use libc::STDOUT_FILENO;
+use lines::file::read_file;
+use lines::list::change_last;
+use lines::list::read_line;
 
 pub struct Tally {
     pub answers: u64,
@@ -41,25 +43,15 @@ fn compared(asked: Asked, text: &[u8]) -> Tally {
         if text.len() <= at {
             return tally;
         }
-        let line = list::read_line(text, at);
+        let line = read_line(text, at);
         at = line.next;
         let numbers = line.numbers;
-        let turn = asked::answer(next, numbers);
+        let turn = asked::answer(next, &numbers);
         next = turn.asked;
         let differ = if turn.same { 0 } else { 1 };
         tally = sum(tally, Tally { answers: 1, differ });
     }
     tally
-}
-
-// Puts another digit for the last one of a list.
-fn change_last(text: &mut [u8]) {
-    let n = text.len();
-    if n < 2 {
-        return;
-    }
-    let last = n - 2;
-    text[last] = text[last] % 10 + 48;
 }
 
 // A list compared, and compared again with its last digit changed: how many lines differ then.
@@ -76,17 +68,8 @@ fn compared_twice(asked: Asked, text: &mut [u8]) -> Both {
 // Compares the list in a file, then again with its last digit changed, and prints both. A list is
 // shorter than the buffer, 65,536 bytes.
 fn compare(asked: Asked, name: &[u8]) -> Tally {
-    let file = os::open_read(name);
-    if file < 0 {
-        os::fail(name);
-        return Tally {
-            answers: 0,
-            differ: 1,
-        };
-    }
     let mut space = io::large_buffer();
-    let n = io::read_full(file, &mut space);
-    libc::close(file);
+    let n = read_file(name, &mut space);
     let both = compared_twice(asked, &mut space[..n]);
     print(both, name);
     both.tally

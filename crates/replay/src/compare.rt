@@ -1,95 +1,76 @@
-// The port's state after a call, compared with the original's.
-use crate::fields::field;
-use calls::call::Turn;
-use calls::call::World;
-use calls::call::arguments;
+// What the port made of a line, compared with what the line expects.
+use crate::line::PUT;
+use crate::line::Turn;
+use crate::line::arguments;
+use crate::line::first_pair;
+use crate::line::is_whole;
 
-// What a line's comparison found.
+// What a comparison found.
 pub enum Found {
     Same,
-    // The line is no call with its answer and its changes.
+    // The line isn't one of numbers put into the state, nor a call with what it leaves.
     Unread,
-    // The port refused the call.
-    Refused,
+    // The reply differs: expected, got.
+    Reply(u64, u64),
     // The answer differs: expected, got.
     Answer(u64, u64),
     // A field differs, the first: index, expected, got.
     Field(u64, u64, u64),
 }
 
-// The expected state after a line of so many numbers: its changes are pairs of index and value, after
-// the call, its arguments, its answer and the number of changes.
-pub fn changed(expected: [u64; 66], n: &[u64; 192], count: usize) -> [u64; 66] {
-    let mut next = expected;
-    let mut at = arguments(n[0]) + 3;
-    while at < 191 {
-        if count <= at {
-            return next;
-        }
-        let index = n[at];
-        let value = n[at + 1];
-        if index < 66 {
-            next[index as usize] = value;
-        }
-        at += 2;
+// The turn of a line of so many numbers, compared with the line and with the state after it.
+pub fn compared(turn: Turn, n: &[u64; 128], count: usize, expected: &[u64; 77]) -> Found {
+    let call = n[0];
+    if !is_whole(n, count) {
+        return Found::Unread;
     }
-    next
+    if call == PUT {
+        return Found::Same;
+    }
+    let place = arguments(call);
+    let reply = n[place + 1];
+    let answer = n[place + 2];
+    let changes = n[place + 3];
+    if !is_counted(changes, count, first_pair(call)) {
+        return Found::Unread;
+    }
+    if turn.reply != reply {
+        return Found::Reply(reply, turn.reply);
+    }
+    if turn.answer != answer {
+        return Found::Answer(answer, turn.answer);
+    }
+    let state = turn.state;
+    state_found(&state, expected)
 }
 
-// Whether a line of so many numbers has as many changes, from a place on, of fields whose index rises.
-fn is_read(n: &[u64; 192], count: usize, from: usize, changes: u64) -> bool {
-    let mut seen = 0;
-    let mut least = 0;
-    let mut at = from;
-    while at < 191 {
-        if count <= at {
-            return (at == count) & (seen == changes);
-        }
-        let index = n[at];
-        if (index < least) | (65 < index) {
-            return false;
-        }
-        seen = std::num::wrapping_add_u64(seen, 1);
-        least = std::num::wrapping_add_u64(index, 1);
-        at += 2;
+// Whether so many changes, two numbers each, take up a line from a place on.
+fn is_counted(changes: u64, count: usize, from: usize) -> bool {
+    if count < from {
+        return false;
     }
-    false
-}
-
-// The first index from 0 at which the state isn't the expected one; 66 if there is none.
-fn first_other(world: World, expected: &[u64; 66]) -> usize {
-    for index in 0usize..66 {
-        if field(world, index as u64) != expected[index] {
-            return index;
-        }
+    if 77 < changes {
+        return false;
     }
-    66
+    count - from == 2 * (changes as usize)
 }
 
 // The state, compared with the expected one.
-fn state_found(world: World, expected: &[u64; 66]) -> Found {
-    let other = first_other(world, expected);
-    if other < 66 {
-        let index = other as u64;
-        Found::Field(index, expected[other], field(world, index))
+fn state_found(state: &[u64; 77], expected: &[u64; 77]) -> Found {
+    let other = first_other(state, expected);
+    if other < 77 {
+        Found::Field(other as u64, expected[other], state[other])
     } else {
         Found::Same
     }
 }
 
-// The turn that a line of so many numbers took, compared with the line's answer and the expected state.
-pub fn compared(turn: Turn, n: &[u64; 192], count: usize, expected: &[u64; 66]) -> Found {
-    let place = arguments(n[0]) + 1;
-    let answer = n[place];
-    if !is_read(n, count, place + 2, n[place + 1]) {
-        return Found::Unread;
+// The first index at which the states differ; 77 if there is none.
+fn first_other(state: &[u64; 77], expected: &[u64; 77]) -> usize {
+    for index in 0usize..77 {
+        if state[index] != expected[index] {
+            return index;
+        }
     }
-    if !turn.done {
-        return Found::Refused;
-    }
-    if turn.answer != answer {
-        return Found::Answer(answer, turn.answer);
-    }
-    let world = turn.world;
-    state_found(world, expected)
+    77
 }

@@ -5,10 +5,10 @@ use Rattle.replay.proofs.compare.first_other.Statement.{statement}
 use Rattle.replay.proofs.compare.first_other.Tie as tie
 
 abbrev Inv-loop : tie.InvT-loop
-Inv-loop world expected index₀ index = Unit {0}
+Inv-loop state expected index₀ index = Unit {0}
 
 abbrev μ-loop : tie.MeasureT-loop
-μ-loop world expected index₀ index = 66 - index
+μ-loop state expected index₀ index = 77 - index
 
 pub first-other-spec : {M : Type 1} → statement M
 first-other-spec =
@@ -17,7 +17,8 @@ first-other-spec =
     Inv-loop
     μ-loop
     (λ c. search needs)
-    (λ c κs. search needs)
+    (λ c. search needs)
+    (λ c. search needs)
     (λ c. search needs)
     (λ c. search needs)
     (λ c. search needs)

@@ -1,0 +1,395 @@
+#!/usr/bin/env python3
+"""Random runs of the port beside the same rules on exact fractions.
+
+    tests/drift.py [SEED [RUNS]]        compares, and prints the worst cases beside their bounds
+    tests/drift.py --picture FILE.svg   draws runs of the port against the exact run
+
+The port is the program `follow` (crates/follow), which carries out the calls; nothing of its lower bounds is taken
+from it but what it prints. The exact run here is written from network_model.rs, with Python's fractions."""
+
+import os
+import random
+import struct
+import subprocess
+import sys
+from fractions import Fraction
+
+ROOT = os.path.dirname(os.path.dirname(os.path.abspath(__file__)))
+UNSET = 2**64 - 1
+PARTS = 2**24
+# the number of each call in a line for `follow`, and how many arguments it has
+START, SENT, EVENT, FINISH, HIGH, CAP, CLEAR_INFLIGHT, CLEAR_BANDWIDTH, ADVANCE, CRUISE, REFILL, RESTART = range(12)
+
+
+def f32(bits):
+    return struct.unpack("<f", struct.pack("<I", bits))[0]
+
+
+def bits_of(x):
+    return struct.unpack("<I", struct.pack("<f", x))[0]
+
+
+def factor(beta_bits):
+    """b, the f32 1 - beta, exactly. The double 1 - beta is exact here, and packing rounds it to f32."""
+    return Fraction(f32(bits_of(1.0 - f32(beta_bits))))
+
+
+class Exact:
+    """The model as far as the lower bounds need it: whole numbers, and the two lower bounds as fractions."""
+
+    def __init__(self, beta_bits):
+        self.b = factor(beta_bits)
+        self.sent = 0
+        self.end = None
+        self.acked = self.lost = 0
+        self.round_lost = 0
+        self.slots = [0, 0]
+        self.latest_bandwidth = self.latest_inflight = 0
+        self.high = UNSET
+        self.inflight = self.bandwidth = None
+        self.inflight_count = self.bandwidth_count = 0
+        self.ended = False
+
+    def call(self, op, a):
+        if op == SENT:
+            self.sent = a[0]
+        elif op == EVENT:
+            self.event(*a)
+        elif op == FINISH:
+            if self.ended:
+                self.round_lost = 0
+        elif op == HIGH:
+            self.high = a[0]
+        elif op == CAP:
+            self.cap(a[0])
+        elif op == CLEAR_INFLIGHT:
+            self.clear_inflight()
+        elif op == CLEAR_BANDWIDTH:
+            self.clear_bandwidth()
+        elif op == ADVANCE:
+            if self.slots[1] != 0:
+                self.slots = [self.slots[1], 0]
+        elif op == CRUISE:
+            self.cap(self.high)
+        elif op == REFILL:
+            self.clear_inflight()
+            self.clear_bandwidth()
+            self.restart()
+        elif op == RESTART:
+            self.restart()
+
+    def restart(self):
+        self.round_lost = 0
+        self.end = self.sent
+
+    def cap(self, bytes):
+        if self.inflight is not None:
+            self.inflight = min(self.inflight, Fraction(bytes))
+
+    def clear_inflight(self):
+        self.inflight = None
+        self.inflight_count = 0
+
+    def clear_bandwidth(self):
+        self.bandwidth = None
+        self.bandwidth_count = 0
+
+    def event(self, window, probing, acked, lost, packet, bandwidth, limited, inflight):
+        self.ended = packet != 0 and (self.end is None or packet > self.end)
+        if self.ended:
+            self.end = self.sent
+        if bandwidth != UNSET and acked != self.acked:
+            if not limited or bandwidth > max(self.slots):
+                self.slots[1] = max(self.slots[1], bandwidth)
+        self.round_lost += lost - self.lost
+        self.acked, self.lost = acked, lost
+        if bandwidth != UNSET:
+            self.latest_bandwidth = max(self.latest_bandwidth, bandwidth)
+        self.latest_inflight = max(self.latest_inflight, inflight)
+        if self.ended and not probing and self.round_lost > 0:
+            self.reduce(window)
+        if self.ended:
+            if bandwidth != UNSET:
+                self.latest_bandwidth = bandwidth
+            if inflight > 0:
+                self.latest_inflight = inflight
+
+    def reduce(self, window):
+        lo = Fraction(window) if self.inflight is None else self.inflight
+        self.inflight = max(Fraction(self.latest_inflight), lo * self.b)
+        self.inflight_count += 1
+        lo = Fraction(max(self.slots)) if self.bandwidth is None else self.bandwidth
+        self.bandwidth = max(Fraction(self.latest_bandwidth), lo * self.b)
+        self.bandwidth_count += 1
+
+
+# ---- runs
+
+
+def betas(rng):
+    usual = 0x3E99999A
+    ends = [0x3A800000, 0x3A800001, 0x3F7FC000, 0x3F7FBFFF, 0x3F000000, 0x3F000001, 0x3EFFFFFF, 0x3E800000, 0x3DCCCCCD]
+    pick = rng.random()
+    if pick < 0.4:
+        return usual
+    if pick < 0.6:
+        return rng.choice(ends)
+    return rng.randint(0x3A800000, 0x3F7FC000)
+
+
+def window(rng):
+    pick = rng.random()
+    if pick < 0.2:
+        return PARTS - rng.randrange(64)
+    if pick < 0.3:
+        return rng.randrange(5000)
+    return rng.randrange(PARTS + 1)
+
+
+def run_of(rng, rounds):
+    """A run: a start, then lossy rounds with what else may come between."""
+    beta = betas(rng)
+    calls = [(START, [beta])]
+    packet = acked = lost = 0
+    lonely = rng.random() < 0.5  # nothing but losses: the longest drift
+    rate = rng.randrange(1, 2**40 + 1)
+    for _ in range(rounds):
+        packet += 1
+        calls.append((SENT, [packet]))
+        acked += rng.randrange(1, 20000)
+        if rng.random() < 0.9:
+            lost += rng.randrange(1, 5000)
+        inflight = 0 if lonely or rng.random() < 0.8 else rng.randrange(1, rng.choice([2000, 100000, PARTS + 1]))
+        bandwidth = UNSET
+        if packet == 1:
+            bandwidth = rate
+        elif not lonely and rng.random() < 0.3:
+            bandwidth = rng.randrange(1, rate + 1)
+        elif packet == 2:
+            bandwidth = 1
+        probing = not lonely and rng.random() < 0.1
+        numbers = packet if rng.random() < 0.95 else 0
+        limited = not lonely and rng.random() < 0.2
+        calls.append((EVENT, [window(rng), int(probing), acked, lost, numbers, bandwidth, int(limited), inflight]))
+        if rng.random() < 0.7:
+            calls.append((FINISH, []))
+        if not lonely:
+            calls += between(rng)
+    return calls
+
+
+def between(rng):
+    pick = rng.random()
+    if pick < 0.05:
+        return [(CAP, [rng.choice([rng.randrange(PARTS + 1), rng.randrange(2**40), UNSET])])]
+    if pick < 0.07:
+        return [(HIGH, [rng.choice([rng.randrange(PARTS + 1), UNSET])])]
+    if pick < 0.09:
+        return [(CRUISE, [])]
+    if pick < 0.10:
+        return [(REFILL, [])]
+    if pick < 0.11:
+        return [(CLEAR_INFLIGHT, [])]
+    if pick < 0.12:
+        return [(CLEAR_BANDWIDTH, [])]
+    if pick < 0.14:
+        return [(ADVANCE, [])]
+    if pick < 0.15:
+        return [(RESTART, [])]
+    return []
+
+
+# ---- the port
+
+
+def program():
+    """The command that runs `follow`: the program itself on x86-64, by way of the kit's emulator elsewhere."""
+    path = os.path.join(ROOT, "target", "bin", "follow")
+    if os.uname().machine == "x86_64":
+        return [path]
+    guide = subprocess.run(["rt", "doc"], capture_output=True, text=True, check=True).stdout.strip()
+    kit = os.path.dirname(os.path.dirname(guide))
+    tools = os.path.join(kit, "on", os.uname().machine, "toolchain")
+    return [os.path.join(tools, "bin", "qemu-x86_64"), os.path.join(tools, "lib", "ld-linux-x86-64.so.2"), "--library-path", os.path.join(tools, "lib"), path]
+
+
+def text_of(calls):
+    return "".join(" ".join(map(str, [op] + a)) + "\n" for op, a in calls)
+
+
+def followed(command, calls):
+    """What the port has after each call: the reply's number, inflight_lo and bandwidth_lo."""
+    out = subprocess.run(command, input=text_of(calls), capture_output=True, text=True, check=True).stdout
+    rows = [tuple(map(int, line.split())) for line in out.splitlines()]
+    if len(rows) != len(calls):
+        raise SystemExit(f"{len(calls)} calls were given, {len(rows)} answered")
+    return rows
+
+
+# ---- the comparison
+
+
+class Worst:
+    """The largest differences seen at one beta, with the bound that each had."""
+
+    def __init__(self):
+        self.inflight = (Fraction(0), 0, 0)
+        self.bandwidth = (Fraction(0), 0, 0)
+
+
+def difference(stored, exact):
+    if (stored == UNSET) != (exact is None):
+        return None
+    return Fraction(0) if exact is None else abs(stored - exact)
+
+
+def checked(calls, rows, worst, counts):
+    """Says where a run leaves a bound, or None."""
+    exact = None
+    for place, ((op, a), (reply, inflight, bandwidth)) in enumerate(zip(calls, rows)):
+        if op == START:
+            exact = Exact(a[0])
+            seen = worst.setdefault(a[0], Worst())
+        else:
+            exact.call(op, a)
+        if reply != 0:
+            return f"call {place}, {op} {a}: refused with {reply}"
+        rate = 1 / (1 - exact.b)
+        step = Fraction(4097, 8192)
+        for name, stored, value, k, unit in (
+            ("inflight", inflight, exact.inflight, exact.inflight_count, Fraction(1)),
+            ("bandwidth", bandwidth, exact.bandwidth, exact.bandwidth_count, step),
+        ):
+            d = difference(stored, value)
+            if d is None:
+                return f"call {place}, {op} {a}: {name}_lo is {stored}, but exactly {value}"
+            if value is None:
+                continue
+            bound = min(k, rate) * unit
+            if d >= bound:
+                return f"call {place}, {op} {a}: {name}_lo is {stored}, exactly {float(value)}, {float(d)} away, not below {float(bound)} after {k} reductions"
+            if d > getattr(seen, name)[0]:
+                setattr(seen, name, (d, k, bound))
+        if op == EVENT:
+            counts["events"] += 1
+        counts["calls"] += 1
+    counts["reductions"] += exact.inflight_count
+    return None
+
+
+def batches(seed, runs):
+    """Runs, put together to inputs that `follow` can hold, 65,536 bytes."""
+    rng = random.Random(seed)
+    batch, size = [], 0
+    for _ in range(runs):
+        calls = run_of(rng, rng.choice([3, 10, 25, 60]))
+        length = len(text_of(calls))
+        if size + length > 65000:
+            yield batch
+            batch, size = [], 0
+        batch += [calls]
+        size += length
+    yield batch
+
+
+def compare(seed, runs):
+    command = program()
+    worst, counts = {}, {"calls": 0, "events": 0, "reductions": 0}
+    for batch in batches(seed, runs):
+        rows = followed(command, [call for calls in batch for call in calls])
+        at = 0
+        for calls in batch:
+            fault = checked(calls, rows[at : at + len(calls)], worst, counts)
+            at += len(calls)
+            if fault:
+                print(text_of(calls), end="")
+                raise SystemExit(f"outside the bounds: {fault}")
+    print("      beta   inflight_lo: worst   its bound   for any k   bandwidth_lo: worst   its bound   for any k")
+    usual = [0x3A800000, 0x3DCCCCCD, 0x3E800000, 0x3E99999A, 0x3F000000, 0x3F7FC000]
+    for beta in usual:
+        if beta in worst:
+            line(f"{f32(beta):10.6f}", factor(beta), worst[beta])
+    nearest = max(worst, key=lambda beta: ratio(worst[beta].inflight))
+    line(f"{f32(nearest):10.6f}", factor(nearest), worst[nearest])
+    print(f"{runs} runs at {len(worst)} betas, {counts['calls']} calls, {counts['events']} events: 0 outside the bounds (the last line above is the nearest to its bound)")
+
+
+def ratio(seen):
+    return seen[0] / seen[2] if seen[2] else Fraction(0)
+
+
+def line(name, b, seen):
+    rate = float(1 / (1 - b))
+    i, w = seen.inflight, seen.bandwidth
+    print(f"{name} {float(i[0]):20.6f} {float(i[2]):11.4f} {rate:11.4f} {float(w[0]):21.6f} {float(w[2]):11.4f} {rate * 4097 / 8192:11.4f}")
+
+
+# ---- the picture
+
+
+def losses(beta, window, reductions):
+    """A run of lossy rounds and nothing else."""
+    calls = [(START, [beta])]
+    for n in range(1, reductions + 1):
+        calls += [(SENT, [n]), (EVENT, [window, 0, n, n, n, UNSET, 0, 0]), (FINISH, [])]
+    return calls
+
+
+def differences(command, beta, window, reductions):
+    calls = losses(beta, window, reductions)
+    exact, out = Exact(beta), []
+    for (op, a), (reply, inflight, bandwidth) in zip(calls, followed(command, calls)):
+        if op != START:
+            exact.call(op, a)
+        if op == EVENT:
+            out.append((exact.inflight_count, inflight, float(inflight - exact.inflight)))
+    return out
+
+
+def panel(left, title, rate, runs, reductions):
+    """One drawing: how far inflight_lo is from the exact value, and the two bounds."""
+    width, height, top = 430, 300, 56
+    peak = rate * 1.25
+    x = lambda k: left + 46 + k * (width - 66) / reductions
+    y = lambda d: top + height / 2 - d * (height / 2) / peak
+    out = [f'<text x="{left + 46}" y="{top - 14}" font-weight="bold">{title}</text>']
+    out.append(f'<line x1="{x(0):.1f}" y1="{y(0):.1f}" x2="{x(reductions):.1f}" y2="{y(0):.1f}" stroke="#888"/>')
+    for sign in (1, -1):
+        out.append(f'<line x1="{x(0):.1f}" y1="{y(sign * rate):.1f}" x2="{x(reductions):.1f}" y2="{y(sign * rate):.1f}" stroke="#b00" stroke-dasharray="6 4"/>')
+        k = min(reductions, peak)
+        out.append(f'<line x1="{x(0):.1f}" y1="{y(0):.1f}" x2="{x(k):.1f}" y2="{y(sign * k):.1f}" stroke="#06c" stroke-dasharray="2 3"/>')
+        out.append(f'<text x="{x(0) - 6:.1f}" y="{y(sign * rate) + 4:.1f}" text-anchor="end">{sign * rate:.2f}</text>')
+    out.append(f'<text x="{x(0) - 6:.1f}" y="{y(0) + 4:.1f}" text-anchor="end">0</text>')
+    for k in range(0, reductions + 1, reductions // 5):
+        out.append(f'<text x="{x(k):.1f}" y="{top + height + 18}" text-anchor="middle">{k}</text>')
+    for color, points in runs:
+        path = " ".join(f"{x(k):.1f},{y(d):.1f}" for k, _, d in [(0, 0, 0.0)] + points)
+        out.append(f'<polyline points="{path}" fill="none" stroke="{color}" stroke-width="1.2"/>')
+    return out
+
+
+def picture(path):
+    command = program()
+    usual, small = 0x3E99999A, 0x3C800000
+    colors = ["#333", "#2a7", "#a6a", "#d80"]
+    first = [(c, differences(command, usual, w, 40)) for c, w in zip(colors, [14744309, 16777216, 12345678, 5000011])]
+    second = [(c, differences(command, small, w, 500)) for c, w in zip(colors, [14744309, 16777216, 12345678, 5000011])]
+    out = ['<svg xmlns="http://www.w3.org/2000/svg" width="900" height="430" font-family="sans-serif" font-size="12">', '<rect width="900" height="430" fill="white"/>']
+    out += panel(0, "beta 0.3: bytes between inflight_lo and the exact value", float(1 / (1 - factor(usual))), first, 40)
+    out += panel(450, "beta 1/64", float(1 / (1 - factor(small))), second, 500)
+    out.append('<text x="46" y="410">Below: reductions k. Red: 1 / (1 - b). Blue: k. Lines: windows of 14,744,309 (dark), 16,777,216 (green), 12,345,678 (violet) and 5,000,011 (orange) bytes.</text>')
+    out.append("</svg>")
+    with open(path, "w") as file:
+        file.write("\n".join(out) + "\n")
+
+
+def main():
+    if sys.argv[1:2] == ["--picture"]:
+        picture(sys.argv[2])
+        return
+    seed = int(sys.argv[1]) if len(sys.argv) > 1 else 1
+    runs = int(sys.argv[2]) if len(sys.argv) > 2 else 4000
+    compare(seed, runs)
+
+
+main()
