@@ -31,7 +31,7 @@ use Rattle.phases.specs.Phases.{restartedAt, cruiseModel, refillModel, leftMode
 use Rattle.laws.proofs.Events.{event-model, event-sample, most-kept, most-max}
 use Rattle.drift.specs.Calls.{Call, event, cap, clearInflight, clearBandwidth, cruise, refill, other, State, numberOf, nextOf, run, started}
 use Rattle.drift.specs.Exact.{stays, reduces, Exact, unset, over, isReduced, bandwidthTurn, exactly, exactRun}
-use Rattle.drift.specs.Drift.{lowOf, bandwidthLow, Differ, Follows, HasBeta, BandwidthDrift}
+use Rattle.drift.specs.Drift.{lowOf, bandwidthLow, Within, Follows, HasBeta, BandwidthDrift}
 use Rattle.drift.proofs.Others.{other-same, left-same}
 use Rattle.drift.proofs.Runs.{run-kept}
 use Rattle.drift.proofs.Sums.{Held, near, first, again}
@@ -41,7 +41,7 @@ module _ (beta : Float) (b : Parts (complement beta)) where
   cut x = timesF32 x (complement beta)
 
   -- one cut of a bandwidth within its bound is off by less than 4097 / 8192
-  step : (x : Bandwidth) → bandwidthOk x ≡ true → Differ (cut x .0 * 2 ^ 24 * 8192) (x .0 * b .parts * 8192) (2 ^ 24 * 4097)
+  step : (x : Bandwidth) → bandwidthOk x ≡ true → Within (cut x .0 * 2 ^ 24 * 8192) (x .0 * b .parts * 8192) (2 ^ 24 * 4097)
   unfolding timesF32
   step x h =
       let law = scale-f64-law (x .0) (b .parts) (2 ^ 24) (complement beta) (leb-true (x .0) (2 ^ 40) h) (omega arith) (omega (arith, b .not-all)) (b .value) .0 in
@@ -125,6 +125,6 @@ module _ (beta : Float) (b : Parts (complement beta)) where
 
 pub bandwidth-drift : BandwidthDrift
 unfolding bandwidthLow
-bandwidth-drift beta b p rtt now calls begun same =
+bandwidth-drift beta b p rtt now calls begun same any =
     follows beta b (run calls (started p rtt now) .model .lower .bandwidth) (exactRun bandwidthTurn (b .parts) calls (started p rtt now) unset)
     (run-kept bandwidthTurn (b .parts) (λ s x. Kept beta b (s .model .lower .bandwidth) x) (HasBeta beta) (next-kept beta b) calls (started p rtt now) unset same (start-kept beta b p rtt now))

@@ -1,6 +1,8 @@
 -- The worked runs: one list of facts, computed. Assumes nothing.
 use mathlib.Core.Bool.{true}
 use mathlib.Core.Path.{_≡_, refl}
+use Prim.Native.Nat.{_*_}
+use lib.Dec.{lit<}
 use lib.Ieee as Ieee
 use Rattle.numbers.specs.Scaling.{scaled, scaledF64}
 use Rattle.numbers.specs.FloatToInt.{roundAway}
@@ -9,14 +11,21 @@ use Rattle.filters.specs.MaxBandwidthFilter.{maxGet, maxUpdate}
 use Rattle.filters.specs.RoundTripCounter.{roundsSent, endsRound, roundsFull, roundsEnded, roundsAcked}
 use Rattle.model.specs.Answers.{settled}
 use Rattle.model.specs.Bounds.{all, within, paramsOk, roundOk, modelTests, rowOf}
-use Rattle.model.specs.Calls.{withRounds, withRound, withLower, withMoment, modelNew, startNumber, startModel, storedNumber, givenNumber, sentNumber, sentNext, capNext, clearInflightNext}
+use Rattle.model.specs.Calls.{withRounds, withRound, withLower, withMoment, modelNew, startNumber, startModel, storedNumber, givenNumber, sentNumber, sentNext, capNext, clearInflightNext, clearBandwidthNext, withGrowth, growthRestarted, restartNext}
 use Rattle.model.specs.State.{roundSent, lowerCapped}
 use Rattle.events.specs.Event.{recordTests, sampleTests, stateAfter, deliveredBy, roundAfter, latestRaised, lowerReduced, lowerAfter, latestAfter, recordOf, recordNext, mostNext, roundNext, lowerNext, modelOf, modelNext, isFull, eventNumber}
+use Rattle.events.specs.Judge.{recordNumber, finishNext}
+use Rattle.phases.specs.Cycle.{cycleNew, stayFrom, freshNumber, freshCycle, cycleTests}
+use Rattle.phases.specs.Phases.{entryNumber, restartedAt, exitModel, leftModel, leftCycle, cycleIn, cruiseModel, cruiseCycle, refillModel, refilled, refillCycle}
 use Rattle.drift.specs.Calls.{otherNumber, numberOf, otherNext, nextOf, after, run, started}
 use Rattle.drift.specs.Exact.{isReduced, inflightTurn, bandwidthTurn, exactly, exactRun}
-use Rattle.drift.specs.Drift.{inflightLow, bandwidthLow}
+use Rattle.drift.specs.Drift.{inflightLow, bandwidthLow, Near, usualParts}
 use Rattle.drift.specs.Examples.{driftExamples}
 
 pub drift-examples : all driftExamples ≡ true
-unfolding driftExamples scaled scaledF64 roundAway timesF32 Ieee.round Ieee.ofBits Ieee.sub Ieee.mul Ieee.ofInt Ieee.toUnsigned Ieee.eq Ieee.le maxGet maxUpdate roundsSent endsRound roundsFull roundsEnded roundsAcked settled within paramsOk roundOk modelTests rowOf withRounds withRound withLower withMoment modelNew startNumber startModel storedNumber givenNumber sentNumber sentNext capNext clearInflightNext lowerCapped roundSent recordTests sampleTests stateAfter deliveredBy roundAfter latestRaised lowerReduced lowerAfter latestAfter recordOf recordNext mostNext roundNext lowerNext modelOf modelNext isFull eventNumber otherNumber numberOf otherNext nextOf after run started isReduced inflightTurn bandwidthTurn exactly exactRun inflightLow bandwidthLow
+unfolding driftExamples scaled scaledF64 roundAway timesF32 Ieee.round Ieee.ofBits Ieee.sub Ieee.mul Ieee.ofInt Ieee.toUnsigned Ieee.eq Ieee.le maxGet maxUpdate roundsSent endsRound roundsFull roundsEnded roundsAcked settled within paramsOk roundOk modelTests rowOf withRounds withRound withLower withMoment modelNew startNumber startModel storedNumber givenNumber sentNumber sentNext capNext clearInflightNext clearBandwidthNext withGrowth growthRestarted restartNext lowerCapped roundSent recordTests sampleTests stateAfter deliveredBy roundAfter latestRaised lowerReduced lowerAfter latestAfter recordOf recordNext mostNext roundNext lowerNext modelOf modelNext isFull eventNumber recordNumber finishNext cycleNew stayFrom freshNumber freshCycle cycleTests entryNumber restartedAt exitModel leftModel leftCycle cycleIn cruiseModel cruiseCycle refillModel refilled refillCycle otherNumber numberOf otherNext nextOf after run started isReduced inflightTurn bandwidthTurn exactly exactRun inflightLow bandwidthLow
 drift-examples = refl
+
+-- one instance of the bounds, computed: 910 against 1300 b
+pub near-example : Near 1 1 usualParts 910 (1300 * usualParts) 1
+near-example = record { counted = lit< tt; by-count = (lit< tt, lit< tt); by-rate = (lit< tt, lit< tt) }

@@ -27,9 +27,9 @@ use Rattle.phases.specs.declared.cycle.Cycle.{Cycle}
 use Rattle.phases.specs.Phases.{restartedAt, cruiseModel, refillModel, leftModel}
 use Rattle.drift.specs.Calls.{Call, event, cap, clearInflight, clearBandwidth, cruise, refill, other, State, nextOf, after, run, started}
 use Rattle.drift.specs.Exact.{stays, caps, reduces, Exact, unset, over, isReduced, inflightTurn, exactly, exactRun}
-use Rattle.drift.specs.Drift.{none, at, inflightLow, Differ, Follows, HasBeta, IsSmall, InflightDrift}
+use Rattle.drift.specs.Drift.{none, at, inflightLow, Within, Follows, HasBeta, IsSmall, InflightDrift}
 use Rattle.drift.proofs.Others.{other-same, left-same, left-high}
-use Rattle.drift.proofs.Runs.{run-kept, all-both}
+use Rattle.drift.proofs.Runs.{run-kept, both-along}
 use Rattle.drift.proofs.Sums.{Held, near, first, again, cut-off}
 
 module _ (beta : Float) (b : Parts (complement beta)) where
@@ -37,7 +37,7 @@ module _ (beta : Float) (b : Parts (complement beta)) where
   cut n = scaled n (complement beta)
 
   -- one cut of at most 2^24 is off by less than 1, and not above what it cuts
-  step : (n : ℕ) → n ≤ 2 ^ 24 → Differ (cut n * 2 ^ 24 * 1) (n * b .parts * 1) (2 ^ 24 * 1)
+  step : (n : ℕ) → n ≤ 2 ^ 24 → Within (cut n * 2 ^ 24 * 1) (n * b .parts * 1) (2 ^ 24 * 1)
   step n h = let law = scale-law n (b .parts) (2 ^ 24) (complement beta) h (omega arith) (omega (arith, b .not-all)) (b .value) in (omega (arith, law .not-over), omega (arith, law .not-short))
 
   not-above : (n : ℕ) → n ≤ 2 ^ 24 → cut n ≤ 2 ^ 24
@@ -146,4 +146,4 @@ unfolding inflightLow
 inflight-drift beta b p rtt now calls begun same sizes =
     let kept = run-kept inflightTurn (b .parts) (λ s x. Kept beta b (s .model) x) (λ c. HasBeta beta c × IsSmall c) (λ c s x p done. next-kept beta b c s x (p .0) (p .1)) in
     follows beta b (run calls (started p rtt now) .model .lower .inflight) (exactRun inflightTurn (b .parts) calls (started p rtt now) unset)
-    (kept calls (started p rtt now) unset (all-both (HasBeta beta) IsSmall calls same sizes) (start-kept beta b p rtt now) .raw)
+    (kept calls (started p rtt now) unset (both-along (HasBeta beta) IsSmall calls (started p rtt now) same sizes) (start-kept beta b p rtt now) .raw)

@@ -4,12 +4,14 @@ use mathlib.Core.Bool.{Bool, true, false, cond}
 use mathlib.Core.List.{List, [], _∷_}
 use mathlib.Core.Path.{_≡_, refl, sym, ap, subst, _∙_}
 use lib.Dec.{eqb}
+use lib.Ieee.{Float}
+use Rattle.numbers.specs.Scaling.{complement, Parts}
 use Rattle.filters.specs.declared.time.Duration.{Duration}
 use Rattle.filters.specs.declared.time.Moment.{Moment}
 use Rattle.model.specs.declared.network_model.NetworkModel.{NetworkModel}
 use Rattle.model.specs.declared.params.Params.{Params}
 use Rattle.model.specs.Answers.{settled}
-use Rattle.model.specs.Calls.{startModel}
+use Rattle.model.specs.Calls.{startNumber, startModel}
 use Rattle.events.specs.declared.record.Record.{Record}
 use Rattle.events.specs.declared.record.Sample.{Sample}
 use Rattle.events.specs.Event.{eventNumber, modelNext}
@@ -17,11 +19,12 @@ use Rattle.phases.specs.declared.cycle.Cycle.{Cycle}
 use Rattle.phases.specs.Cycle.{freshCycle}
 use Rattle.drift.specs.Calls as Calls
 use Rattle.drift.specs.Calls.{Call, Other, State, otherNumber, otherNext, numberOf, nextOf, after, run, started}
-use Rattle.drift.specs.Exact.{unset, inflightTurn, bandwidthTurn, exactRun}
-use Rattle.drift.specs.Drift.{inflightLow, bandwidthLow, Follows}
-use Rattle.drift.specs.Returned.{Leaves, MadeOther, Made, Begun, Ran, CodeInflightDrift, CodeBandwidthDrift}
+use Rattle.drift.specs.Exact.{Turn, unset, inflightTurn, bandwidthTurn, exactRun}
+use Rattle.drift.specs.Drift.{Low, inflightLow, bandwidthLow, Follows, Along, HasBeta, IsSmall, IsAny, Drift, UsualDrift, Under, usualBeta, usualParts}
+use Rattle.drift.specs.Returned.{Leaves, MadeOther, Made, Begun, Ran, CodeInflightDrift, CodeBandwidthDrift, CodeUsualInflightDrift, CodeUsualBandwidthDrift}
 use Rattle.drift.proofs.Inflight.{inflight-drift}
 use Rattle.drift.proofs.Bandwidth.{bandwidth-drift}
+use Rattle.drift.proofs.Usual.{usual-inflight-drift, usual-bandwidth-drift}
 
 -- ---- the state, settled part by part
 model-made : (s t : State) (k : ℕ) (got next : NetworkModel) → got ≡ settled k next (s .model) → t ≡ record { model = got; cycle = s .cycle } → t ≡ settled k (record { model = next; cycle = s .cycle }) s
@@ -108,14 +111,32 @@ begun p rtt time s r =
     let cycle : s .cycle ≡ freshCycle time = c .1 ∙ r .1 .4 .1 ∙ ap freshCycle (λ i. c .0 i .0) in
     λ i. record { model = model i; cycle = cycle i }
 
+-- what holds of a start and of where its run ends, over the definitions, holds of the code
+module _ (p : Params) (rtt : Duration) (time : Moment) (calls : List Call) (s t : State) (b : Begun p rtt time s) (r : Ran calls s t) where
+  returned : (P : State → State → Type 0) → P (started p rtt time) (run calls (started p rtt time)) → P s t
+  returned P h = subst (λ (z : State). P s z) (sym (ran calls s t r)) (subst (λ (z : State). P z (run calls z)) (sym (begun p rtt time s b)) h)
+
+  along : (P : Call → Type 0) → Along P calls s → Along P calls (started p rtt time)
+  along P h = subst (λ (z : State). Along P calls z) (begun p rtt time s b) h
+
+  module _ (turn : Call → State → Turn) (low : State → Low) (Q : Call → Type 0) where
+    code-drift : (u v : ℕ) → Drift u v turn low Q → (beta : Float) (f : Parts (complement beta)) → startNumber p rtt time ≡ 0 → Along (HasBeta beta) calls s → Along Q calls s
+        → Follows u v (f .parts) (low t) (exactRun turn (f .parts) calls s unset)
+    code-drift u v drift beta f done same fine =
+        returned (λ s t. Follows u v (f .parts) (low t) (exactRun turn (f .parts) calls s unset)) (drift beta f p rtt time calls done (along (HasBeta beta) same) (along Q fine))
+
+    code-usual-drift : (h : ℕ) → UsualDrift h turn low Q → startNumber p rtt time ≡ 0 → Along (HasBeta usualBeta) calls s → Along Q calls s → Under h (low t) (exactRun turn usualParts calls s unset)
+    code-usual-drift h drift done same fine =
+        returned (λ s t. Under h (low t) (exactRun turn usualParts calls s unset)) (drift p rtt time calls done (along (HasBeta usualBeta) same) (along Q fine))
+
 pub code-inflight-drift : CodeInflightDrift
-code-inflight-drift beta b p rtt time calls s t done same sizes r q =
-    let e = begun p rtt time s r in
-    subst (λ (z : State). Follows 1 1 (b .parts) (inflightLow z) (exactRun inflightTurn (b .parts) calls s unset)) (sym (ran calls s t q))
-    (subst (λ (z : State). Follows 1 1 (b .parts) (inflightLow (run calls z)) (exactRun inflightTurn (b .parts) calls z unset)) (sym e) (inflight-drift beta b p rtt time calls done same sizes))
+code-inflight-drift beta f p rtt time calls s t done same fine b r = code-drift p rtt time calls s t b r inflightTurn inflightLow IsSmall 1 1 inflight-drift beta f done same fine
 
 pub code-bandwidth-drift : CodeBandwidthDrift
-code-bandwidth-drift beta b p rtt time calls s t done same r q =
-    let e = begun p rtt time s r in
-    subst (λ (z : State). Follows 4097 8192 (b .parts) (bandwidthLow z) (exactRun bandwidthTurn (b .parts) calls s unset)) (sym (ran calls s t q))
-    (subst (λ (z : State). Follows 4097 8192 (b .parts) (bandwidthLow (run calls z)) (exactRun bandwidthTurn (b .parts) calls z unset)) (sym e) (bandwidth-drift beta b p rtt time calls done same))
+code-bandwidth-drift beta f p rtt time calls s t done same fine b r = code-drift p rtt time calls s t b r bandwidthTurn bandwidthLow IsAny 4097 8192 bandwidth-drift beta f done same fine
+
+pub code-usual-inflight-drift : CodeUsualInflightDrift
+code-usual-inflight-drift p rtt time calls s t done same fine b r = code-usual-drift p rtt time calls s t b r inflightTurn inflightLow IsSmall 334 usual-inflight-drift done same fine
+
+pub code-usual-bandwidth-drift : CodeUsualBandwidthDrift
+code-usual-bandwidth-drift p rtt time calls s t done same fine b r = code-usual-drift p rtt time calls s t b r bandwidthTurn bandwidthLow IsAny 167 usual-bandwidth-drift done same fine

@@ -8,7 +8,7 @@ use borrow.Author.Tests.{eqb-true}
 use Rattle.model.specs.Answers.{settled}
 use Rattle.drift.specs.Calls.{Call, State, numberOf, nextOf, after, run}
 use Rattle.drift.specs.Exact.{Turn, stays, Exact, exactly, exactRun}
-use Rattle.drift.specs.Drift.{All}
+use Rattle.drift.specs.Drift.{Along}
 
 -- `Kept` speaks of a state and of the exact value beside it, `next` of a call that is done
 module _ (turn : Call → State → Turn) (parts : ℕ) (Kept : State → Exact → Type 0) (P : Call → Type 0)
@@ -17,19 +17,19 @@ module _ (turn : Call → State → Turn) (parts : ℕ) (Kept : State → Exact 
   made c s x = exactly parts (settled (numberOf c s) (turn c s) stays) x
 
   -- a refused call changes neither
-  after-kept : (c : Call) (s : State) (x : Exact) → P c → Kept s x → Kept (after c s) (made c s x)
+  after-kept : (c : Call) (s : State) (x : Exact) → (numberOf c s ≡ 0 → P c) → Kept s x → Kept (after c s) (made c s x)
   unfolding after settled exactly
   after-kept c s x p h = go (eqb (numberOf c s) 0) refl
     where
       go : (t : Bool) → eqb (numberOf c s) 0 ≡ t → Kept (cond t (nextOf c s) s) (exactly parts (cond t (turn c s) stays) x)
-      go true e = next c s x p (eqb-true (numberOf c s) 0 e) h
+      go true e = let done = eqb-true (numberOf c s) 0 e in next c s x (p done) done h
       go false e = h
 
-  pub run-kept : (calls : List Call) (s : State) (x : Exact) → All P calls → Kept s x → Kept (run calls s) (exactRun turn parts calls s x)
+  pub run-kept : (calls : List Call) (s : State) (x : Exact) → Along P calls s → Kept s x → Kept (run calls s) (exactRun turn parts calls s x)
   unfolding run exactRun
   run-kept [] s x p h = h
   run-kept (c ∷ calls) s x p h = run-kept calls (after c s) (made c s x) (p .1) (after-kept c s x (p .0) h)
 
-pub all-both : (P Q : Call → Type 0) (calls : List Call) → All P calls → All Q calls → All (λ c. P c × Q c) calls
-all-both P Q [] p q = tt
-all-both P Q (c ∷ calls) p q = ((p .0, q .0), all-both P Q calls (p .1) (q .1))
+pub both-along : (P Q : Call → Type 0) (calls : List Call) (s : State) → Along P calls s → Along Q calls s → Along (λ c. P c × Q c) calls s
+both-along P Q [] s p q = tt
+both-along P Q (c ∷ calls) s p q = (λ done. (p .0 done, q .0 done), both-along P Q calls (after c s) (p .1) (q .1))

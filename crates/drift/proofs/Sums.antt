@@ -7,7 +7,7 @@ use native.Mathlib.Omega.{arith}
 use lib.Dec.{leb}
 use lib.Pow.{pow-add, pow-pos}
 use borrow.Author.Tests.{leb-true, leb-false}
-use Rattle.drift.specs.Drift.{Differ, Near}
+use Rattle.drift.specs.Drift.{Within, Near}
 
 -- ---- the larger and the smaller, multiplied
 max-times : (a b d : ℕ) → max a b * d ≡ max (a * d) (b * d)
@@ -25,20 +25,20 @@ min-times a b d = go (leb a b) refl
     go false e = rw (min-eq-right (le-of-lt (leb-false a b e)), min-eq-right (mul-le-mul-right d (le-of-lt (leb-false a b e))))
 
 -- ---- a reduction: n becomes m, off by less than u / v; num / d becomes num * parts / (d * w); the error e in units of u / (v * d) becomes e * parts + d * w
-module _ (u v w parts n m num d e : ℕ) (pos : 0 < d) (step : Differ (m * w * v) (n * parts * v) (w * u))
+module _ (u v w parts n m num d e : ℕ) (pos : 0 < d) (step : Within (m * w * v) (n * parts * v) (w * u))
     (above : n * d * v ≤ num * v + e * u) (below : num * v ≤ n * d * v + e * u) where
-  reduced : Differ (m * (d * w) * v) (num * parts * v) ((e * parts + d * w) * u)
+  reduced : Within (m * (d * w) * v) (num * parts * v) ((e * parts + d * w) * u)
   reduced =
       (omega (arith, mul-lt-mul-of-pos-right (step .0) pos, mul-le-mul-right parts above), omega (arith, mul-lt-mul-of-pos-right (step .1) pos, mul-le-mul-right parts below))
 
   -- then both are raised to the latest
-  raised : (latest : ℕ) → Differ (max latest m * (d * w) * v) (max (latest * (d * w)) (num * parts) * v) ((e * parts + d * w) * u)
+  raised : (latest : ℕ) → Within (max latest m * (d * w) * v) (max (latest * (d * w)) (num * parts) * v) ((e * parts + d * w) * u)
   raised latest =
       rw (max-times latest m (d * w), max-times (latest * (d * w)) (m * (d * w)) v, max-times (latest * (d * w)) (num * parts) v)
       (omega (arith, reduced .0, reduced .1), omega (arith, reduced .0, reduced .1))
 
 -- ---- a cap
-capped : (v n num d e bytes : ℕ) → Differ (n * d * v) (num * v) e → Differ (min bytes n * d * v) (min (bytes * d) num * v) e
+capped : (v n num d e bytes : ℕ) → Within (n * d * v) (num * v) e → Within (min bytes n * d * v) (min (bytes * d) num * v) e
 capped v n num d e bytes h =
     rw (min-times bytes n d, min-times (bytes * d) (n * d) v, min-times (bytes * d) num v) (omega (arith, h .0, h .1), omega (arith, h .0, h .1))
 
@@ -71,12 +71,12 @@ sum-rate parts r (suc k) e = rw (next-den k) (rate-step (sum parts k) (2 ^ (24 *
 -- ---- what is kept: the two differ by less than the sum times u / v
 pub record Held (u v parts n num k : ℕ) : Type 0 where
   pub counted : 0 < k
-  pub held : Differ (n * 2 ^ (24 * k) * v) (num * v) (sum parts k * u)
+  pub held : Within (n * 2 ^ (24 * k) * v) (num * v) (sum parts k * u)
 
-count-of : (a b s k d u : ℕ) → Differ a b (s * u) → s ≤ k * d → Differ a b (k * u * d)
+count-of : (a b s k d u : ℕ) → Within a b (s * u) → s ≤ k * d → Within a b (k * u * d)
 count-of a b s k d u h p = (omega (arith, h .0, mul-le-mul-right u p), omega (arith, h .1, mul-le-mul-right u p))
 
-rate-of : (a b s w d u r : ℕ) → 0 < r → Differ a b (s * u) → s * r ≤ w * d → Differ (a * r) (b * r) (w * u * d)
+rate-of : (a b s w d u r : ℕ) → 0 < r → Within a b (s * u) → s * r ≤ w * d → Within (a * r) (b * r) (w * u * d)
 rate-of a b s w d u r pos h p = (omega (arith, mul-lt-mul-of-pos-right (h .0) pos, mul-le-mul-right u p), omega (arith, mul-lt-mul-of-pos-right (h .1) pos, mul-le-mul-right u p))
 
 pub near : (u v parts n num k : ℕ) → parts < 2 ^ 24 → Held u v parts n num k → Near u v parts n num k
@@ -91,11 +91,11 @@ near u v parts n num k small h =
     }
 
 -- ---- the turns, with the cut m of n
-pub first : (u v parts seed m latest : ℕ) → Differ (m * 2 ^ 24 * v) (seed * parts * v) (2 ^ 24 * u) → Held u v parts (max latest m) (max (latest * 2 ^ 24) (seed * parts)) 1
+pub first : (u v parts seed m latest : ℕ) → Within (m * 2 ^ 24 * v) (seed * parts * v) (2 ^ 24 * u) → Held u v parts (max latest m) (max (latest * 2 ^ 24) (seed * parts)) 1
 unfolding sum
 first u v parts seed m latest step = record { counted = omega arith; held = raised u v (2 ^ 24) parts seed m seed 1 0 (omega arith) step (omega arith) (omega arith) latest }
 
-pub again : (u v parts n m num k latest : ℕ) → Differ (m * 2 ^ 24 * v) (n * parts * v) (2 ^ 24 * u) → Held u v parts n num k → Held u v parts (max latest m) (max (latest * 2 ^ (24 * (k + 1))) (num * parts)) (k + 1)
+pub again : (u v parts n m num k latest : ℕ) → Within (m * 2 ^ 24 * v) (n * parts * v) (2 ^ 24 * u) → Held u v parts n num k → Held u v parts (max latest m) (max (latest * 2 ^ (24 * (k + 1))) (num * parts)) (k + 1)
 unfolding sum
 again u v parts n m num k latest step h =
     let d = 2 ^ (24 * k) in

@@ -4,12 +4,16 @@ use mathlib.Core.Path.{refl}
 use native.Mathlib.Omega.{arith}
 use lib.Dec.{lit<, lit≤}
 use mathlib.Core.Bool.{false}
-use lib.Ieee.{ofBits, sub}
+use lib.Ieee.{binary32, ofBits, sub, le}
+use denote.Floats.{passes}
+use Rattle.numbers.proofs.Complement.{complement-law}
+use Rattle.model.specs.Bounds.{within}
+use Rattle.model.proofs.Rows.{and-left, and-right}
 use lib.Ieee.Exact.{HasValue}
 use Rattle.numbers.specs.Scaling.{complement, Parts}
 use Rattle.drift.specs.Exact.{Exact, unset, over, inflightTurn, bandwidthTurn, exactRun}
 use Rattle.drift.specs.Calls.{run, started}
-use Rattle.drift.specs.Drift.{Low, none, at, inflightLow, bandwidthLow, Differ, Follows, usualBeta, usualParts, Under, UsualInflightDrift, UsualBandwidthDrift}
+use Rattle.drift.specs.Drift.{EveryBeta, Low, none, at, inflightLow, bandwidthLow, Within, Follows, usualBeta, usualParts, Under, UsualInflightDrift, UsualBandwidthDrift}
 use Rattle.drift.proofs.Inflight.{inflight-drift}
 use Rattle.drift.proofs.Bandwidth.{bandwidth-drift}
 
@@ -20,13 +24,13 @@ usual-value = (refl, refl)
 abbrev usual : Parts (complement usualBeta)
 usual = record { parts = usualParts; value = usual-value; some = lit< tt; not-all = lit< tt; at-least = lit≤ tt; at-most = lit≤ tt }
 
-inflight-under : (a num d : ℕ) → Differ (a * 1 * (2 ^ 24 - usualParts)) (num * 1 * (2 ^ 24 - usualParts)) (2 ^ 24 * 1 * d) → Differ (a * 100) (num * 100) (334 * d)
+inflight-under : (a num d : ℕ) → Within (a * 1 * (2 ^ 24 - usualParts)) (num * 1 * (2 ^ 24 - usualParts)) (2 ^ 24 * 1 * d) → Within (a * 100) (num * 100) (334 * d)
 inflight-under a num d h = (omega (arith, h .0), omega (arith, h .1))
 
-bandwidth-under : (a num d : ℕ) → Differ (a * 8192 * (2 ^ 24 - usualParts)) (num * 8192 * (2 ^ 24 - usualParts)) (2 ^ 24 * 4097 * d) → Differ (a * 100) (num * 100) (167 * d)
+bandwidth-under : (a num d : ℕ) → Within (a * 8192 * (2 ^ 24 - usualParts)) (num * 8192 * (2 ^ 24 - usualParts)) (2 ^ 24 * 4097 * d) → Within (a * 100) (num * 100) (167 * d)
 bandwidth-under a num d h = (omega (arith, h .0), omega (arith, h .1))
 
-under : (u v h : ℕ) → ((a num d : ℕ) → Differ (a * v * (2 ^ 24 - usualParts)) (num * v * (2 ^ 24 - usualParts)) (2 ^ 24 * u * d) → Differ (a * 100) (num * 100) (h * d))
+under : (u v h : ℕ) → ((a num d : ℕ) → Within (a * v * (2 ^ 24 - usualParts)) (num * v * (2 ^ 24 - usualParts)) (2 ^ 24 * u * d) → Within (a * 100) (num * 100) (h * d))
     → (l : Low) (x : Exact) → Follows u v usualParts l x → Under h l x
 under u v h rate none unset f = tt
 under u v h rate none (over num k) f = f
@@ -38,5 +42,12 @@ usual-inflight-drift p rtt now calls begun same sizes = under 1 1 334 inflight-u
     (inflight-drift usualBeta usual p rtt now calls begun same sizes)
 
 pub usual-bandwidth-drift : UsualBandwidthDrift
-usual-bandwidth-drift p rtt now calls begun same = under 4097 8192 167 bandwidth-under (bandwidthLow (run calls (started p rtt now))) (exactRun bandwidthTurn usualParts calls (started p rtt now) unset)
-    (bandwidth-drift usualBeta usual p rtt now calls begun same)
+usual-bandwidth-drift p rtt now calls begun same any = under 4097 8192 167 bandwidth-under (bandwidthLow (run calls (started p rtt now))) (exactRun bandwidthTurn usualParts calls (started p rtt now) unset)
+    (bandwidth-drift usualBeta usual p rtt now calls begun same any)
+
+pub every-beta : EveryBeta
+unfolding within ofBits
+every-beta beta f ok =
+    let low = le (ofBits binary32 0x3a80_0000) beta in
+    let high = le beta (ofBits binary32 0x3f7f_c000) in
+    complement-law beta f (passes low (and-left low high ok)) (passes high (and-right low high ok))

@@ -18,7 +18,8 @@ use Rattle.phases.specs.declared.cycle.Cycle.{Cycle}
 use Rattle.phases.specs.Cycle.{freshCycle}
 use Rattle.phases.specs.Phases as P
 
--- ---- every public call that can change the model or the cycle, with its arguments. First those whose rules name no lower bound
+-- ---- every call that can change the model or the cycle, with its arguments: all of the public functions that test what they are given (docs/DECISIONS.md, 22, has the steps that don't).
+-- First those whose rules name no lower bound
 pub data Other : Type 0 where
   sent : (now : Moment) (inflight packet bytes : ℕ) → Other
   finish : Record → Other

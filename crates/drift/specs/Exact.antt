@@ -46,7 +46,7 @@ bandwidthTurn (Calls.cruise now) s = stays
 bandwidthTurn (Calls.refill rounds now) s = clears
 bandwidthTurn (Calls.other c) s = stays
 
--- neither turn depends on the lower bounds that are stored, so the exact run takes nothing from a rounded number
+-- neither turn depends on the lower bounds that are stored. (Whether a call is done does: it tests that they are within their bounds)
 abbrev pub Blind : (Call → State → Turn) → Type 0
 Blind turn = (c : Call) (s : State) (l : Lower) → turn c (record { model = withLower (s .model) l; cycle = s .cycle }) ≡ turn c s
 

@@ -3,45 +3,46 @@ use Prim.Native.Nat.{ℕ, zero, suc, _+_, _*_, _^_}
 use mathlib.Core.Bool.{Bool, true, false, cond}
 use mathlib.Core.List.{List, [], _∷_, _++_}
 use lib.Dec.{eqb, ltb}
-use lib.Ieee.{Float, binary32, ofBits}
 use Rattle.model.specs.declared.params.Params.{Params}
-use Rattle.model.specs.declared.state.MaybeBandwidth.{MaybeBandwidth}
+use Rattle.model.specs.Calls.{one}
 use Rattle.model.specs.declared.state.MaybeBandwidth.the-variants.{Unset, Set}
+use Rattle.filters.specs.declared.time.Moment.{Moment}
 use Rattle.events.specs.declared.record.MaybeLength.the-variants.{Missing}
 use Rattle.events.specs.declared.record.Record.{Record}
 use Rattle.events.specs.declared.record.Sample.{Sample}
-use Rattle.drift.specs.Calls.{Call, event, cap, clearInflight, other, sent, State, run, started}
+use Rattle.drift.specs.Calls.{Call, event, cap, clearInflight, cruise, refill, other, sent, finish, State, run, started}
 use Rattle.drift.specs.Exact.{Exact, unset, over, inflightTurn, bandwidthTurn, exactRun}
 use Rattle.drift.specs.Drift.{Low, none, at, inflightLow, bandwidthLow, usualBeta, usualParts}
 
 -- ---- a run of lossy rounds: in each a packet is sent, and an event acks it and loses a byte
-abbrev one : Float
-one = ofBits binary32 0x3f80_0000
-
 abbrev params : Params
 params = record { beta = usualBeta; loss = one; headroom = one; growth = one; cwnd = one; pacing = one; rounds = 3; queueing = 0; period = record { 0 = 0 }; base = record { 0 = 0 }; ignore = true }
 
-abbrev told : (window : ℕ) → Record
-told window =
+abbrev pub moment : Moment
+moment = record { 0 = 0 }
+
+-- the record of an event in a window
+abbrev told : (window : ℕ) (probing ended : Bool) → Record
+told window probing ended =
     record {
-      time = record { 0 = 0 };
+      time = moment;
       window = window;
       prior = 0;
       inflight = 0;
       acked = 0;
       lost = 0;
-      ended = false;
-      probing = false;
+      ended = ended;
+      probing = probing;
       bandwidth = Unset;
       rtt = Missing;
       state = record { valid = false; limited = false; acked = 0; inflight = 0 };
     }
 
 -- the sampler's answer in round n
-abbrev heard : (n : ℕ) → MaybeBandwidth → Sample
-heard n bandwidth =
+abbrev heard : (n lost rate : ℕ) → Sample
+heard n lost rate =
     record {
-      bandwidth = bandwidth;
+      bandwidth = Set (record { 0 = rate });
       send = Unset;
       ack = Unset;
       limited = false;
@@ -49,20 +50,22 @@ heard n bandwidth =
       inflight = 0;
       extra = 0;
       state = record { valid = false; limited = false; acked = 0; inflight = 0 };
-      totals = record { acked = n; lost = n };
+      totals = record { acked = n; lost = lost };
     }
 
--- round n
-abbrev pub round : (window rate n : ℕ) → List Call
-round window rate n = other (sent (record { 0 = 0 }) 0 n 0) ∷ event params (told window) (heard n (Set (record { 0 = rate }))) (n ∷ []) ∷ []
+abbrev sends : (n : ℕ) → Call
+sends n = other (sent moment 0 n 0)
+
+abbrev acks : (window : ℕ) (probing : Bool) (n lost rate : ℕ) → Call
+acks window probing n lost rate = event params (told window probing false) (heard n lost rate) (n ∷ [])
 
 -- the first sample of the bandwidth is `rate`, every later one 1
 abbrev pub lossy : (window rate rounds : ℕ) → List Call
 lossy window rate zero = []
-lossy window rate (suc n) = lossy window rate n ++ round window (cond (eqb n 0) rate 1) (suc n)
+lossy window rate (suc n) = lossy window rate n ++ (sends (suc n) ∷ acks window false (suc n) (suc n) (cond (eqb n 0) rate 1) ∷ [])
 
 abbrev fresh : State
-fresh = started params (record { 0 = 0 }) (record { 0 = 0 })
+fresh = started params (record { 0 = 0 }) moment
 
 -- ---- how far the stored number is from the exact one: below it, or above it, by more than so many tenths
 abbrev pub isBelow : (tenths : ℕ) → Low → Exact → Bool
@@ -79,20 +82,29 @@ abbrev reductions : Exact → ℕ
 reductions unset = 0
 reductions (over num k) = k
 
+abbrev numerator : Exact → ℕ
+numerator unset = 0
+numerator (over num k) = num
+
 abbrev low : List Call → Low
 low calls = inflightLow (run calls fresh)
 
 abbrev exact : List Call → Exact
 exact calls = exactRun inflightTurn usualParts calls fresh unset
 
+abbrev bandwidth : List Call → Exact
+bandwidth calls = exactRun bandwidthTurn usualParts calls fresh unset
+
+-- ---- the runs
 abbrev deep : List Call
 deep = lossy 14744309 1 19
 
-abbrev once : (window : ℕ) → List Call
-once window = lossy window 1 1
-
 abbrev fast : List Call
 fast = lossy 1300 196960228154 20
+
+-- after 19 rounds: an event that is refused (its window is out of bounds), one while probing, one without a loss, and a cap by inflight_hi, which is unset
+abbrev quiet : List Call
+quiet = acks (2 ^ 41) false 20 20 1 ∷ sends 20 ∷ acks 1300 true 20 20 1 ∷ other (finish (told 0 false true)) ∷ sends 21 ∷ acks 1300 false 21 20 1 ∷ cruise moment ∷ []
 
 unfoldable pub driftExamples : List Bool
 driftExamples =
@@ -100,13 +112,20 @@ driftExamples =
     eqb (reductions (exact deep)) 19
     ∷ isBelow 28 (low deep) (exact deep)
     -- 1300 bytes become 910 in one reduction: above the exact value
-    ∷ isAbove 0 (low (once 1300)) (exact (once 1300))
+    ∷ isAbove 0 (low (lossy 1300 1 1)) (exact (lossy 1300 1 1))
+    -- the exact values after one and two reductions
+    ∷ eqb (numerator (exact (lossy 1300 1 1))) (1300 * usualParts)
+    ∷ eqb (numerator (exact (lossy 1300 1 2))) (1300 * usualParts * usualParts)
+    ∷ eqb (reductions (exact (lossy 1300 1 2))) 2
     -- 16,777,223 bytes, above 2^24: one reduction, and more than 1 byte off
-    ∷ eqb (reductions (exact (once 16777223))) 1
-    ∷ isAbove 10 (low (once 16777223)) (exact (once 16777223))
-    -- a cap is no reduction; a clear starts the count again
+    ∷ eqb (reductions (exact (lossy 16777223 1 1))) 1
+    ∷ isAbove 10 (low (lossy 16777223 1 1)) (exact (lossy 16777223 1 1))
+    -- a cap is no reduction, nor is anything in the quiet calls; a clear starts the count again
     ∷ eqb (reductions (exact (deep ++ (cap 5 ∷ [])))) 19
-    ∷ eqb (reductions (exact (deep ++ (clearInflight ∷ round 1300 1 20)))) 1
-    -- 196,960,228,154 bits per second: after 20 reductions more than 1.4 below the exact value
-    ∷ isBelow 14 (bandwidthLow (run fast fresh)) (exactRun bandwidthTurn usualParts fast fresh unset)
+    ∷ eqb (reductions (exact (deep ++ quiet))) 19
+    ∷ eqb (reductions (exact (deep ++ (clearInflight ∷ sends 20 ∷ acks 1300 false 20 20 1 ∷ [])))) 1
+    ∷ eqb (reductions (exact (deep ++ (refill 0 moment ∷ [])))) 0
+    -- 196,960,228,154 bits per second: after 20 reductions, of which the first two don't lower it, more than 1.4 below the exact value
+    ∷ eqb (reductions (bandwidth fast)) 20
+    ∷ isBelow 14 (bandwidthLow (run fast fresh)) (bandwidth fast)
     ∷ []

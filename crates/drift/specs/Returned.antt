@@ -1,4 +1,6 @@
--- The same of the code: a run made by the public functions themselves, of which no more is known than their contracts.
+-- The same of the code: a run made by the public functions themselves, of which no more is known than their contracts. A contract is `Reads.Learnt` of its function, as the checker reads it: so
+-- this page cites the modules that hold them.
+use Prim.Native.Nat.{ℕ}
 use mathlib.Core.List.{List, [], _∷_}
 use mathlib.Core.Path.{_≡_}
 use denote.Ref.{now}
@@ -15,14 +17,14 @@ use Rattle.phases.proofs.cycle.Cycle as cycle
 use Rattle.phases.proofs.phases as phases
 use Rattle.drift.specs.Calls as Calls
 use Rattle.drift.specs.Calls.{Call, Other, State}
-use Rattle.drift.specs.Exact.{unset, inflightTurn, bandwidthTurn, exactRun}
-use Rattle.drift.specs.Drift.{inflightLow, bandwidthLow, Follows, All, HasBeta, IsSmall}
+use Rattle.drift.specs.Exact.{Turn, unset, inflightTurn, bandwidthTurn, exactRun}
+use Rattle.drift.specs.Drift.{Low, inflightLow, bandwidthLow, Follows, Along, HasBeta, IsSmall, IsAny, usualBeta, usualParts, Under}
 
--- a function was called and has returned: P of its arguments and its reply, of which its contract holds (`Reads.Learnt`, as the checker reads it)
+-- P of some arguments and of a reply to them that the contract allows
 abbrev pub Returned : {K : Type 0} {A E : K → Type 0} {R : Type 0} → ((κ : K) → A κ → R → E κ → Type 0) → ((κ : K) → A κ → R → Type 0) → Type 0
 Returned {K} {A} {E} {R} learnt P = (κ : K) × (a : A κ) × (x : R) × (e : E κ) × learnt κ a x e × P κ a x
 
--- it was called with these arguments, and its reply makes this state
+-- a reply to these arguments, which makes this state
 abbrev pub Leaves : {K : Type 0} {A E : K → Type 0} {R : Type 0} → ((κ : K) → A κ → R → E κ → Type 0) → ((κ : K) → A κ) → (R → State) → State → Type 0
 Leaves learnt args left t = Returned learnt (λ κ a x. (a ≡ args κ) × (t ≡ left x))
 
@@ -67,15 +69,26 @@ abbrev pub Ran : List Call → State → State → Type 0
 Ran [] s t = t ≡ s
 Ran (c ∷ calls) s t = (u : State) × Made c s u × Ran calls u t
 
--- ---- the two theorems of specs/Drift.antt, of the states that the public functions return
-abbrev pub CodeInflightDrift : Type 0
-CodeInflightDrift =
+-- ---- the theorems of specs/Drift.antt, of the states that the public functions return
+abbrev pub CodeDrift : (u v : ℕ) → (Call → State → Turn) → (State → Low) → (Call → Type 0) → Type 0
+CodeDrift u v turn low P =
     (beta : Float) (b : Parts (complement beta)) (p : Params) (rtt : Duration) (time : Moment) (calls : List Call) (s t : State) →
-    startNumber p rtt time ≡ 0 → All (HasBeta beta) calls → All IsSmall calls → Begun p rtt time s → Ran calls s t →
-    Follows 1 1 (b .parts) (inflightLow t) (exactRun inflightTurn (b .parts) calls s unset)
+    startNumber p rtt time ≡ 0 → Along (HasBeta beta) calls s → Along P calls s → Begun p rtt time s → Ran calls s t → Follows u v (b .parts) (low t) (exactRun turn (b .parts) calls s unset)
+
+abbrev pub CodeInflightDrift : Type 0
+CodeInflightDrift = CodeDrift 1 1 inflightTurn inflightLow IsSmall
 
 abbrev pub CodeBandwidthDrift : Type 0
-CodeBandwidthDrift =
-    (beta : Float) (b : Parts (complement beta)) (p : Params) (rtt : Duration) (time : Moment) (calls : List Call) (s t : State) →
-    startNumber p rtt time ≡ 0 → All (HasBeta beta) calls → Begun p rtt time s → Ran calls s t →
-    Follows 4097 8192 (b .parts) (bandwidthLow t) (exactRun bandwidthTurn (b .parts) calls s unset)
+CodeBandwidthDrift = CodeDrift 4097 8192 bandwidthTurn bandwidthLow IsAny
+
+-- at beta 0.3: under 3.34 bytes, and under 1.67 bits per second
+abbrev pub CodeUsualDrift : (hundredths : ℕ) → (Call → State → Turn) → (State → Low) → (Call → Type 0) → Type 0
+CodeUsualDrift h turn low P =
+    (p : Params) (rtt : Duration) (time : Moment) (calls : List Call) (s t : State) →
+    startNumber p rtt time ≡ 0 → Along (HasBeta usualBeta) calls s → Along P calls s → Begun p rtt time s → Ran calls s t → Under h (low t) (exactRun turn usualParts calls s unset)
+
+abbrev pub CodeUsualInflightDrift : Type 0
+CodeUsualInflightDrift = CodeUsualDrift 334 inflightTurn inflightLow IsSmall
+
+abbrev pub CodeUsualBandwidthDrift : Type 0
+CodeUsualBandwidthDrift = CodeUsualDrift 167 bandwidthTurn bandwidthLow IsAny

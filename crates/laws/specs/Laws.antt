@@ -1,13 +1,31 @@
--- What holds of every call that changes the state, said of its contract. A contract as the checker reads it, `Reads.Learnt` of a function, speaks of lifetimes, arguments, a reply and
--- what is left at the exit; `GoodsP` says that the arguments are values of their types. Definitions only.
+-- What holds of every call that changes the state and tests what it is given, said of its contract. A contract as the checker reads it, `Reads.Learnt` of a function, speaks of lifetimes,
+-- arguments, a reply and what is left at the exit; `GoodsP` says that the arguments are values of their types. Definitions only.
 use Prim.Native.Nat.{ℕ}
-use mathlib.Core.Bool.{Bool, true}
+use mathlib.Core.Bool.{Bool, true, false, _&&_}
 use mathlib.Core.List.{List}
 use mathlib.Core.Path.{_≡_}
 use contract.Lifetimes.{Lfts}
 use borrow.Fn.Kinds.{PK, Dens, GoodsP}
 use Rattle.filters.specs.declared.reply.Reply.{Reply}
 use Rattle.filters.specs.Reply.{number}
+use Rattle.model.specs.declared.network_model.NetworkModel.{NetworkModel}
+use Rattle.model.specs.declared.network_model.Changed.{Changed}
+use Rattle.model.specs.Answers.{noLength, noMoment}
+use Rattle.model.specs.Bounds.{modelOk}
+use Rattle.model.specs.Calls.{modelNew, one}
+use Rattle.events.specs.declared.record.Record.{Record}
+use Rattle.events.specs.declared.event.Event.{Event}
+use Rattle.events.specs.declared.judge.Decided.{Decided}
+use Rattle.events.specs.Event.{recordOk}
+use Rattle.phases.specs.declared.cycle.Cycle.{Cycle}
+use Rattle.phases.specs.declared.cycle.Turned.{Turned}
+use Rattle.phases.specs.declared.phases.Entered.{Entered}
+use Rattle.phases.specs.Cycle.{cycleOk, cycleNew}
+use Rattle.model.proofs.network_model.NetworkModel as model
+use Rattle.events.proofs.event as event
+use Rattle.events.proofs.judge as judge
+use Rattle.phases.proofs.cycle.Cycle as cycle
+use Rattle.phases.proofs.phases as phases
 
 -- A refused call leaves what it was given; a call that is done leaves what is within its bounds. `left` picks from a reply what the call leaves, `given` from the arguments what it was given.
 abbrev pub Keeps : {n : ℕ} (ps : List (PK n)) {R : Type 0} {E : Lfts n → Type 0} {S : Type 0}
@@ -15,3 +33,51 @@ abbrev pub Keeps : {n : ℕ} (ps : List (PK n)) {R : Type 0} {E : Lfts n → Typ
 Keeps {n} ps {R} {E} learnt reply left given ok =
     (κs : Lfts n) (a : Dens κs ps) (x : R) (s : E κs) → GoodsP κs ps a → learnt κs a x s →
     ((number (reply x) ≡ 0 → ⊥) → left x ≡ given κs a) × (number (reply x) ≡ 0 → ok (left x) ≡ true)
+
+-- ---- by what a call leaves: a model, a model beside a yes or no, a model and a record, a model and a cycle, a cycle
+abbrev pub both : {X Y : Type 0} → (X → Bool) → (Y → Bool) → X × Y → Bool
+both ok fine z = ok (z .0) && fine (z .1)
+
+abbrev pub ModelKeeps : {n : ℕ} (ps : List (PK n)) {E : Lfts n → Type 0} → ((κs : Lfts n) → Dens κs ps → Changed → E κs → Type 0) → ((κs : Lfts n) → Dens κs ps → NetworkModel) → Type 0
+ModelKeeps ps learnt given = Keeps ps learnt (λ x. x .reply) (λ x. x .model) given modelOk
+
+abbrev pub DecidedKeeps : {n : ℕ} (ps : List (PK n)) {E : Lfts n → Type 0} → ((κs : Lfts n) → Dens κs ps → Decided → E κs → Type 0) → ((κs : Lfts n) → Dens κs ps → NetworkModel) → Type 0
+DecidedKeeps ps learnt given = Keeps ps learnt (λ x. x .reply) (λ x. x .model) given modelOk
+
+abbrev pub EventKeeps : {n : ℕ} (ps : List (PK n)) {E : Lfts n → Type 0} → ((κs : Lfts n) → Dens κs ps → Event → E κs → Type 0) → ((κs : Lfts n) → Dens κs ps → NetworkModel × Record) → Type 0
+EventKeeps ps learnt given = Keeps ps learnt (λ x. x .reply) (λ x. (x .model, x .record)) given (both modelOk recordOk)
+
+abbrev pub PhaseKeeps : {n : ℕ} (ps : List (PK n)) {E : Lfts n → Type 0} → ((κs : Lfts n) → Dens κs ps → Entered → E κs → Type 0) → ((κs : Lfts n) → Dens κs ps → NetworkModel × Cycle) → Type 0
+PhaseKeeps ps learnt given = Keeps ps learnt (λ x. x .reply) (λ x. (x .model, x .cycle)) given (both modelOk cycleOk)
+
+abbrev pub CycleKeeps : {n : ℕ} (ps : List (PK n)) {E : Lfts n → Type 0} → ((κs : Lfts n) → Dens κs ps → Turned → E κs → Type 0) → ((κs : Lfts n) → Dens κs ps → Cycle) → Type 0
+CycleKeeps ps learnt given = Keeps ps learnt (λ x. x .reply) (λ x. x .cycle) given cycleOk
+
+-- ---- the calls
+pub record EveryCall : Type 0 where
+  -- a refused start leaves document 01's fresh model
+  pub start : ModelKeeps model.new.Kinds.ps model.new.Reads.Learnt (λ κs a. modelNew one one false noLength noMoment)
+  pub sent : ModelKeeps model.on_packet_sent.Kinds.ps model.on_packet_sent.Reads.Learnt (λ κs a. a .0)
+  pub restart : ModelKeeps model.restart_round_early.Kinds.ps model.restart_round_early.Reads.Learnt (λ κs a. a .0)
+  pub reached : ModelKeeps model.set_full_bandwidth_reached.Kinds.ps model.set_full_bandwidth_reached.Reads.Learnt (λ κs a. a .0)
+  pub pacing : ModelKeeps model.set_pacing_gain.Kinds.ps model.set_pacing_gain.Reads.Learnt (λ κs a. a .0)
+  pub cwnd : ModelKeeps model.set_cwnd_gain.Kinds.ps model.set_cwnd_gain.Reads.Learnt (λ κs a. a .0)
+  pub high : ModelKeeps model.set_inflight_hi.Kinds.ps model.set_inflight_hi.Reads.Learnt (λ κs a. a .0)
+  pub cap : ModelKeeps model.cap_inflight_lo.Kinds.ps model.cap_inflight_lo.Reads.Learnt (λ κs a. a .0)
+  pub clearInflight : ModelKeeps model.clear_inflight_lo.Kinds.ps model.clear_inflight_lo.Reads.Learnt (λ κs a. a .0)
+  pub clearBandwidth : ModelKeeps model.clear_bandwidth_lo.Kinds.ps model.clear_bandwidth_lo.Reads.Learnt (λ κs a. a .0)
+  pub advance : ModelKeeps model.advance_max_bandwidth_filter.Kinds.ps model.advance_max_bandwidth_filter.Reads.Learnt (λ κs a. a .0)
+  pub postpone : ModelKeeps model.postpone_min_rtt_timestamp.Kinds.ps model.postpone_min_rtt_timestamp.Reads.Learnt (λ κs a. a .0)
+  pub finish : ModelKeeps judge.on_congestion_event_finish.Kinds.ps judge.on_congestion_event_finish.Reads.Learnt (λ κs a. a .0)
+  pub queue : ModelKeeps judge.check_persistent_queue.Kinds.ps judge.check_persistent_queue.Reads.Learnt (λ κs a. a .0)
+  pub expire : DecidedKeeps judge.maybe_expire_min_rtt.Kinds.ps judge.maybe_expire_min_rtt.Reads.Learnt (λ κs a. a .0)
+  pub growth : DecidedKeeps judge.has_bandwidth_growth.Kinds.ps judge.has_bandwidth_growth.Reads.Learnt (λ κs a. a .0)
+  pub occurs : EventKeeps event.on_congestion_event_start.Kinds.ps event.on_congestion_event_start.Reads.Learnt (λ κs a. (a .0, a .1 .1 .0))
+  pub down : PhaseKeeps phases.enter_probe_down.Kinds.ps phases.enter_probe_down.Reads.Learnt (λ κs a. (a .0, a .1 .0))
+  pub cruise : PhaseKeeps phases.enter_probe_cruise.Kinds.ps phases.enter_probe_cruise.Reads.Learnt (λ κs a. (a .0, a .1 .0))
+  pub refill : PhaseKeeps phases.enter_probe_refill.Kinds.ps phases.enter_probe_refill.Reads.Learnt (λ κs a. (a .0, a .1 .0))
+  pub up : PhaseKeeps phases.enter_probe_up.Kinds.ps phases.enter_probe_up.Reads.Learnt (λ κs a. (a .0, a .1 .0))
+  pub exit : PhaseKeeps phases.exit_probe_down.Kinds.ps phases.exit_probe_down.Reads.Learnt (λ κs a. (a .0, a .1 .0))
+  -- a refused fresh cycle is one at moment 0
+  pub fresh : CycleKeeps cycle.new.Kinds.ps cycle.new.Reads.Learnt (λ κs a. cycleNew noMoment)
+  pub slope : CycleKeeps phases.raise_inflight_high_slope.Kinds.ps phases.raise_inflight_high_slope.Reads.Learnt (λ κs a. a .0)
