@@ -20,7 +20,7 @@ use Rattle.drift.specs.Calls.{Call, Other, State}
 use Rattle.drift.specs.Exact.{Turn, unset, inflightTurn, bandwidthTurn, exactRun}
 use Rattle.drift.specs.Drift.{Low, inflightLow, bandwidthLow, Follows, Along, HasBeta, IsSmall, IsAny, usualBeta, usualParts, Under}
 
--- P of some arguments and of a reply to them that the contract allows
+-- P of some arguments and of a reply to them that the contract allows. That there is one for all arguments is what the checker proves of each function
 abbrev pub Returned : {K : Type 0} {A E : K → Type 0} {R : Type 0} → ((κ : K) → A κ → R → E κ → Type 0) → ((κ : K) → A κ → R → Type 0) → Type 0
 Returned {K} {A} {E} {R} learnt P = (κ : K) × (a : A κ) × (x : R) × (e : E κ) × learnt κ a x e × P κ a x
 
