@@ -1,5 +1,5 @@
 # make run: proves, builds and runs the demonstration. make test: the whole gate.
-.PHONY: run test lists clean
+.PHONY: run test drift picture lists clean
 
 run:
 	rt check show
@@ -12,6 +12,17 @@ test:
 	rt fmt --check
 	sh tests/lists.sh
 	rt ci
+
+# Random runs of the port beside exact fractions, and their picture (docs/DRIFT.md).
+SEED = 7
+RUNS = 4000
+drift:
+	rt check follow
+	python3 tests/drift.py $(SEED) $(RUNS)
+
+picture:
+	rt check follow
+	python3 tests/drift.py --picture docs/drift.svg
 
 # Makes the lists of the original's answers again (oracle/README.md).
 lists:
