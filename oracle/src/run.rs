@@ -105,6 +105,30 @@ impl Run {
         self.state = held;
     }
 
+    /// A call that the port accepts with `value` in place of the number at
+    /// `field`, which the call neither reads nor changes: the original is asked
+    /// with the number it has.
+    pub fn accept_with(&mut self, field: usize, value: u64, call: Call) {
+        let mut before = self.state;
+        before[field] = value;
+        let by_table = replies::reply(&call, &before, &self.start);
+        assert_eq!(
+            by_table, 0,
+            "field {field} at {value}: the port's reply to {call:?}"
+        );
+
+        let answer = self.host.call(&call);
+        let after = self.host.state();
+        assert_eq!(
+            after[field], self.state[field],
+            "{call:?} changes field {field}"
+        );
+        self.state = after;
+        self.state[field] = value;
+        self.write(0, answer, call, before);
+        self.state = after;
+    }
+
     fn write(&mut self, reply: u64, answer: u64, call: Call, state: State) {
         let mut before = [0; 77];
         before[..66].copy_from_slice(&state);
