@@ -38,6 +38,7 @@ pub fn limits() -> Run {
     orders(&mut run);
     stored(&mut run);
     full(&mut run);
+    raised(&mut run);
     run
 }
 
@@ -684,4 +685,31 @@ fn full(run: &mut Run) {
     run.accept_with(ROUNDS_WITH_QUEUEING, full, Call::BandwidthGrowth);
     run.refuse_with(5, ROUNDS_WITH_QUEUEING, full, queue);
     run.call(queue);
+}
+
+/// The calls on a cycle in which the update steps have raised what the others
+/// leave at 0.
+fn raised(run: &mut Run) {
+    for call in [
+        Call::ProbeDown {
+            too_high: true,
+            risky: false,
+            moment: 2000,
+        },
+        Call::ProbeCruise { moment: 2000 },
+        Call::ProbeRefill {
+            rounds: 2,
+            moment: 2000,
+        },
+        Call::ProbeUp {
+            moment: 2000,
+            cwnd: 26_000,
+        },
+        Call::ExitProbeDown,
+        Call::RaiseSlope { cwnd: 26_000 },
+    ] {
+        begin(run);
+        run.raise();
+        run.call(call);
+    }
 }

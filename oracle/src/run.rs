@@ -62,6 +62,12 @@ impl Run {
         }
     }
 
+    /// Sets in the cycle what only the update steps raise.
+    pub fn raise(&mut self) {
+        self.host.raise(5, 7, 900);
+        self.state = self.host.state();
+    }
+
     /// Makes a call that the port accepts, and writes it down; its answer.
     pub fn call(&mut self, call: Call) -> u64 {
         self.expect(0, call)
