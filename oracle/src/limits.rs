@@ -38,6 +38,7 @@ pub fn limits() -> Run {
     orders(&mut run);
     stored(&mut run);
     full(&mut run);
+    raised(&mut run);
     run
 }
 
@@ -606,6 +607,31 @@ fn stored(run: &mut Run) {
             run.refuse_with(1, field, limit + 1, call);
         }
     }
+
+    // At its limit each is accepted: by a call that answers a constant, and by
+    // one that touches none of the cycle's.
+    let constant = Call::Get(Getter::InflightHiDefault);
+    let at_limit = |(field, limit): &(usize, u64)| match *field {
+        BYTES_LOST_IN_ROUND | MAX_DELIVERED => *limit != TOTAL,
+        MIN_IN_FLIGHT | INFLIGHT_LO | INFLIGHT_HI => *limit == BYTES,
+        CWND_GAIN | PACING_GAIN => *limit == MOST_GAIN.to_bits() as u64,
+        _ => true,
+    };
+    for (field, limit) in model.into_iter().filter(at_limit) {
+        run.accept_with(field, limit, constant);
+    }
+    for (field, other) in [
+        (MIN_IN_FLIGHT, UNSET),
+        (INFLIGHT_LO, UNSET),
+        (INFLIGHT_HI, UNSET),
+        (CWND_GAIN, LEAST_GAIN.to_bits() as u64),
+        (PACING_GAIN, LEAST_GAIN.to_bits() as u64),
+    ] {
+        run.accept_with(field, other, constant);
+    }
+    for (field, limit) in cycle {
+        run.accept_with(field, limit, Call::ExitProbeDown);
+    }
 }
 
 /// Counters that are full: refused if the call would add 1, else not.
@@ -629,8 +655,8 @@ fn full(run: &mut Run) {
     });
     run.refuse_with(5, ROUND_TRIP_COUNT, full, ends);
     run.refuse_with(5, LOSS_EVENTS_IN_ROUND, full, loses);
-    run.call(ends);
-    run.call(loses);
+    run.accept_with(LOSS_EVENTS_IN_ROUND, full, ends);
+    run.accept_with(ROUND_TRIP_COUNT, full, loses);
 
     // No growth since a baseline that isn't reached.
     run.start(Host::usual_start());
@@ -642,6 +668,7 @@ fn full(run: &mut Run) {
         },
     );
     run.call(Call::BandwidthGrowth);
+    run.accept_with(ROUNDS_WITHOUT_GROWTH, full, Call::BandwidthGrowth);
     run.record(Record {
         send_state: SendState {
             valid: true,
@@ -655,6 +682,34 @@ fn full(run: &mut Run) {
     // A fresh model's unset inflight counts as a queue.
     run.start(Host::usual_start());
     let queue = Call::PersistentQueue { gain: 1.25 };
+    run.accept_with(ROUNDS_WITH_QUEUEING, full, Call::BandwidthGrowth);
     run.refuse_with(5, ROUNDS_WITH_QUEUEING, full, queue);
     run.call(queue);
+}
+
+/// The calls on a cycle in which the update steps have raised what the others
+/// leave at 0.
+fn raised(run: &mut Run) {
+    for call in [
+        Call::ProbeDown {
+            too_high: true,
+            risky: false,
+            moment: 2000,
+        },
+        Call::ProbeCruise { moment: 2000 },
+        Call::ProbeRefill {
+            rounds: 2,
+            moment: 2000,
+        },
+        Call::ProbeUp {
+            moment: 2000,
+            cwnd: 26_000,
+        },
+        Call::ExitProbeDown,
+        Call::RaiseSlope { cwnd: 26_000 },
+    ] {
+        begin(run);
+        run.raise();
+        run.call(call);
+    }
 }

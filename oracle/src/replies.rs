@@ -124,7 +124,7 @@ fn cycle(state: &State) -> bool {
         && state[PROBE_UP_ACKED] <= BYTES
 }
 
-/// Whether the call is given the parameters.
+/// Whether the call is given the parameters, as in the original.
 fn takes_parameters(call: &Call) -> bool {
     matches!(
         call,

@@ -62,6 +62,12 @@ impl Run {
         }
     }
 
+    /// Sets in the cycle what only the update steps raise.
+    pub fn raise(&mut self) {
+        self.host.raise(5, 7, 900);
+        self.state = self.host.state();
+    }
+
     /// Makes a call that the port accepts, and writes it down; its answer.
     pub fn call(&mut self, call: Call) -> u64 {
         self.expect(0, call)
@@ -103,6 +109,30 @@ impl Run {
         );
         self.write(reply, 0, call, self.state);
         self.state = held;
+    }
+
+    /// A call that the port accepts with `value` in place of the number at
+    /// `field`, which the call neither reads nor changes: the original is asked
+    /// with the number it has.
+    pub fn accept_with(&mut self, field: usize, value: u64, call: Call) {
+        let mut before = self.state;
+        before[field] = value;
+        let by_table = replies::reply(&call, &before, &self.start);
+        assert_eq!(
+            by_table, 0,
+            "field {field} at {value}: the port's reply to {call:?}"
+        );
+
+        let answer = self.host.call(&call);
+        let after = self.host.state();
+        assert_eq!(
+            after[field], self.state[field],
+            "{call:?} changes field {field}"
+        );
+        self.state = after;
+        self.state[field] = value;
+        self.write(0, answer, call, before);
+        self.state = after;
     }
 
     fn write(&mut self, reply: u64, answer: u64, call: Call, state: State) {

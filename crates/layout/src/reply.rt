@@ -1,12 +1,8 @@
 // A reply as a number.
-ghost use mathlib.Core.Path.{_≡_};
-ghost use Rattle.filters.specs.Reply.{number};
 use filters::Reply;
 
 // The row of a reply in the table of replies.
-pub fn row(reply: Reply) -> u64
-    ensures { λ r. ⌜ r ≡ number reply ⌝ }
-{
+pub fn row(reply: Reply) -> u64 {
     match reply {
         Reply::Done => 0,
         Reply::OutOfBounds => 1,

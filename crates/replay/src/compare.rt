@@ -1,9 +1,9 @@
 // What the port made of a line, compared with what the line expects.
 use crate::line::PUT;
+use crate::line::Pairs;
 use crate::line::Turn;
 use crate::line::arguments;
 use crate::line::first_pair;
-use crate::line::is_whole;
 
 // What a comparison found.
 pub enum Found {
@@ -18,10 +18,11 @@ pub enum Found {
     Field(u64, u64, u64),
 }
 
-// The turn of a line of so many numbers, compared with the line and with the state after it.
-pub fn compared(turn: Turn, n: &[u64; 128], count: usize, expected: &[u64; 77]) -> Found {
+// The turn of a line of so many numbers, compared with the line and with what its pairs make of the
+// state.
+pub fn compared(turn: Turn, n: &[u64; 128], count: usize, pairs: Pairs) -> Found {
     let call = n[0];
-    if !is_whole(n, count) {
+    if !pairs.whole {
         return Found::Unread;
     }
     if call == PUT {
@@ -41,7 +42,8 @@ pub fn compared(turn: Turn, n: &[u64; 128], count: usize, expected: &[u64; 77]) 
         return Found::Answer(answer, turn.answer);
     }
     let state = turn.state;
-    state_found(&state, expected)
+    let expected = pairs.state;
+    state_found(&state, &expected)
 }
 
 // Whether so many changes, two numbers each, take up a line from a place on.

@@ -45,38 +45,33 @@ pub fn first_pair(call: u64) -> usize
     if call == PUT { 1 } else { arguments(call) + 4 }
 }
 
-// The state with the pairs of a line of so many numbers put into it.
-pub fn with_pairs(state: [u64; 77], n: &[u64; 128], count: usize) -> [u64; 77] {
-    let mut next = state;
-    let mut at = first_pair(n[0]);
-    while at < 127 {
-        if count <= at {
-            return next;
-        }
-        let index = n[at];
-        let value = n[at + 1];
-        if index < 77 {
-            next[index as usize] = value;
-        }
-        at += 2;
-    }
-    next
+// The state with a line's pairs put into it, and whether they are whole and their indices rise.
+pub struct Pairs {
+    pub state: [u64; 77],
+    pub whole: bool,
 }
 
-// Whether the pairs of a line of so many numbers are whole, and of indices that rise.
-pub fn is_whole(n: &[u64; 128], count: usize) -> bool {
+// Puts the pairs of a line of so many numbers into the state.
+pub fn with_pairs(state: [u64; 77], n: &[u64; 128], count: usize) -> Pairs {
+    let mut next = state;
+    let mut rises = true;
     let mut least = 0;
     let mut at = first_pair(n[0]);
     while at < 127 {
         if count <= at {
-            return at == count;
+            break;
         }
         let index = n[at];
-        if (index < least) | (76 < index) {
-            return false;
+        let value = n[at + 1];
+        rises = rises & (least <= index) & (index < 77);
+        if index < 77 {
+            next[index as usize] = value;
         }
         least = std::num::wrapping_add_u64(index, 1);
         at += 2;
     }
-    at == count
+    Pairs {
+        state: next,
+        whole: rises & (at == count),
+    }
 }

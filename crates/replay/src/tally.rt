@@ -2,6 +2,7 @@
 use crate::compare::Found;
 use crate::compare::compared;
 use crate::line::PUT;
+use crate::line::Pairs;
 use crate::line::Turn;
 use crate::print::print_found;
 
@@ -37,10 +38,10 @@ pub fn counted(
     turn: Turn,
     n: &[u64; 128],
     count: usize,
-    expected: &[u64; 77],
+    pairs: Pairs,
     printed: u64,
 ) -> Tally {
-    let found = compared(turn, n, count, expected);
+    let found = compared(turn, n, count, pairs);
     let next = sum(tally, one(n[0], turn.reply, found));
     if next.differ <= printed {
         print_found(next.lines, n[0], found);

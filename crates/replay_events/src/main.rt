@@ -29,8 +29,9 @@ fn replayed(text: &[u8], printed: u64) -> Tally {
         at = line.next;
         let numbers = line.numbers;
         let turn = calls::carry_out(state, &numbers);
-        state = with_pairs(state, &numbers, line.count);
-        tally = tally::counted(tally, turn, &numbers, line.count, &state, printed);
+        let pairs = with_pairs(state, &numbers, line.count);
+        state = pairs.state;
+        tally = tally::counted(tally, turn, &numbers, line.count, pairs, printed);
     }
     tally
 }

@@ -5,10 +5,10 @@ use Rattle.replay.proofs.line.with_pairs.Statement.{statement}
 use Rattle.replay.proofs.line.with_pairs.Tie as tie
 
 abbrev Inv-loop : tie.InvT-loop
-Inv-loop n count next₀ at₀ next at = Unit {0}
+Inv-loop n count next₀ rises₀ least₀ at₀ next rises least at = Unit {0}
 
 abbrev μ-loop : tie.MeasureT-loop
-μ-loop n count next₀ at₀ next at = 127 - at
+μ-loop n count next₀ rises₀ least₀ at₀ next rises least at = 127 - at
 
 pub with-pairs-spec : {M : Type 1} → statement M
 with-pairs-spec =
@@ -26,7 +26,7 @@ with-pairs-spec =
     (λ c. search needs)
     (λ c. search needs)
     (λ c. search needs)
-    (λ c. search needs)
+    (λ c κs. search needs)
     (λ c. search needs)
     (λ c. search needs)
     (λ c. search needs)
