@@ -17,7 +17,7 @@ from fractions import Fraction
 ROOT = os.path.dirname(os.path.dirname(os.path.abspath(__file__)))
 UNSET = 2**64 - 1
 PARTS = 2**24
-# the number of each call in a line for `follow`, and how many arguments it has
+# the numbers of the calls in a line for `follow` (crates/follow/src/calls.rt)
 START, SENT, EVENT, FINISH, HIGH, CAP, CLEAR_INFLIGHT, CLEAR_BANDWIDTH, ADVANCE, CRUISE, REFILL, RESTART = range(12)
 
 
@@ -273,7 +273,6 @@ def checked(calls, rows, worst, counts):
         if op == EVENT:
             counts["events"] += 1
         counts["calls"] += 1
-    counts["reductions"] += exact.inflight_count
     return None
 
 
@@ -294,7 +293,7 @@ def batches(seed, runs):
 
 def compare(seed, runs):
     command = program()
-    worst, counts = {}, {"calls": 0, "events": 0, "reductions": 0}
+    worst, counts = {}, {"calls": 0, "events": 0}
     for batch in batches(seed, runs):
         rows = followed(command, [call for calls in batch for call in calls])
         at = 0
@@ -305,7 +304,7 @@ def compare(seed, runs):
                 print(text_of(calls), end="")
                 raise SystemExit(f"outside the bounds: {fault}")
     calls = losses(0x3E99999A, 16777223, 1)
-    if not checked(calls, followed(command, calls), {}, {"calls": 0, "events": 0, "reductions": 0}):
+    if not checked(calls, followed(command, calls), {}, {"calls": 0, "events": 0}):
         raise SystemExit("a window of 16,777,223 bytes is within the bounds: this check notices nothing")
     print("      beta   inflight_lo: worst   its bound   for any k   bandwidth_lo: worst   its bound   for any k")
     usual = [0x3A800000, 0x3DCCCCCD, 0x3E800000, 0x3E99999A, 0x3F000000, 0x3F7FC000]
