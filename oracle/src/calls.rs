@@ -91,6 +91,19 @@ impl Calls {
         self.left == 0
     }
 
+    /// Leaves at most this many calls in the sequence.
+    pub fn at_most(&mut self, left: u64) {
+        self.left = self.left.min(left);
+    }
+
+    /// Goes on with this many calls of any kind, after such a start.
+    pub fn go_on(&mut self, start: Start, left: u64) {
+        self.start = start;
+        self.manner = Anything;
+        self.planned.clear();
+        self.left = left;
+    }
+
     /// The call to be made in this state; the first is a start.
     pub fn next(&mut self, state: &State) -> Call {
         if self.left == 0 {
@@ -257,7 +270,7 @@ impl Calls {
     }
 
     /// The call of this number, with arguments.
-    fn make(&mut self, number: u64, state: &State) -> Call {
+    pub fn make(&mut self, number: u64, state: &State) -> Call {
         match number {
             1 => self.sent(state),
             2 => Call::Record(self.record(state)),
@@ -270,7 +283,7 @@ impl Calls {
                 Call::InflightTooHigh {
                     max_loss_events: match random.below(8) {
                         0 => 0,
-                        1 => events + 1,
+                        1 => events.saturating_add(1),
                         2 => events.saturating_sub(1),
                         3 => random.pick(&[1, 2, 8, u64::MAX]),
                         _ => events,

@@ -34,6 +34,7 @@ pub mod field {
     pub const INFLIGHT_HI: usize = 18;
     pub const CWND_GAIN: usize = 19;
     pub const PACING_GAIN: usize = 20;
+    pub const CWND_LIMITED: usize = 21;
     pub const FULL_REACHED: usize = 22;
     pub const BASELINE: usize = 23;
     pub const ROUNDS_WITHOUT_GROWTH: usize = 24;
@@ -49,12 +50,15 @@ pub mod field {
     pub const PHASE: usize = 34;
     pub const CYCLE_START: usize = 35;
     pub const PHASE_START: usize = 36;
+    pub const ROUNDS_IN_PHASE: usize = 37;
+    pub const ROUNDS_SINCE_PROBE: usize = 38;
     pub const PROBE_WAIT_SET: usize = 39;
     pub const PROBE_WAIT: usize = 40;
     pub const PROBE_UP_ROUNDS: usize = 41;
     pub const PROBE_UP_BYTES_SET: usize = 42;
     pub const PROBE_UP_BYTES: usize = 43;
     pub const PROBE_UP_ACKED: usize = 44;
+    pub const UP_APP_LIMITED: usize = 45;
     pub const HAS_ADVANCED: usize = 46;
     pub const FROM_PROBING: usize = 47;
     pub const PROBED_TOO_HIGH: usize = 48;
@@ -252,6 +256,24 @@ pub enum Call {
 }
 
 impl Start {
+    /// The start with these parameters instead of its own.
+    pub fn with_parameters(self, numbers: &[u64]) -> Start {
+        Start {
+            beta: to_float(numbers[0]),
+            loss_threshold: to_float(numbers[1]),
+            headroom: to_float(numbers[2]),
+            full_bw_threshold: to_float(numbers[3]),
+            cwnd_gain: to_float(numbers[4]),
+            pacing_gain: to_float(numbers[5]),
+            full_bw_rounds: numbers[6],
+            queue_rounds: numbers[7],
+            probe_rtt_period: numbers[8],
+            probe_base_duration: numbers[9],
+            ignore_app_limited: numbers[10] == 1,
+            ..self
+        }
+    }
+
     /// The parameters, as numbers.
     pub fn parameters(&self) -> [u64; 11] {
         [
@@ -270,7 +292,130 @@ impl Start {
     }
 }
 
+impl Record {
+    /// The record of these 16 numbers of a state.
+    pub fn of(numbers: &[u64]) -> Record {
+        Record {
+            event_time: numbers[0],
+            prior_cwnd: numbers[1],
+            prior_in_flight: numbers[2],
+            bytes_in_flight: numbers[3],
+            bytes_acked: numbers[4],
+            bytes_lost: numbers[5],
+            round_ended: numbers[6] == 1,
+            probing: numbers[7] == 1,
+            bandwidth: to_option(&numbers[8..]),
+            rtt: to_option(&numbers[10..]),
+            send_state: SendState::of(&numbers[12..]),
+        }
+    }
+
+    /// The record's numbers in a state.
+    pub fn numbers(&self) -> Vec<u64> {
+        let mut numbers = vec![
+            self.event_time,
+            self.prior_cwnd,
+            self.prior_in_flight,
+            self.bytes_in_flight,
+            self.bytes_acked,
+            self.bytes_lost,
+            self.round_ended as u64,
+            self.probing as u64,
+        ];
+        numbers.extend(option(self.bandwidth));
+        numbers.extend(option(self.rtt));
+        numbers.extend(self.send_state.numbers());
+        numbers
+    }
+}
+
+impl Sample {
+    /// The sampler's answer of these 21 arguments.
+    fn of(numbers: &[u64]) -> Sample {
+        Sample {
+            bandwidth: to_option(numbers),
+            send_rate: to_option(&numbers[2..]),
+            ack_rate: to_option(&numbers[4..]),
+            app_limited: numbers[6] == 1,
+            rtt: to_option(&numbers[7..]),
+            max_inflight: numbers[9],
+            extra_acked: numbers[10],
+            send_state: SendState::of(&numbers[11..]),
+            total_acked: numbers[15],
+            total_lost: numbers[16],
+            acked_length: numbers[17].min(3) as usize,
+            acked: [numbers[18], numbers[19], numbers[20]],
+        }
+    }
+}
+
 impl Call {
+    /// The call of this number with these arguments, of which there are
+    /// enough; a start has the parameters of `start`. It is none for other
+    /// numbers, and for the one that sets the record.
+    pub fn of(number: u64, numbers: &[u64], start: &Start) -> Option<Call> {
+        Some(match number {
+            0 => Call::Start(Start {
+                moment: numbers[0],
+                initial_rtt: numbers[1],
+                ..*start
+            }),
+            1 => Call::Sent {
+                moment: numbers[0],
+                in_flight: numbers[1],
+                number: numbers[2],
+                bytes: numbers[3],
+            },
+            3 => Call::Event(Sample::of(numbers)),
+            4 => Call::Finish,
+            5 => Call::ExpireMinRtt,
+            6 => Call::InflightTooHigh {
+                max_loss_events: numbers[0],
+            },
+            7 => Call::BandwidthGrowth,
+            8 => Call::RestartRound,
+            9 => Call::PersistentQueue {
+                gain: to_float(numbers[0]),
+            },
+            10 => Call::Bdp {
+                bandwidth: numbers[0],
+                gain: to_float(numbers[1]),
+            },
+            11 => Call::Bdp1 {
+                bandwidth: numbers[0],
+            },
+            12 => Call::Bdp0,
+            13 => Call::WithHeadroom,
+            14 => Call::SetFullReached,
+            15 => Call::SetPacingGain(to_float(numbers[0])),
+            16 => Call::SetCwndGain(to_float(numbers[0])),
+            17 => Call::SetInflightHi(numbers[0]),
+            18 => Call::CapInflightLo(numbers[0]),
+            19 => Call::ClearInflightLo,
+            20 => Call::ClearBandwidthLo,
+            21 => Call::AdvanceMaxBandwidth,
+            22 => Call::PostponeMinRtt(numbers[0]),
+            23..=38 => Call::Get(Getter::ALL[number as usize - 23]),
+            40 => Call::ProbeDown {
+                too_high: numbers[0] == 1,
+                risky: numbers[1] == 1,
+                moment: numbers[2],
+            },
+            41 => Call::ProbeCruise { moment: numbers[0] },
+            42 => Call::ProbeRefill {
+                rounds: numbers[0],
+                moment: numbers[1],
+            },
+            43 => Call::ProbeUp {
+                moment: numbers[0],
+                cwnd: numbers[1],
+            },
+            44 => Call::ExitProbeDown,
+            45 => Call::RaiseSlope { cwnd: numbers[0] },
+            _ => return None,
+        })
+    }
+
     /// The number of the call, then its arguments. The parameters of a start
     /// and the record stand with the state.
     pub fn numbers(&self) -> Vec<u64> {
@@ -332,6 +477,15 @@ impl Call {
 }
 
 impl SendState {
+    fn of(numbers: &[u64]) -> SendState {
+        SendState {
+            valid: numbers[0] == 1,
+            app_limited: numbers[1] == 1,
+            total_acked: numbers[2],
+            bytes_in_flight: numbers[3],
+        }
+    }
+
     fn numbers(&self) -> [u64; 4] {
         [
             self.valid as u64,
@@ -349,4 +503,13 @@ pub fn option(number: Option<u64>) -> [u64; 2] {
 
 fn float(number: f32) -> u64 {
     number.to_bits() as u64
+}
+
+/// The number, if the one before it says that it is set.
+fn to_option(numbers: &[u64]) -> Option<u64> {
+    (numbers[0] == 1).then_some(numbers[1])
+}
+
+fn to_float(bits: u64) -> f32 {
+    f32::from_bits(bits as u32)
 }

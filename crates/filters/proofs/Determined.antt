@@ -68,6 +68,9 @@ one-min-filter-update κ a x y s t p q = p ∙ sym q
 pub one-min-filter-force-update : OneReply min-filter.force_update.Reads.Learnt
 one-min-filter-force-update κ a x y s t p q = p ∙ sym q
 
+pub one-reply-row : OneReply reply.row.Reads.Learnt
+one-reply-row κ a x y s t p q = p ∙ sym q
+
 pub one-reply-is-done : OneReply reply.is_done.Reads.Learnt
 one-reply-is-done κ a x y s t p q = p ∙ sym q
 

@@ -15,19 +15,26 @@ pub enum Reply {
 }
 
 impl Reply {
+    // The reply's row in document 01's table, 0 where the call was done.
+    pub fn row(self) -> u64
+        ensures { λ r. ⌜ r ≡ number self ⌝ }
+    {
+        match self {
+            Reply::Done => 0,
+            Reply::OutOfBounds => 1,
+            Reply::BadArgument => 2,
+            Reply::EarlierMoment => 3,
+            Reply::LowerTotal => 4,
+            Reply::FullCounter => 5,
+            Reply::BadText => 6,
+            Reply::ShortOutput => 7,
+        }
+    }
+
     // Whether the call was not refused.
     pub fn is_done(self) -> bool
         ensures { λ r. ⌜ r ≡ eqb (number self) 0 ⌝ }
     {
-        match self {
-            Reply::Done => true,
-            Reply::OutOfBounds => false,
-            Reply::BadArgument => false,
-            Reply::EarlierMoment => false,
-            Reply::LowerTotal => false,
-            Reply::FullCounter => false,
-            Reply::BadText => false,
-            Reply::ShortOutput => false,
-        }
+        self.row() == 0
     }
 }

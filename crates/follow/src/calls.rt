@@ -13,7 +13,6 @@ use filters::Duration;
 use filters::Moment;
 use filters::Reply;
 use layout::bits::f32_of;
-use layout::reply::row;
 use model::NetworkModel;
 use model::Params;
 use model::network_model::Changed;
@@ -69,7 +68,7 @@ fn start(params: Params) -> World {
         cycle,
         record: record(0, false),
         params,
-        reply: row(reply),
+        reply: reply.row(),
     }
 }
 
@@ -154,7 +153,7 @@ fn occurred(world: World, n: &[u64; 128], acked: &[u64]) -> World {
 fn settled(world: World, reply: Reply, model: NetworkModel) -> World {
     let mut next = world;
     next.model = model;
-    next.reply = row(reply);
+    next.reply = reply.row();
     next
 }
 

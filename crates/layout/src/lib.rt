@@ -5,4 +5,3 @@ pub mod maybe;
 pub mod network_model;
 pub mod params;
 pub mod record;
-pub mod reply;

@@ -12,7 +12,6 @@ use layout::record::length_of;
 use layout::record::record_of;
 use layout::record::send_state;
 use layout::record::with_record;
-use layout::reply::row;
 use model::NetworkModel;
 use model::Params;
 use model::state::Totals;
@@ -36,7 +35,7 @@ fn occurred(state: [u64; 77], n: &[u64; 128]) -> Turn {
     let record = event.record;
     Turn {
         state: with_record(with_model(state, model), record),
-        reply: row(reply),
+        reply: reply.row(),
         answer: 0,
     }
 }
@@ -72,7 +71,7 @@ fn judged(state: [u64; 77], n: &[u64; 128]) -> Turn {
     let model = decided.model;
     Turn {
         state: with_model(state, model),
-        reply: row(reply),
+        reply: reply.row(),
         answer: number_of(decided.yes),
     }
 }

@@ -6,7 +6,6 @@ use filters::Moment;
 use layout::network_model::model_of;
 use layout::network_model::with_model;
 use layout::params::params_of;
-use layout::reply::row;
 use model::NetworkModel;
 use model::network_model::Changed;
 use replay::line::Turn;
@@ -42,7 +41,7 @@ fn settled(state: [u64; 77], changed: Changed) -> Turn {
     let model = changed.model;
     Turn {
         state: with_model(state, model),
-        reply: row(reply),
+        reply: reply.row(),
         answer: 0,
     }
 }
@@ -55,7 +54,7 @@ fn asked(state: [u64; 77], n: &[u64; 128]) -> Turn {
     let reply = answer.reply;
     Turn {
         state,
-        reply: row(reply),
+        reply: reply.row(),
         answer: answer.value,
     }
 }

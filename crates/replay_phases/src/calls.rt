@@ -5,7 +5,6 @@ use layout::cycle::with_cycle;
 use layout::network_model::model_of;
 use layout::network_model::with_model;
 use layout::params::params_of;
-use layout::reply::row;
 use model::NetworkModel;
 use model::Params;
 use phases::Cycle;
@@ -38,7 +37,7 @@ fn entered(state: [u64; 77], n: &[u64; 128]) -> Turn {
     let cycle = entered.cycle;
     Turn {
         state: with_cycle(with_model(state, model), cycle),
-        reply: row(reply),
+        reply: reply.row(),
         answer: 0,
     }
 }
@@ -65,7 +64,7 @@ fn turned(state: [u64; 77], turned: Turned) -> Turn {
     let cycle = turned.cycle;
     Turn {
         state: with_cycle(state, cycle),
-        reply: row(reply),
+        reply: reply.row(),
         answer: 0,
     }
 }

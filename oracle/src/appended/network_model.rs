@@ -166,6 +166,47 @@ impl BBRv2NetworkModel {
         self.bandwidth_sampler.hand_in(answer);
     }
 
+    /// Puts these numbers into the model, in the order of `fields`.
+    pub(super) fn put(&mut self, state: &[u64], base: Instant) {
+        let set = |field: usize| (state[field] == 1).then_some(state[field + 1]);
+        let bandwidth = Bandwidth::from_bits_per_second;
+        let gain = |field: usize| f32::from_bits(state[field] as u32);
+        self.round_trip_counter = RoundTripCounter {
+            round_trip_count: state[0] as usize,
+            last_sent_packet: state[1],
+            end_of_round_trip: set(2),
+        };
+        self.max_bandwidth_filter.max_bandwidth = [bandwidth(state[4]), bandwidth(state[5])];
+        self.min_rtt_filter = MinRttFilter {
+            min_rtt: Duration::from_nanos(state[6]),
+            min_rtt_timestamp: base + Duration::from_nanos(state[7]),
+        };
+        self.bytes_lost_in_round = state[8] as usize;
+        self.loss_events_in_round = state[9] as usize;
+        self.max_bytes_delivered_in_round = state[10] as usize;
+        self.min_bytes_in_flight_in_round = state[11] as usize;
+        self.inflight_hi_limited_in_round = state[12] == 1;
+        self.bandwidth_latest = bandwidth(state[13]);
+        self.inflight_latest = state[14] as usize;
+        self.bandwidth_lo = set(15).map(bandwidth);
+        self.inflight_lo = state[17] as usize;
+        self.inflight_hi = state[18] as usize;
+        self.cwnd_gain = gain(19);
+        self.pacing_gain = gain(20);
+        self.cwnd_limited_before_aggregation_epoch = state[21] == 1;
+        self.full_bandwidth_reached = state[22] == 1;
+        self.full_bandwidth_baseline = bandwidth(state[23]);
+        self.rounds_without_bandwidth_growth = state[24] as usize;
+        self.rounds_with_queueing = state[25] as usize;
+        self.ignore_app_limited_for_no_bandwidth_growth = state[26] == 1;
+        self.latest_send_rate = set(27).map(bandwidth);
+        self.latest_ack_rate = set(29).map(bandwidth);
+        self.bandwidth_sampler.put(super::super::bbr::Totals {
+            acked: state[31] as usize,
+            lost: state[32] as usize,
+        });
+    }
+
     /// The model's part of the state, in its order.
     pub(super) fn fields(&self, base: Instant) -> [u64; 33] {
         // Used by the other modes only.

@@ -47,21 +47,7 @@ impl Host {
     }
 
     fn at(base: Instant, start: &Start) -> Self {
-        // Mode Default, no jump detector.
-        let params = Params {
-            beta: start.beta,
-            loss_threshold: start.loss_threshold,
-            inflight_hi_headroom: start.headroom,
-            full_bw_threshold: start.full_bw_threshold,
-            startup_cwnd_gain: start.cwnd_gain,
-            startup_pacing_gain: start.pacing_gain,
-            startup_full_bw_rounds: start.full_bw_rounds as usize,
-            max_startup_queue_rounds: start.queue_rounds as usize,
-            probe_rtt_period: Duration::from_nanos(start.probe_rtt_period),
-            probe_bw_probe_base_duration: Duration::from_nanos(start.probe_base_duration),
-            ignore_app_limited_for_no_bandwidth_growth: start.ignore_app_limited,
-            ..super::DEFAULT_PARAMS
-        };
+        let params = params_of(start);
         let moment = base + Duration::from_nanos(start.moment);
         let initial_rtt = Duration::from_nanos(start.initial_rtt);
         let cycle = Cycle {
@@ -91,6 +77,38 @@ impl Host {
         cycle.rounds_since_probe = since_probe;
         cycle.probe_up_acked = acked;
         cycle.probe_up_app_limited_since_inflight_hi_limited = true;
+    }
+
+    /// Puts these numbers into the state, and the parameters of the start.
+    pub fn put(&mut self, state: &State, start: &Start) {
+        let moment = |nanos: u64| self.base + Duration::from_nanos(nanos);
+        let set = |field: usize| (state[field] == 1).then_some(state[field + 1]);
+        self.params = params_of(start);
+        self.probe.model.put(state, self.base);
+        self.probe.cycle = Cycle {
+            phase: match state[34] {
+                0 => CyclePhase::NotStarted,
+                1 => CyclePhase::Up,
+                2 => CyclePhase::Down,
+                3 => CyclePhase::Cruise,
+                _ => CyclePhase::Refill,
+            },
+            start_time: moment(state[35]),
+            phase_start_time: moment(state[36]),
+            rounds_in_phase: state[37] as usize,
+            rounds_since_probe: state[38] as usize,
+            probe_wait_time: set(39).map(Duration::from_nanos),
+            probe_up_rounds: state[41] as usize,
+            probe_up_bytes: set(42).map(|bytes| bytes as usize),
+            probe_up_acked: state[44] as usize,
+            probe_up_app_limited_since_inflight_hi_limited: state[45] == 1,
+            has_advanced_max_bw: state[46] == 1,
+            is_sample_from_probing: state[47] == 1,
+            last_cycle_probed_too_high: state[48] == 1,
+            last_cycle_stopped_risky_probe: state[49] == 1,
+        };
+        self.event = event_of(&Record::of(&state[50..]), self.base);
+        self.last = state[33];
     }
 
     /// Makes one call; the answer, 0 where the call answers nothing.
@@ -239,6 +257,24 @@ impl Host {
             send_state.bytes_in_flight as u64,
         ]);
         state
+    }
+}
+
+/// Mode Default, no jump detector.
+fn params_of(start: &Start) -> Params {
+    Params {
+        beta: start.beta,
+        loss_threshold: start.loss_threshold,
+        inflight_hi_headroom: start.headroom,
+        full_bw_threshold: start.full_bw_threshold,
+        startup_cwnd_gain: start.cwnd_gain,
+        startup_pacing_gain: start.pacing_gain,
+        startup_full_bw_rounds: start.full_bw_rounds as usize,
+        max_startup_queue_rounds: start.queue_rounds as usize,
+        probe_rtt_period: Duration::from_nanos(start.probe_rtt_period),
+        probe_bw_probe_base_duration: Duration::from_nanos(start.probe_base_duration),
+        ignore_app_limited_for_no_bandwidth_growth: start.ignore_app_limited,
+        ..super::DEFAULT_PARAMS
     }
 }
 

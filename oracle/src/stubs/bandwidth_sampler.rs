@@ -59,6 +59,11 @@ impl BandwidthSampler {
         self.next = Some(answer);
     }
 
+    /// Sets the totals.
+    pub fn put(&mut self, totals: Totals) {
+        self.totals = totals;
+    }
+
     pub fn on_congestion_event(
         &mut self,
         _: Instant,

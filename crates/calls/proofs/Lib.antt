@@ -1,0 +1,3 @@
+-- Laws of the calls.
+pub mod Same
+pub mod Determined

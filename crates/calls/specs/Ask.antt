@@ -1,0 +1,57 @@
+-- The calls that only answer, by their numbers (docs/LAYOUT.md).
+use Prim.Native.Nat.{ℕ, _-_, _*_, _^_}
+use mathlib.Core.Bool.{cond, _&&_}
+use lib.Dec.{ltb, eqb}
+use lib.Ieee.{Float}
+use Rattle.filters.specs.declared.bandwidth.Bandwidth.{Bandwidth}
+use Rattle.filters.specs.MaxBandwidthFilter.{maxGet}
+use Rattle.model.specs.declared.network_model.NetworkModel.{NetworkModel}
+use Rattle.model.specs.declared.params.Params.{Params}
+use Rattle.model.specs.Bounds.{bandwidthOk, gainOk}
+use Rattle.model.specs.Calls.{one, storedNumber, givenNumber, bdpOf, estimateOf, headroomOf, headroomNumber}
+use Rattle.encoding.specs.Word.{flagWord, floatWord}
+
+-- the number of the reply, and the answer where that is 0
+pub record Answer : Type 0 where
+  pub number : ℕ
+  pub value : ℕ
+
+-- what is read off the model
+abbrev reads : NetworkModel → ℕ → Answer
+reads m value = record { number = storedNumber m; value = value }
+
+-- calls 23 to 29
+unfoldable pub readOf : (call : ℕ) → NetworkModel → Answer
+readOf call m =
+    reads m
+    (cond (eqb call 23) (estimateOf (m .lower .bandwidth) (maxGet (m .most)) .0)
+    (cond (eqb call 24) (m .least .rtt .0)
+    (cond (eqb call 25) (m .least .timestamp .0)
+    (cond (eqb call 26) (maxGet (m .most) .0)
+    (cond (eqb call 27) (m .round .delivered)
+    (cond (eqb call 28) (m .totals .acked)
+    (m .totals .lost)))))))
+
+-- calls 30 to 38
+unfoldable pub readMore : (call : ℕ) → NetworkModel → Answer
+readMore call m =
+    reads m
+    (cond (eqb call 30) (flagWord (m .growth .reached))
+    (cond (eqb call 31) (floatWord (m .gains .pacing))
+    (cond (eqb call 32) (floatWord (m .gains .cwnd))
+    (cond (eqb call 33) (m .high)
+    (cond (eqb call 34) (2 ^ 64 - 1)
+    (cond (eqb call 35) (m .lower .inflight)
+    (cond (eqb call 36) (m .round .losses)
+    (cond (eqb call 37) (m .growth .queueing)
+    (2 * 1300)))))))))
+
+-- calls 10 to 13 and 23 to 38; `n` is a bandwidth
+unfoldable pub askOf : (call n : ℕ) → Float → NetworkModel → Params → Answer
+askOf call n gain m p =
+    let b : Bandwidth = record { 0 = n } in
+    cond (eqb call 10) (record { number = givenNumber m (bandwidthOk b && gainOk gain); value = bdpOf m b gain })
+    (cond (eqb call 11) (record { number = givenNumber m (bandwidthOk b); value = bdpOf m b one })
+    (cond (eqb call 12) (reads m (bdpOf m (maxGet (m .most)) one))
+    (cond (eqb call 13) (record { number = headroomNumber m p; value = headroomOf (m .high) (p .headroom) })
+    (cond (ltb call 30) (readOf call m) (readMore call m)))))

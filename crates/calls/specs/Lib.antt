@@ -1,0 +1,5 @@
+-- What a call's numbers ask for.
+pub mod Change
+pub mod Ask
+pub mod Judge
+pub mod Enter

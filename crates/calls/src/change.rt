@@ -1,0 +1,47 @@
+// The calls that change the model alone.
+ghost use mathlib.Core.Path.{_≡_};
+ghost use Rattle.filters.specs.Reply.{number};
+ghost use Rattle.model.specs.Answers.{settled};
+ghost use Rattle.calls.specs.Change.{changeOf, changeMore};
+use filters::Duration;
+use filters::Moment;
+use model::NetworkModel;
+use model::network_model::Changed;
+
+// Calls 1, 8 and 14 to 22; `gain` is n's f32.
+pub fn change(
+    model: NetworkModel,
+    call: u64,
+    n: u64,
+    inflight: u64,
+    packet: u64,
+    bytes: u64,
+    gain: f32,
+) -> Changed
+    ensures reply { λ r. ⌜ number (r .reply) ≡ changeOf call n inflight packet bytes gain model .number ⌝ }
+    ensures model { λ r. ⌜ r .model ≡ settled (changeOf call n inflight packet bytes gain model .number) (changeOf call n inflight packet bytes gain model .next) model ⌝ }
+{
+    match call {
+        1 => model.on_packet_sent(Moment(n), inflight, packet, bytes),
+        8 => model.restart_round_early(),
+        14 => model.set_full_bandwidth_reached(),
+        15 => model.set_pacing_gain(gain),
+        16 => model.set_cwnd_gain(gain),
+        _ => change_more(model, call, n),
+    }
+}
+
+// Calls 17 to 22, which are given n or nothing.
+fn change_more(model: NetworkModel, call: u64, n: u64) -> Changed
+    ensures reply { λ r. ⌜ number (r .reply) ≡ changeMore call n model .number ⌝ }
+    ensures model { λ r. ⌜ r .model ≡ settled (changeMore call n model .number) (changeMore call n model .next) model ⌝ }
+{
+    match call {
+        17 => model.set_inflight_hi(n),
+        18 => model.cap_inflight_lo(n),
+        19 => model.clear_inflight_lo(),
+        20 => model.clear_bandwidth_lo(),
+        21 => model.advance_max_bandwidth_filter(),
+        _ => model.postpone_min_rtt_timestamp(Duration(n)),
+    }
+}

@@ -1,0 +1,66 @@
+// The calls that carry an event's record, or count rounds.
+ghost use mathlib.Core.Path.{_≡_};
+ghost use mathlib.Core.Bool.{false};
+ghost use Rattle.filters.specs.Reply.{number};
+ghost use Rattle.model.specs.Answers.{settled};
+ghost use Rattle.calls.specs.Judge.{judgeOf};
+use events::Record;
+use events::judge::Decided;
+use model::NetworkModel;
+use model::Params;
+use model::answers::Flag;
+use model::network_model::Changed;
+
+// Calls 4 to 7 and 9; `limit` is the call's number, `gain` its f32.
+pub fn judge(
+    model: NetworkModel,
+    params: Params,
+    event: Record,
+    call: u64,
+    limit: u64,
+    gain: f32,
+) -> Decided
+    ensures reply { λ r. ⌜ number (r .reply) ≡ judgeOf call limit gain model params event .number ⌝ }
+    ensures model { λ r. ⌜ r .model ≡ settled (judgeOf call limit gain model params event .number) (judgeOf call limit gain model params event .next) model ⌝ }
+    ensures yes { λ r. ⌜ r .yes ≡ settled (judgeOf call limit gain model params event .number) (judgeOf call limit gain model params event .yes) false ⌝ }
+{
+    match call {
+        4 => changed(events::on_congestion_event_finish(model, event)),
+        5 => events::maybe_expire_min_rtt(model, params, event),
+        6 => answered(
+            model,
+            events::is_inflight_too_high(model, params, event, limit),
+        ),
+        7 => events::has_bandwidth_growth(model, params, event),
+        _ => changed(events::check_persistent_queue(model, params, gain)),
+    }
+}
+
+// A call that answers nothing.
+fn changed(changed: Changed) -> Decided
+    ensures reply { λ r. ⌜ r .reply ≡ changed .reply ⌝ }
+    ensures model { λ r. ⌜ r .model ≡ changed .model ⌝ }
+    ensures yes { λ r. ⌜ r .yes ≡ false ⌝ }
+{
+    let reply = changed.reply;
+    let model = changed.model;
+    Decided {
+        reply,
+        model,
+        yes: false,
+    }
+}
+
+// A call that only answers.
+fn answered(model: NetworkModel, flag: Flag) -> Decided
+    ensures reply { λ r. ⌜ r .reply ≡ flag .reply ⌝ }
+    ensures model { λ r. ⌜ r .model ≡ model ⌝ }
+    ensures yes { λ r. ⌜ r .yes ≡ flag .yes ⌝ }
+{
+    let reply = flag.reply;
+    Decided {
+        reply,
+        model,
+        yes: flag.yes,
+    }
+}

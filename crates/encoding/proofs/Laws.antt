@@ -1,0 +1,69 @@
+-- What is written for a flag, an f32, a phase or a thing that may be unset is read back as it was; which patterns are a NaN's. Assumes nothing.
+use mathlib.Core.Path.{_≡_, refl, sym, ap, _∙_}
+use mathlib.Core.Bool.{Bool, true, false, true≢false}
+use Prim.Native.Nat.{ℕ, _*_, _%_, _<_}
+use native.Mathlib.Nat.{mod-eq-of-lt}
+use lib.Dec.{T}
+use lib.Ieee.{Float, nan, inf, fin, Format, binary32, hid, ones, top, ofBits, fits, isNan}
+use lib.Ieee.Bits.{ofBits-toBits, toBits-lt, nanBits-is, nanBits-above}
+use borrow.Author.Tests.{lt-ltb}
+use Rattle.filters.specs.declared.round_trip_counter.RoundEnd.{RoundEnd}
+use Rattle.filters.specs.declared.round_trip_counter.RoundEnd.the-variants.{NotSet, At}
+use Rattle.model.specs.declared.state.MaybeBandwidth.{MaybeBandwidth}
+use Rattle.model.specs.declared.state.MaybeBandwidth.the-variants.{Unset, Set}
+use Rattle.events.specs.declared.record.MaybeLength as rtt
+use Rattle.phases.specs.declared.cycle.CyclePhase.{CyclePhase}
+use Rattle.phases.specs.declared.cycle.CyclePhase.the-variants.{NotStarted, Up, Down, Cruise, Refill}
+use Rattle.phases.specs.declared.cycle.MaybeBytes.{MaybeBytes}
+use Rattle.phases.specs.declared.cycle.MaybeBytes.the-variants.{NoBytes, Bytes}
+use Rattle.phases.specs.declared.cycle.MaybeLength as wait
+use Rattle.encoding.specs.Word.{flagWord, flagOf, floatWord, floatOf}
+use Rattle.encoding.specs.Maybe.{bandwidthMaybe, bandwidthOf}
+use Rattle.encoding.specs.NetworkModel.{endMaybe, endOf}
+use Rattle.encoding.specs.Cycle.{phaseWord, phaseOf, waitLengthMaybe, waitLengthOf, upBytesMaybe, upBytesOf}
+use Rattle.encoding.specs.Record.{lengthMaybe, lengthOf}
+
+pub flag-back : (yes : Bool) → flagOf (flagWord yes) ≡ yes
+flag-back true = refl
+flag-back false = refl
+
+pub float-back : (x : Float) → T (fits binary32 x) → floatOf (floatWord x) ≡ x
+float-back x h = ap (ofBits binary32) (mod-eq-of-lt (toBits-lt binary32 x h)) ∙ ofBits-toBits binary32 x h
+
+pub phase-back : (p : CyclePhase) → phaseOf (phaseWord p) ≡ p
+phase-back NotStarted = refl
+phase-back Up = refl
+phase-back Down = refl
+phase-back Cruise = refl
+phase-back Refill = refl
+
+-- ---- what may be unset
+pub bandwidth-back : (x : MaybeBandwidth) → bandwidthOf (bandwidthMaybe x .set) (bandwidthMaybe x .number) ≡ x
+bandwidth-back Unset = refl
+bandwidth-back (Set b) = refl
+
+pub end-back : (x : RoundEnd) → endOf (endMaybe x .set) (endMaybe x .number) ≡ x
+end-back NotSet = refl
+end-back (At n) = refl
+
+pub up-bytes-back : (x : MaybeBytes) → upBytesOf (upBytesMaybe x .set) (upBytesMaybe x .number) ≡ x
+up-bytes-back NoBytes = refl
+up-bytes-back (Bytes n) = refl
+
+pub wait-length-back : (x : wait.MaybeLength) → waitLengthOf (waitLengthMaybe x .set) (waitLengthMaybe x .number) ≡ x
+wait-length-back wait.the-variants.NoLength = refl
+wait-length-back (wait.the-variants.Length d) = refl
+
+pub length-back : (x : rtt.MaybeLength) → lengthOf (lengthMaybe x .set) (lengthMaybe x .number) ≡ x
+length-back rtt.the-variants.Missing = refl
+length-back (rtt.the-variants.Length d) = refl
+
+-- ---- a NaN's pattern
+is-nan : (x : Float) → isNan x ≡ true → x ≡ nan
+unfolding isNan
+is-nan nan h = refl
+is-nan (inf s) h = absurd (true≢false (sym h))
+is-nan (fin s m e) h = absurd (true≢false (sym h))
+
+pub nan-read : (f : Format) (b : ℕ) → ones f * hid f < b % top f → ofBits f b ≡ nan
+nan-read f b h = is-nan (ofBits f b) (sym (nanBits-is f b) ∙ nanBits-above f b ∙ lt-ltb _ _ h)

@@ -1,0 +1,5 @@
+-- Laws and theorems of the words.
+pub mod Laws
+pub mod RoundTrip
+pub mod ReadBack
+pub mod Determined

@@ -1,0 +1,21 @@
+-- The parameters in words 38 to 48 of a call. Definitions only.
+use Prim.Native.Nat.{ℕ}
+use mathlib.Core.List.{List}
+use Rattle.model.specs.declared.params.Params.{Params}
+use Rattle.encoding.specs.Word.{word, flagOf, floatOf}
+
+unfoldable pub paramsOf : List ℕ → Params
+paramsOf l =
+    record {
+      beta = floatOf (word l 38);
+      loss = floatOf (word l 39);
+      headroom = floatOf (word l 40);
+      growth = floatOf (word l 41);
+      cwnd = floatOf (word l 42);
+      pacing = floatOf (word l 43);
+      rounds = word l 44;
+      queueing = word l 45;
+      period = record { 0 = word l 46 };
+      base = record { 0 = word l 47 };
+      ignore = flagOf (word l 48);
+    }

@@ -1,0 +1,32 @@
+-- What an event's call is given: the sampler's answer in words 1 to 17 of the call, the acked packets' numbers in 18 to 21. Definitions only.
+use Prim.Native.Nat.{ℕ, _%_}
+use mathlib.Core.List.{List, [], _∷_}
+use lib.ListN.{take}
+use Rattle.events.specs.declared.record.Sample.{Sample}
+use Rattle.encoding.specs.Word.{word, flagOf}
+use Rattle.encoding.specs.Maybe.{bandwidthOf}
+use Rattle.encoding.specs.Record.{lengthOf, sendStateOf}
+
+unfoldable pub sampleOf : List ℕ → Sample
+sampleOf l =
+    record {
+      bandwidth = bandwidthOf (word l 1) (word l 2);
+      send = bandwidthOf (word l 3) (word l 4);
+      ack = bandwidthOf (word l 5) (word l 6);
+      limited = flagOf (word l 7);
+      rtt = lengthOf (word l 8) (word l 9);
+      inflight = word l 10;
+      extra = word l 11;
+      state = sendStateOf (word l 12) (word l 13) (word l 14) (word l 15);
+      totals = record { acked = word l 16; lost = word l 17 };
+    }
+
+-- the first of three numbers, as many as word 18 says, 0 to 3
+abbrev pub ackedCount : List ℕ → ℕ
+ackedCount l = word l 18 % 4
+
+abbrev pub ackedNumbers : List ℕ → List ℕ
+ackedNumbers l = word l 19 ∷ word l 20 ∷ word l 21 ∷ []
+
+unfoldable pub ackedOf : List ℕ → List ℕ
+ackedOf l = take (ackedCount l) (ackedNumbers l)

@@ -1,0 +1,5 @@
+-- Theorems about the contracts, and laws for their proofs.
+pub mod Determined
+pub mod Examples
+pub mod Rows
+pub mod Run

@@ -1,0 +1,61 @@
+-- Worked calls: what the definitions say of a few inputs. The slope's are document 01's example 11; the run's first two pairs are those of example 9.
+use Prim.Native.Nat.{ℕ}
+use mathlib.Core.Bool.{Bool, true, false, _&&_}
+use mathlib.Core.List.{List, [], _∷_, _++_}
+use lib.Dec.{eqb}
+use lib.ListN.{take, replicate}
+use Rattle.words.specs.Words.{allBytes}
+use Rattle.exports.specs.FilterRun.{runRow, runOut}
+use Rattle.exports.specs.Slope.{slopeRow, slopeOut}
+
+abbrev pub same : List ℕ → List ℕ → Bool
+same [] [] = true
+same [] (y ∷ l) = false
+same (x ∷ k) [] = false
+same (x ∷ k) (y ∷ l) = eqb x y && same k l
+
+-- bytes that a call may write over
+abbrev pub room : ℕ → List ℕ
+room n = replicate n 170
+
+-- a call with one byte to spare writes these words, and leaves that byte
+abbrev pub writes : List ℕ → List ℕ → Bool
+writes out words = same out (allBytes words ++ room 1)
+
+-- pairs of a time and a sample
+abbrev pub rising : List ℕ
+rising = allBytes (0 ∷ 5 ∷ 2 ∷ 5 ∷ 3 ∷ 4 ∷ [])
+
+abbrev pub falling : List ℕ
+falling = allBytes (0 ∷ 5 ∷ 2 ∷ 1 ∷ 1 ∷ 1 ∷ [])
+
+abbrev pub refused : List ℕ
+refused = allBytes (3 ∷ 5 ∷ 2 ∷ 5 ∷ [])
+
+unfoldable pub exportExamples : List Bool
+exportExamples =
+    -- three samples after each pair: at 3 the second and the third have become the new sample
+    eqb (runRow 8 rising 73) 0
+    ∷ writes (runOut 8 rising (room 73)) (5 ∷ 5 ∷ 5 ∷ 5 ∷ 5 ∷ 5 ∷ 5 ∷ 4 ∷ 4 ∷ [])
+    -- no pair: done, and nothing written
+    ∷ eqb (runRow 8 [] 0) 0
+    ∷ same (runOut 8 [] (room 1)) (room 1)
+    -- times may fall, if not below one that the filter holds
+    ∷ eqb (runRow 8 falling 72) 0
+    -- a byte is missing, and the output is short
+    ∷ eqb (runRow 8 (take 47 rising) 0) 2
+    -- a pair is refused, and the output is short
+    ∷ eqb (runRow 8 refused 0) 3
+    ∷ same (runOut 8 refused (room 48)) (room 48)
+    -- the output is a byte short
+    ∷ eqb (runRow 8 rising 71) 7
+    ∷ same (runOut 8 rising (room 71)) (room 71)
+    -- the slope: the next rounds, and probe_up_bytes
+    ∷ writes (slopeOut 0 26_000 (room 17)) (1 ∷ 26_000 ∷ [])
+    ∷ writes (slopeOut 1 26_000 (room 17)) (2 ∷ 13_000 ∷ [])
+    ∷ writes (slopeOut 30 26_000 (room 17)) (30 ∷ 1_300 ∷ [])
+    ∷ eqb (slopeRow 31 1_099_511_627_777 0) 1
+    ∷ eqb (slopeRow 30 1_099_511_627_777 0) 2
+    ∷ eqb (slopeRow 30 26_000 15) 7
+    ∷ same (slopeOut 31 26_000 (room 17)) (room 17)
+    ∷ []

@@ -1,0 +1,6 @@
+-- What each exported call answers, and what it leaves in lent memory.
+pub mod Conversions
+pub mod Examples
+pub mod FilterRun
+pub mod Reply
+pub mod Slope

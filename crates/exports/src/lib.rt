@@ -1,0 +1,5 @@
+// The calls for C and Rust, on numbers and byte slices. Every one takes any numbers and any slices.
+pub mod conversions;
+pub mod filter_run;
+mod reply;
+pub mod slope;

@@ -1,0 +1,3 @@
+-- Laws of a turn.
+pub mod Parts
+pub mod Determined

@@ -1,0 +1,16 @@
+-- `started`: part by part. Assumes nothing.
+use mathlib.Core.Path.{refl, ap, _∙_}
+use borrow.Author.Needs.{needs}
+use Rattle.turns.specs.Turn.{startTurn}
+use Rattle.turns.proofs.Parts.{turn-as}
+use Rattle.turns.proofs.turn.started.Statement.{statement}
+use Rattle.turns.proofs.turn.started.Tie as tie
+
+returns : tie.Need-returns
+unfolding startTurn
+returns c =
+    let new = c .before .before .before .before .before .new .ensures in
+    rw (← c .before .before .before .before .before .before .before .params-of .ensures) (turn-as (new .1) (c .before .before .before .before .new2 .ensures .1) (c .before .row .ensures ∙ new .0) refl (c .no-record .ensures))
+
+pub started-spec : {M : Type 1} → statement M
+started-spec = tie.close (tie.spec (λ c. search needs) (λ c κs. search needs) (λ c. search needs) (λ c κs. search needs) (λ c κs. search needs) (λ c κs. search needs) (λ c κs. search needs) returns)

@@ -1,0 +1,2 @@
+-- What a call's words ask for, and what it leaves.
+pub mod Turn

@@ -1,0 +1,79 @@
+-- One call on a model and a cycle, from the 49 words of its record (docs/LAYOUT.md): what it answers, and what it leaves.
+use Prim.Native.Nat.{ℕ}
+use mathlib.Core.Bool.{Bool, false, cond, not, _&&_, _||_}
+use mathlib.Core.List.{List, [], _∷_}
+use lib.Dec.{leb, eqb}
+use Rattle.filters.specs.declared.time.Duration.{Duration}
+use Rattle.filters.specs.declared.time.Moment.{Moment}
+use Rattle.model.specs.declared.network_model.NetworkModel.{NetworkModel}
+use Rattle.model.specs.Answers.{settled}
+use Rattle.model.specs.Calls.{startNumber, startModel}
+use Rattle.events.specs.Event.{eventNumber, modelNext, recordNext}
+use Rattle.phases.specs.declared.cycle.Cycle.{Cycle}
+use Rattle.phases.specs.Cycle.{freshCycle}
+use Rattle.encoding.specs.Word.{word, flagWord, floatOf}
+use Rattle.encoding.specs.Params.{paramsOf}
+use Rattle.encoding.specs.Record.{recordOf, recordWords}
+use Rattle.encoding.specs.Sample.{sampleOf, ackedOf}
+use Rattle.turns.specs.declared.turn.Turn.{Turn}
+use Rattle.calls.specs.Change.{changeOf}
+use Rattle.calls.specs.Ask.{askOf}
+use Rattle.calls.specs.Judge.{judgeOf}
+use Rattle.calls.specs.Enter.{enterOf}
+
+-- the numbers that are a call's
+abbrev pub isCall : ℕ → Bool
+isCall call = leb call 45 && not (eqb call 2 || eqb call 39)
+
+-- calls 4 to 7 and 9; calls 10 to 13 and 23 to 38
+abbrev pub isJudged : ℕ → Bool
+isJudged call = leb 4 call && leb call 7 || eqb call 9
+
+abbrev pub isAsked : ℕ → Bool
+isAsked call = leb 10 call && leb call 13 || leb 23 call && leb call 38
+
+-- where a call has no record
+abbrev pub noRecord : List ℕ
+noRecord = 0 ∷ 0 ∷ 0 ∷ 0 ∷ 0 ∷ 0 ∷ 0 ∷ 0 ∷ 0 ∷ 0 ∷ 0 ∷ 0 ∷ 0 ∷ 0 ∷ 0 ∷ 0 ∷ []
+
+-- a start, at word 1's moment, with word 2's round trip; it makes a fresh cycle too
+unfoldable pub startTurn : List ℕ → Turn
+startTurn w =
+    let p = paramsOf w in
+    let now : Moment = record { 0 = word w 1 } in
+    let rtt : Duration = record { 0 = word w 2 } in
+    record { model = startModel p rtt now; cycle = freshCycle now; reply = startNumber p rtt now; value = 0; event = noRecord }
+
+unfoldable pub eventTurn : List ℕ → NetworkModel → Cycle → Turn
+eventTurn w m y =
+    let p = paramsOf w in
+    let e = recordOf w in
+    let x = sampleOf w in
+    let n = eventNumber m p e x (ackedOf w) in
+    record { model = settled n (modelNext m p e x (ackedOf w)) m; cycle = y; reply = n; value = 0; event = recordWords (settled n (recordNext m e x (ackedOf w)) e) }
+
+unfoldable pub judgeTurn : List ℕ → NetworkModel → Cycle → Turn
+judgeTurn w m y =
+    let j = judgeOf (word w 0) (word w 1) (floatOf (word w 1)) m (paramsOf w) (recordOf w) in
+    record { model = settled (j .number) (j .next) m; cycle = y; reply = j .number; value = flagWord (settled (j .number) (j .yes) false); event = noRecord }
+
+unfoldable pub askTurn : List ℕ → NetworkModel → Cycle → Turn
+askTurn w m y = let q = askOf (word w 0) (word w 1) (floatOf (word w 2)) m (paramsOf w) in record { model = m; cycle = y; reply = q .number; value = settled (q .number) (q .value) 0; event = noRecord }
+
+unfoldable pub enterTurn : List ℕ → NetworkModel → Cycle → Turn
+enterTurn w m y =
+    let e = enterOf (word w 0) (word w 1) (word w 2) (word w 3) m y (paramsOf w) in
+    record { model = settled (e .number) (e .model) m; cycle = settled (e .number) (e .cycle) y; reply = e .number; value = 0; event = noRecord }
+
+unfoldable pub changeTurn : List ℕ → NetworkModel → Cycle → Turn
+changeTurn w m y =
+    let c = changeOf (word w 0) (word w 1) (word w 2) (word w 3) (word w 4) (floatOf (word w 1)) m in
+    record { model = settled (c .number) (c .next) m; cycle = y; reply = c .number; value = 0; event = noRecord }
+
+unfoldable pub turnOf : List ℕ → NetworkModel → Cycle → Turn
+turnOf w m y =
+    cond (eqb (word w 0) 0) (startTurn w)
+    (cond (eqb (word w 0) 3) (eventTurn w m y)
+    (cond (isJudged (word w 0)) (judgeTurn w m y)
+    (cond (isAsked (word w 0)) (askTurn w m y)
+    (cond (leb 40 (word w 0)) (enterTurn w m y) (changeTurn w m y)))))

@@ -1,0 +1,206 @@
+// One call on a model and a cycle, from the 49 words of its record.
+ghost use mathlib.Core.Path.{_≡_};
+ghost use Rattle.filters.specs.Reply.{number};
+ghost use Rattle.model.specs.Answers.{settled};
+ghost use Rattle.events.specs.Event.{eventNumber, modelNext, recordNext};
+ghost use Rattle.encoding.specs.Params.{paramsOf};
+ghost use Rattle.encoding.specs.Record.{recordOf};
+ghost use Rattle.encoding.specs.Sample.{sampleOf, ackedOf};
+ghost use Rattle.turns.specs.Turn.{isCall, isJudged, isAsked, noRecord, startTurn, eventTurn, judgeTurn, askTurn, enterTurn, changeTurn, turnOf};
+use calls::ask::ask;
+use calls::change::change;
+use calls::enter::enter;
+use calls::judge::judge;
+use encoding::params::params_of;
+use encoding::record::record_of;
+use encoding::record::record_words;
+use encoding::sample::acked_count;
+use encoding::sample::acked_numbers;
+use encoding::sample::sample_of;
+use encoding::word::flag_word;
+use encoding::word::float_of;
+use events::event::Event;
+use filters::Duration;
+use filters::Moment;
+use model::NetworkModel;
+use phases::Cycle;
+
+// The state after a call; the number of its reply, its answer, 0 where it has none, and the words of the event's record
+// after it, zeros where it has none.
+pub struct Turn {
+    pub model: NetworkModel,
+    pub cycle: Cycle,
+    pub reply: u64,
+    pub value: u64,
+    pub event: [u64; 16],
+}
+
+pub fn carry_out(model: NetworkModel, cycle: Cycle, n: &[u64; 49]) -> Turn
+    ensures { λ r. ⌜ r ≡ turnOf (now (n .entry)) model cycle ⌝ }
+{
+    let call = n[0];
+    if call == 0 {
+        return started(n);
+    }
+    if call == 3 {
+        return occurred(model, cycle, n);
+    }
+    if is_judged(call) {
+        return judged(model, cycle, n);
+    }
+    if is_asked(call) {
+        return asked(model, cycle, n);
+    }
+    if 40 <= call {
+        return entered(model, cycle, n);
+    }
+    changed(model, cycle, n)
+}
+
+// Whether the number is a call's.
+pub fn is_call(call: u64) -> bool
+    ensures { λ r. ⌜ r ≡ isCall call ⌝ }
+{
+    (call <= 45) & !((call == 2) | (call == 39))
+}
+
+fn is_judged(call: u64) -> bool
+    ensures { λ r. ⌜ r ≡ isJudged call ⌝ }
+{
+    (4 <= call) & (call <= 7) | (call == 9)
+}
+
+fn is_asked(call: u64) -> bool
+    ensures { λ r. ⌜ r ≡ isAsked call ⌝ }
+{
+    (10 <= call) & (call <= 13) | (23 <= call) & (call <= 38)
+}
+
+fn no_record() -> [u64; 16]
+    ensures { λ r. ⌜ r ≡ noRecord ⌝ }
+{
+    [0; 16]
+}
+
+// ---- call 0
+
+fn started(n: &[u64; 49]) -> Turn
+    ensures { λ r. ⌜ r ≡ startTurn (now (n .entry)) ⌝ }
+{
+    let now = Moment(n[1]);
+    let begun = NetworkModel::new(params_of(n), Duration(n[2]), now);
+    let fresh = Cycle::new(now);
+    let reply = begun.reply;
+    let model = begun.model;
+    let cycle = fresh.cycle;
+    Turn {
+        model,
+        cycle,
+        reply: reply.row(),
+        value: 0,
+        event: no_record(),
+    }
+}
+
+// ---- call 3
+
+fn occurred(model: NetworkModel, cycle: Cycle, n: &[u64; 49]) -> Turn
+    ensures { λ r. ⌜ r ≡ eventTurn (now (n .entry)) model cycle ⌝ }
+{
+    let event = event(model, n);
+    let reply = event.reply;
+    let next = event.model;
+    let record = event.record;
+    Turn {
+        model: next,
+        cycle,
+        reply: reply.row(),
+        value: 0,
+        event: record_words(record),
+    }
+}
+
+fn event(model: NetworkModel, n: &[u64; 49]) -> Event
+    ensures reply { λ r. ⌜ number (r .reply) ≡ eventNumber model (paramsOf (now (n .entry))) (recordOf (now (n .entry))) (sampleOf (now (n .entry))) (ackedOf (now (n .entry))) ⌝ }
+    ensures model { λ r. ⌜ r .model ≡ settled (eventNumber model (paramsOf (now (n .entry))) (recordOf (now (n .entry))) (sampleOf (now (n .entry))) (ackedOf (now (n .entry)))) (modelNext model (paramsOf (now (n .entry))) (recordOf (now (n .entry))) (sampleOf (now (n .entry))) (ackedOf (now (n .entry)))) model ⌝ }
+    ensures record { λ r. ⌜ r .record ≡ settled (eventNumber model (paramsOf (now (n .entry))) (recordOf (now (n .entry))) (sampleOf (now (n .entry))) (ackedOf (now (n .entry)))) (recordNext model (recordOf (now (n .entry))) (sampleOf (now (n .entry))) (ackedOf (now (n .entry)))) (recordOf (now (n .entry))) ⌝ }
+{
+    let acked = acked_numbers(n);
+    let few = acked_count(n);
+    events::on_congestion_event_start(
+        model,
+        params_of(n),
+        record_of(n),
+        sample_of(n),
+        &acked[..few],
+    )
+}
+
+// ---- the other calls
+
+fn judged(model: NetworkModel, cycle: Cycle, n: &[u64; 49]) -> Turn
+    ensures { λ r. ⌜ r ≡ judgeTurn (now (n .entry)) model cycle ⌝ }
+{
+    let decided = judge(
+        model,
+        params_of(n),
+        record_of(n),
+        n[0],
+        n[1],
+        float_of(n[1]),
+    );
+    let reply = decided.reply;
+    let next = decided.model;
+    Turn {
+        model: next,
+        cycle,
+        reply: reply.row(),
+        value: flag_word(decided.yes),
+        event: no_record(),
+    }
+}
+
+fn asked(model: NetworkModel, cycle: Cycle, n: &[u64; 49]) -> Turn
+    ensures { λ r. ⌜ r ≡ askTurn (now (n .entry)) model cycle ⌝ }
+{
+    let answer = ask(model, params_of(n), n[0], n[1], float_of(n[2]));
+    let reply = answer.reply;
+    Turn {
+        model,
+        cycle,
+        reply: reply.row(),
+        value: answer.value,
+        event: no_record(),
+    }
+}
+
+fn entered(model: NetworkModel, cycle: Cycle, n: &[u64; 49]) -> Turn
+    ensures { λ r. ⌜ r ≡ enterTurn (now (n .entry)) model cycle ⌝ }
+{
+    let entered = enter(model, cycle, params_of(n), n[0], n[1], n[2], n[3]);
+    let reply = entered.reply;
+    let next = entered.model;
+    let turned = entered.cycle;
+    Turn {
+        model: next,
+        cycle: turned,
+        reply: reply.row(),
+        value: 0,
+        event: no_record(),
+    }
+}
+
+fn changed(model: NetworkModel, cycle: Cycle, n: &[u64; 49]) -> Turn
+    ensures { λ r. ⌜ r ≡ changeTurn (now (n .entry)) model cycle ⌝ }
+{
+    let changed = change(model, n[0], n[1], n[2], n[3], n[4], float_of(n[1]));
+    let reply = changed.reply;
+    let next = changed.model;
+    Turn {
+        model: next,
+        cycle,
+        reply: reply.row(),
+        value: 0,
+        event: no_record(),
+    }
+}

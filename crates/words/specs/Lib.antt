@@ -1,0 +1,2 @@
+-- Words in lists of bytes.
+pub mod Words

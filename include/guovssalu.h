@@ -1,0 +1,84 @@
+/*
+ * The calls of Guovssalu for C, on x86-64. `rt staticlib exports` proves them and writes the archive
+ * to link, target/staticlib/libexports.a.
+ *
+ * Every call takes any numbers and any bytes, keeps nothing between calls and allocates nothing.
+ * A lent range of bytes is a pointer and a length; with the length 0 the pointer is not used. Two
+ * ranges of one call must not overlap. A word is a uint64_t in 8 bytes, the lowest byte first,
+ * at any alignment.
+ *
+ * An f32 or an f64 crosses as its bits. Every pattern of a NaN counts as a NaN.
+ *
+ * Where a call replies with a number: 0 is done, and any other number is a refusal, which leaves
+ * every lent byte as it was. Where several apply, the lowest is given.
+ */
+#ifndef GUOVSSALU_H
+#define GUOVSSALU_H
+
+#include <stddef.h>
+#include <stdint.h>
+
+#ifdef __cplusplus
+extern "C" {
+#endif
+
+/* ---- Replies. */
+
+enum {
+    GUOVSSALU_DONE = 0,
+    GUOVSSALU_OUT_OF_BOUNDS = 1,
+    GUOVSSALU_BAD_ARGUMENT = 2,
+    GUOVSSALU_EARLIER_MOMENT = 3,
+    GUOVSSALU_SHORT_OUTPUT = 7
+};
+
+/* ---- Conversions. They refuse nothing. */
+
+/* The bits of the f32 nearest to n, a tie to the one whose last digit is even. */
+uint32_t guovssalu_u64_to_f32(uint64_t n);
+
+/* The bits of the f64 nearest to n, a tie to the one whose last digit is even. */
+uint64_t guovssalu_u64_to_f64(uint64_t n);
+
+/* The f32 without its fraction; 0 for a NaN or a negative, 2^64 - 1 for what is too large. */
+uint64_t guovssalu_f32_to_u64(uint32_t bits);
+
+/* The f64 to the nearest whole number, a half away from zero; 0 for a NaN or a negative, 2^64 - 1
+ * for what is too large. */
+uint64_t guovssalu_f64_round_to_u64(uint64_t bits);
+
+/* ---- Scaling. They refuse nothing; the gain is an f32's bits. */
+
+/* n as an f32, times the gain, without its fraction. */
+uint64_t guovssalu_scale(uint64_t n, uint32_t gain);
+
+/* A bandwidth in bits per second times the gain, by way of an f64, to the nearest whole number. */
+uint64_t guovssalu_bandwidth_mul_f32(uint64_t bandwidth, uint32_t gain);
+
+/* The whole bytes that a bandwidth in bits per second carries in so many nanoseconds, at most
+ * 2^64 - 1. The bandwidth 2^64 - 1 stands for an infinite one. */
+uint64_t guovssalu_to_bytes_per_period(uint64_t bandwidth, uint64_t nanos);
+
+/* ---- The slope of the probing cycle. */
+
+/* Writes two words, 16 bytes: the next probe_up_rounds, which is rounds + 1 or at most 30, and
+ * probe_up_bytes, which is window / 2^rounds or at least 1300. Bytes past them keep what they
+ * held. Replies 1 for rounds over 30, 2 for a window above 2^40, 7 for an output under 16 bytes. */
+uint64_t guovssalu_raise_inflight_high_slope(uint64_t rounds, uint64_t window, uint8_t *out,
+                                             size_t out_len);
+
+/* ---- The windowed filter. */
+
+/* Runs an empty filter of the given window over pairs of words, a time and a sample, 16 bytes to a
+ * pair. For each pair it writes three words, 24 bytes: the best, the second best and the third
+ * best sample after that pair. Bytes past the answer keep what they held. Replies 2 if src_len is
+ * no multiple of 16, 3 if a pair's time is earlier than one of the three times that the filter
+ * holds then, 7 for an output under 24 bytes a pair. */
+uint64_t guovssalu_filter_run(uint64_t window, const uint8_t *src, size_t src_len, uint8_t *out,
+                              size_t out_len);
+
+#ifdef __cplusplus
+}
+#endif
+
+#endif

@@ -1,0 +1,293 @@
+//! Feeds the original and the port the same steps and compares what they
+//! answer, word by word.
+
+use std::io;
+use std::time::Duration;
+use std::time::Instant;
+
+use crate::frame;
+use crate::frame::Answer;
+use crate::model::Call;
+use crate::port::Port;
+use crate::text;
+use crate::world::Step;
+use crate::world::World;
+
+/// How often the progress is told.
+const PROGRESS: Duration = Duration::from_secs(10);
+
+/// Steps of which the last one differs. Where the port is silent it is one of
+/// the last hundred.
+struct Difference {
+    run: Vec<Step>,
+    what: What,
+}
+
+enum What {
+    /// A word of an answer.
+    Word {
+        word: usize,
+        expected: u64,
+        got: u64,
+    },
+    /// The port gave no answer.
+    Silence(io::Error),
+}
+
+impl Difference {
+    /// Whether the other one is in the same word of the same call.
+    fn is_like(&self, other: &Difference) -> bool {
+        let call = |difference: &Difference| difference.run.last().map(text::name);
+        match (&self.what, &other.what) {
+            (What::Word { word, .. }, What::Word { word: same, .. }) => {
+                word == same && call(self) == call(other)
+            }
+            (What::Silence(_), What::Silence(_)) => true,
+            _ => false,
+        }
+    }
+}
+
+/// Whether what comes before the step has no bearing on it.
+pub type Begins = fn(&Step) -> bool;
+
+/// A comparison that goes on.
+struct Comparison<'a> {
+    port: &'a mut Port,
+    world: World,
+    begins: Begins,
+    /// The steps since the last that begins, before the frame.
+    steps: Vec<Step>,
+    /// The frame that is being filled, what is expected, and for each call how
+    /// many steps were taken with it.
+    request: Vec<u64>,
+    expected: Vec<Answer>,
+    taken: Vec<usize>,
+    /// How many calls were given each reply.
+    replies: [u64; 8],
+}
+
+impl<'a> Comparison<'a> {
+    fn new(port: &'a mut Port, begins: Begins) -> Self {
+        Comparison {
+            port,
+            world: World::new(),
+            begins,
+            steps: Vec::new(),
+            request: Vec::new(),
+            expected: Vec::new(),
+            taken: Vec::new(),
+            replies: [0; 8],
+        }
+    }
+
+    /// How many calls were made, without those that only fill up a frame.
+    fn calls(&self) -> u64 {
+        self.replies.iter().sum()
+    }
+
+    /// Takes a step, and asks the port when the frame is full.
+    fn step(&mut self, step: Step) -> Result<(), Difference> {
+        // The state is handed to the port only at the beginning of a frame.
+        if let Step::Put(_) = step {
+            self.finish()?;
+        }
+        if let Some(reply) = self.add(&step) {
+            self.replies[reply as usize] += 1;
+        }
+        self.steps.push(step);
+        if self.expected.len() == frame::CALLS {
+            self.ask()?;
+        }
+        Ok(())
+    }
+
+    /// Fills up the frame, if one has begun, and asks the port.
+    fn finish(&mut self) -> Result<(), Difference> {
+        if self.expected.is_empty() {
+            return Ok(());
+        }
+        while self.expected.len() < frame::CALLS {
+            self.add(&FILLER);
+        }
+        self.ask()
+    }
+
+    /// Takes a step in the original and adds it to the frame; its reply, if
+    /// the port is asked.
+    fn add(&mut self, step: &Step) -> Option<u64> {
+        let words = self.world.words(step);
+        if self.expected.is_empty() {
+            self.request = self.world.state[..frame::CARRIED].to_vec();
+        }
+        let answer = self.world.step(step);
+        self.request.extend(words?);
+        self.expected.push(answer);
+        self.taken.push(self.steps.len() + 1);
+        Some(answer[0])
+    }
+
+    /// Asks the port the frame, and forgets the steps that have no bearing on
+    /// the next.
+    fn ask(&mut self) -> Result<(), Difference> {
+        let answers = self.port.ask(&self.request);
+        let answers = answers.map_err(|error| Difference {
+            run: self.steps.clone(),
+            what: What::Silence(error),
+        })?;
+        let got = answers.chunks_exact(frame::ANSWER);
+        for ((expected, got), &taken) in self.expected.iter().zip(got).zip(&self.taken) {
+            let differs = |&word: &usize| expected[word] != got[word];
+            if let Some(word) = (0..frame::ANSWER).find(differs) {
+                let mut run = self.steps.clone();
+                run.push(FILLER);
+                run.truncate(taken);
+                let (expected, got) = (expected[word], got[word]);
+                let what = What::Word {
+                    word,
+                    expected,
+                    got,
+                };
+                return Err(Difference { run, what });
+            }
+        }
+        self.expected.clear();
+        self.taken.clear();
+        if let Some(first) = self.steps.iter().rposition(self.begins) {
+            self.steps.drain(..first);
+        }
+        Ok(())
+    }
+}
+
+/// Fills up a frame.
+const FILLER: Step = Step::Call(Call::Bdp0);
+
+/// Makes this many calls, each step chosen by what was before it, and tells
+/// how it went; whether nothing differed.
+pub fn run(
+    port: &mut Port,
+    calls: u64,
+    begins: Begins,
+    mut choose: impl FnMut(&World) -> Step,
+) -> bool {
+    let mut comparison = Comparison::new(port, begins);
+    let mut told = Instant::now();
+    let difference = loop {
+        if comparison.calls() == calls {
+            break comparison.finish().err();
+        }
+        let step = choose(&comparison.world);
+        if let Err(difference) = comparison.step(step) {
+            break Some(difference);
+        }
+        if comparison.calls() % 1000 == 0 && told.elapsed() > PROGRESS {
+            told = Instant::now();
+            eprintln!("{} calls", comparison.calls());
+        }
+    };
+    conclude(comparison, difference)
+}
+
+/// Takes these steps, and tells how it went; whether nothing differed.
+pub fn follow(port: &mut Port, steps: Vec<Step>) -> bool {
+    let mut comparison = Comparison::new(port, |_| false);
+    let difference = compare(&mut comparison, steps);
+    conclude(comparison, difference)
+}
+
+fn compare(comparison: &mut Comparison, steps: Vec<Step>) -> Option<Difference> {
+    for step in steps {
+        if let Err(difference) = comparison.step(step) {
+            return Some(difference);
+        }
+    }
+    comparison.finish().err()
+}
+
+fn conclude(comparison: Comparison, difference: Option<Difference>) -> bool {
+    let calls = comparison.calls();
+    let [accepted, refused @ ..] = comparison.replies;
+    eprintln!("{accepted} accepted; refused with 1 to 7: {refused:?}");
+    let Some(difference) = difference else {
+        println!("{calls} calls, 0 differences");
+        return true;
+    };
+    tell(&difference);
+    let shortest = shortest(comparison.port, difference, comparison.begins);
+    println!("The shortest run of calls found that shows a difference:");
+    for step in &shortest.run {
+        println!("{}", text::line(step));
+    }
+    tell(&shortest);
+    println!("{calls} calls, a difference");
+    false
+}
+
+fn tell(difference: &Difference) {
+    match &difference.what {
+        What::Word {
+            word,
+            expected,
+            got,
+        } => {
+            let step = difference.run.last().unwrap();
+            let (name, word) = (text::name(step), text::word(step, *word));
+            println!("{name}: {word}: expected {expected}, got {got}");
+        }
+        What::Silence(error) => println!("No answer from the port: {error}."),
+    }
+}
+
+/// A difference that is left when calls are dropped, many at once and then one
+/// by one, and then numbers that are put. The first step stays.
+fn shortest(port: &mut Port, mut found: Difference, begins: Begins) -> Difference {
+    // Another difference of the kind, in a run that isn't longer.
+    let mut differs = |steps: Vec<Step>, found: &Difference| {
+        let mut comparison = Comparison::new(port, |_| false);
+        let difference = compare(&mut comparison, steps)?;
+        let fits = difference.is_like(found) && difference.run.len() <= found.run.len();
+        fits.then_some(difference)
+    };
+    if let Some(first) = found.run.iter().rposition(begins) {
+        found = differs(found.run[first..].to_vec(), &found).unwrap_or(found);
+    }
+    let mut size = found.run.len() / 2;
+    while size > 0 {
+        let before = found.run.len();
+        let mut at = before.saturating_sub(size);
+        while at > 0 {
+            let mut run = found.run.clone();
+            run.drain(at..(at + size).min(run.len()));
+            found = differs(run, &found).unwrap_or(found);
+            at = at.min(found.run.len()).saturating_sub(size);
+        }
+        if found.run.len() == before {
+            size /= 2;
+        }
+    }
+    simplest(found, differs)
+}
+
+/// A difference that is left when numbers that are put are dropped one by one.
+fn simplest(
+    mut found: Difference,
+    mut differs: impl FnMut(Vec<Step>, &Difference) -> Option<Difference>,
+) -> Difference {
+    let (mut at, mut pair) = (0, 0);
+    while at < found.run.len() {
+        let mut run = found.run.clone();
+        match &mut run[at] {
+            Step::Put(pairs) if pair < pairs.len() => pairs.remove(pair),
+            _ => {
+                (at, pair) = (at + 1, 0);
+                continue;
+            }
+        };
+        match differs(run, &found) {
+            Some(simpler) => found = simpler,
+            None => pair += 1,
+        }
+    }
+    found
+}

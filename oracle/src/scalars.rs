@@ -1,0 +1,126 @@
+//! The functions on single numbers, answered in runs of neighbours, and the
+//! choice of such runs.
+
+use std::time::Duration;
+
+use crate::recovery::bandwidth::Bandwidth;
+use crate::values::whole;
+use crate::values::Random;
+use crate::values::GAINS;
+use crate::world::Step;
+
+/// The names of the functions; a function's number is its place.
+pub const NAMES: [&str; 7] = [
+    "to_f32",
+    "to_f64",
+    "to_u64",
+    "round_to_u64",
+    "scale",
+    "bandwidth_mul",
+    "bandwidth_period",
+];
+
+/// How many neighbours are asked at once.
+pub const RUN: u64 = 64;
+
+/// What the function answers to a number, or to the bits of a float, with
+/// another number where it takes two.
+pub fn answer(function: u64, number: u64, other: u64) -> u64 {
+    let float = f32::from_bits(number as u32);
+    let bandwidth = Bandwidth::from_bits_per_second(other);
+    match function {
+        0 => (number as f32).to_bits() as u64,
+        1 => (number as f64).to_bits(),
+        2 => float as u64,
+        3 => f64::from_bits(number).round() as u64,
+        4 => (other as f32 * float) as u64,
+        5 => (bandwidth * float).to_bits_per_second(),
+        _ => bandwidth.to_bytes_per_period(Duration::from_nanos(number)),
+    }
+}
+
+/// The number of the function of this name, if it takes the bits of an f32.
+pub fn on_patterns(name: &str) -> Option<u64> {
+    let function = NAMES.iter().position(|it| *it == name)? as u64;
+    [2, 4, 5].contains(&function).then_some(function)
+}
+
+/// Every run of f32 patterns, one after the other.
+pub fn patterns(function: u64, other: u64) -> impl FnMut() -> Step {
+    let mut next = 0;
+    move || {
+        let first = next;
+        next += RUN;
+        Step::Numbers {
+            function,
+            first,
+            other,
+        }
+    }
+}
+
+/// An endless choice of runs around the numbers where a function turns.
+pub struct Runs {
+    random: Random,
+    /// Whole numbers, at the ties of f32 and of f64.
+    turns: [Vec<u64>; 2],
+}
+
+impl Runs {
+    pub fn new(seed: u64) -> Self {
+        Runs {
+            random: Random::new(seed ^ (3 << 62)),
+            turns: [whole(24).all, whole(53).all],
+        }
+    }
+
+    pub fn next(&mut self) -> Step {
+        let function = self.random.below(NAMES.len() as u64);
+        let number = match function {
+            0 | 1 | 6 => self.whole(),
+            2 | 4 | 5 => self.pattern(),
+            _ => self.double(),
+        };
+        let before = self.random.below(RUN);
+        let first = match function {
+            2 | 4 | 5 => number.saturating_sub(before).min((1 << 32) - RUN),
+            _ => number.saturating_sub(before).min(u64::MAX - (RUN - 1)),
+        };
+        let other = match function {
+            4..=6 => self.whole(),
+            _ => 0,
+        };
+        Step::Numbers {
+            function,
+            first,
+            other,
+        }
+    }
+
+    fn whole(&mut self) -> u64 {
+        let turns = self.random.below(3) as usize;
+        match self.turns.get(turns) {
+            Some(turns) => self.random.pick(turns),
+            None => self.random.of_length(64),
+        }
+    }
+
+    /// The bits of an f32.
+    fn pattern(&mut self) -> u64 {
+        match self.random.below(3) {
+            0 => self.random.pick(&GAINS) as u64,
+            1 => self.random.gain() as u64,
+            _ => self.random.below(1 << 32),
+        }
+    }
+
+    /// The bits of an f64: beside a half or a whole number, or any.
+    fn double(&mut self) -> u64 {
+        let at = self.random.of_length(54) as f64 / 2.0;
+        match self.random.below(4) {
+            0 => self.random.next(),
+            1 => (self.whole() as f64).to_bits(),
+            _ => at.to_bits(),
+        }
+    }
+}

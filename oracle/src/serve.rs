@@ -1,0 +1,55 @@
+//! The original as a port: answers frames until its input ends.
+
+use std::io;
+use std::io::ErrorKind;
+
+use crate::frame;
+use crate::frame::ARGUMENTS;
+use crate::frame::CARRIED;
+use crate::frame::RECORD;
+use crate::model::Call;
+use crate::world::Step;
+use crate::world::World;
+use crate::world::NUMBERS;
+use crate::world::WINDOWED_FILTER;
+
+pub fn serve() -> io::Result<()> {
+    let mut input = io::stdin().lock();
+    let mut output = io::stdout().lock();
+    let mut world = World::new();
+    while let Some(words) = frame::read(&mut input, frame::REQUEST)? {
+        let (state, calls) = words.split_at(CARRIED);
+        world.carry(state);
+        let mut answers = Vec::with_capacity(frame::ANSWERS);
+        for words in calls.chunks_exact(frame::CALL) {
+            let step = step(&mut world, words).ok_or(ErrorKind::InvalidData)?;
+            answers.extend(world.step(&step));
+        }
+        frame::write(&mut output, &answers)?;
+    }
+    Ok(())
+}
+
+/// The step of a call's words, if it is one; takes what is handed in with it.
+fn step(world: &mut World, words: &[u64]) -> Option<Step> {
+    let (call, handed_in) = words.split_at(1 + ARGUMENTS);
+    let (record, parameters) = handed_in.split_at(RECORD);
+    let (number, arguments) = (call[0], &call[1..]);
+    world.hand_in(record, parameters);
+    match number {
+        WINDOWED_FILTER => {
+            world.filter.copy_from_slice(&arguments[3..11]);
+            Some(Step::Filter {
+                op: arguments[0],
+                x: arguments[1],
+                y: arguments[2],
+            })
+        }
+        NUMBERS => Some(Step::Numbers {
+            function: arguments[0],
+            first: arguments[1],
+            other: arguments[2],
+        }),
+        _ => Call::of(number, arguments, &world.start).map(Step::Call),
+    }
+}

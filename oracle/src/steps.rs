@@ -1,0 +1,378 @@
+//! Chooses steps: calls that the port accepts (`Calls`), and between them
+//! calls that it refuses, and states that no run reaches.
+
+use std::collections::VecDeque;
+
+use crate::calls::Calls;
+use crate::model::field::*;
+use crate::model::Call;
+use crate::model::Host;
+use crate::model::Record;
+use crate::model::Start;
+use crate::model::State;
+use crate::model::UNSET;
+use crate::replies;
+use crate::replies::BANDWIDTH;
+use crate::replies::BYTES;
+use crate::replies::LEAST_GAIN;
+use crate::replies::LENGTH;
+use crate::replies::MOMENT;
+use crate::replies::MOST_BETA;
+use crate::replies::MOST_GAIN;
+use crate::replies::TOTAL;
+use crate::replies::UP_ROUNDS;
+use crate::values::bits;
+use crate::values::Random;
+use crate::world::Step;
+use crate::world::World;
+
+/// The kinds of numbers in a state.
+#[derive(Clone, Copy, PartialEq)]
+enum Kind {
+    /// Any number.
+    Free,
+    /// 0 or 1, or another small number, below this.
+    Below(u64),
+    /// A number up to this.
+    UpTo(u64),
+    /// Bytes, or unset.
+    Bound,
+    Gain,
+}
+
+use Kind::*;
+
+/// What may be put into a state: the field, its kind, and the field before it
+/// that says whether it is set, if there is one.
+const FIELDS: [(usize, Kind, Option<usize>); 44] = [
+    (ROUND_TRIP_COUNT, Free, None),
+    (LAST_SENT, Free, None),
+    (END, Free, Some(END_SET)),
+    (SLOT_0, UpTo(BANDWIDTH), None),
+    (SLOT_1, UpTo(BANDWIDTH), None),
+    (MIN_RTT, UpTo(LENGTH), None),
+    (MIN_RTT_TIMESTAMP, UpTo(MOMENT), None),
+    (BYTES_LOST_IN_ROUND, UpTo(TOTAL), None),
+    (LOSS_EVENTS_IN_ROUND, Free, None),
+    (MAX_DELIVERED, UpTo(TOTAL), None),
+    (MIN_IN_FLIGHT, Bound, None),
+    (LIMITED_IN_ROUND, Below(2), None),
+    (BANDWIDTH_LATEST, UpTo(BANDWIDTH), None),
+    (INFLIGHT_LATEST, UpTo(BYTES), None),
+    (BANDWIDTH_LO, UpTo(BANDWIDTH), Some(BANDWIDTH_LO_SET)),
+    (INFLIGHT_LO, Bound, None),
+    (INFLIGHT_HI, Bound, None),
+    (CWND_GAIN, Gain, None),
+    (PACING_GAIN, Gain, None),
+    (CWND_LIMITED, Below(2), None),
+    (FULL_REACHED, Below(2), None),
+    (BASELINE, UpTo(BANDWIDTH), None),
+    (ROUNDS_WITHOUT_GROWTH, Free, None),
+    (ROUNDS_WITH_QUEUEING, Free, None),
+    (IGNORE_APP_LIMITED, Below(2), None),
+    (SEND_RATE, UpTo(BANDWIDTH), Some(SEND_RATE_SET)),
+    (ACK_RATE, UpTo(BANDWIDTH), Some(ACK_RATE_SET)),
+    (TOTAL_ACKED, UpTo(TOTAL), None),
+    (TOTAL_LOST, UpTo(TOTAL), None),
+    (LAST_MOMENT, UpTo(MOMENT), None),
+    (PHASE, Below(5), None),
+    (CYCLE_START, UpTo(MOMENT), None),
+    (PHASE_START, UpTo(MOMENT), None),
+    (ROUNDS_IN_PHASE, Free, None),
+    (ROUNDS_SINCE_PROBE, Free, None),
+    (PROBE_WAIT, UpTo(LENGTH + 500_000), Some(PROBE_WAIT_SET)),
+    (PROBE_UP_ROUNDS, UpTo(UP_ROUNDS), None),
+    (PROBE_UP_BYTES, UpTo(BYTES), Some(PROBE_UP_BYTES_SET)),
+    (PROBE_UP_ACKED, UpTo(BYTES), None),
+    (UP_APP_LIMITED, Below(2), None),
+    (HAS_ADVANCED, Below(2), None),
+    (FROM_PROBING, Below(2), None),
+    (PROBED_TOO_HIGH, Below(2), None),
+    (STOPPED_RISKY, Below(2), None),
+];
+
+/// Calls that have arguments to be refused.
+const SPOILED: [u64; 17] = [
+    1, 3, 3, 3, 9, 10, 11, 15, 16, 17, 18, 22, 40, 41, 42, 43, 45,
+];
+
+/// An endless run of steps on a model and its cycle.
+pub struct Steps {
+    random: Random,
+    calls: Calls,
+    /// What comes next.
+    planned: VecDeque<Step>,
+    /// Whether the last step was a start.
+    started: bool,
+}
+
+impl Steps {
+    pub fn new(seed: u64) -> Self {
+        // Streams apart from those of the lists.
+        let mut seeds = Random::new(seed ^ (1 << 63));
+        Steps {
+            random: Random::new(seeds.next()),
+            calls: Calls::new(seeds.next()),
+            planned: VecDeque::new(),
+            started: false,
+        }
+    }
+
+    /// Whether what comes before the step has no bearing on it.
+    pub fn begins(step: &Step) -> bool {
+        matches!(step, Step::Call(Call::Start(_)))
+    }
+
+    /// The step to be taken in this world.
+    pub fn next(&mut self, world: &World) -> Step {
+        if self.planned.is_empty() {
+            self.plan(world);
+        }
+        let step = self.planned.pop_front().unwrap();
+        self.started = Steps::begins(&step);
+        step
+    }
+
+    fn plan(&mut self, world: &World) {
+        // After a start, sometimes a state that no run reaches.
+        if self.started && self.random.one_in(5) {
+            let step = self.put(&world.state);
+            self.planned.push_back(step);
+            return;
+        }
+        if self.calls.at_end() && self.random.one_in(6) {
+            let start = self.refused_start();
+            self.planned.push_back(Step::Call(start));
+            return;
+        }
+        let state = within(&world.state);
+        let call = self.calls.next(&state);
+        if self.random.one_in(6) {
+            self.refuse(&call, world);
+        }
+        self.planned.push_back(Step::Call(call));
+    }
+
+    /// Plans a call that is refused, in place of this one.
+    fn refuse(&mut self, call: &Call, world: &World) {
+        let state = within(&world.state);
+        if let Call::Record(record) = call {
+            let later = self.random.below(5) + 3;
+            let spoiled = Call::Record(self.spoiled_record(record));
+            let later = self.calls.make(later, &state);
+            self.planned
+                .extend([Step::Call(spoiled), Step::Call(later)]);
+            return;
+        }
+        for _ in 0..20 {
+            let number = self.random.pick(&SPOILED);
+            let call = self.calls.make(number, &state);
+            let mut numbers = call.numbers();
+            for _ in 0..1 + self.random.below(4) / 3 {
+                let at = 1 + self.random.below(numbers.len() as u64 - 1) as usize;
+                numbers[at] = match (number, at, self.random.one_in(2)) {
+                    (3, 16, true) => state[TOTAL_ACKED].saturating_sub(1),
+                    (3, 17, true) => state[TOTAL_LOST].saturating_sub(1),
+                    _ => self.outside(&world.state),
+                };
+            }
+            let call = Call::of(number, &numbers[1..], &world.start).unwrap();
+            if replies::reply(&call, &world.state, &world.start) > 0 {
+                self.planned.push_back(Step::Call(call));
+                return;
+            }
+        }
+    }
+
+    /// A record with a number outside its bounds, mostly.
+    fn spoiled_record(&mut self, record: &Record) -> Record {
+        let mut numbers = record.numbers();
+        let limits = [
+            (0, MOMENT),
+            (1, BYTES),
+            (2, BYTES),
+            (3, BYTES),
+            (4, TOTAL),
+            (5, TOTAL),
+            (9, BANDWIDTH),
+            (11, LENGTH),
+            (14, TOTAL),
+            (15, BYTES),
+        ];
+        let (at, limit) = self.random.pick(&limits);
+        numbers[at] = self.past(limit);
+        if [9, 11].contains(&at) {
+            numbers[at - 1] = 1;
+        }
+        Record::of(&numbers)
+    }
+
+    /// A start that is refused, most likely, and a few calls after it, to which
+    /// its parameters are handed in.
+    fn refused_start(&mut self) -> Call {
+        let usual = Host::usual_start();
+        let left = 1 + self.random.below(6);
+        self.calls.go_on(usual, left);
+        let mut start = Start {
+            moment: self.random.below(1000),
+            initial_rtt: self.random.of_length(36),
+            ..usual
+        };
+        let mut parameters = start.parameters();
+        match self.random.below(10) {
+            0 => start.moment = self.past(MOMENT),
+            1 => start.initial_rtt = self.past(LENGTH),
+            2 => parameters[8] = self.past(LENGTH),
+            3 => parameters[9] = self.past(LENGTH),
+            at => parameters[at as usize - 4] = self.no_float() as u64,
+        }
+        if self.random.one_in(8) {
+            start.moment = self.past(MOMENT);
+        }
+        Call::Start(start.with_parameters(&parameters))
+    }
+
+    /// A number that is outside the bounds of many arguments.
+    fn outside(&mut self, state: &State) -> u64 {
+        match self.random.below(10) {
+            0 => state[LAST_MOMENT].saturating_sub(1 + self.random.below(2)),
+            1 => UP_ROUNDS + 1 + self.random.below(2),
+            2..=4 => self.no_float() as u64,
+            5 | 6 => self.past(LENGTH),
+            7 => self.past(MOMENT),
+            _ => self.past(BYTES),
+        }
+    }
+
+    /// A number past this limit, or the largest.
+    fn past(&mut self, limit: u64) -> u64 {
+        match self.random.below(6) {
+            0 => u64::MAX,
+            1 => u64::MAX - 1,
+            2 => limit + self.random.of_length(20),
+            _ => limit + 1,
+        }
+    }
+
+    /// Bits of a float that is outside the bounds of gains and of most
+    /// parameters.
+    fn no_float(&mut self) -> u32 {
+        let outside = [
+            0,
+            1,
+            0x8000_0000,
+            0x8000_0001,
+            bits(LEAST_GAIN) - 1,
+            bits(MOST_GAIN) + 1,
+            bits(MOST_BETA) + 1,
+            bits(1.0) + 1,
+            bits(1.0) - 1,
+            bits(-1.0),
+            bits(f32::MAX),
+            bits(f32::INFINITY),
+            bits(f32::NEG_INFINITY),
+            0x7fc0_0000,
+            0xffc0_0000,
+            0x7f80_0001,
+            0xffbf_ffff,
+        ];
+        match self.random.one_in(4) {
+            true => self.random.next() as u32,
+            false => self.random.pick(&outside),
+        }
+    }
+
+    /// Puts numbers into a state: some or all, within their bounds, and
+    /// sometimes one that isn't.
+    fn put(&mut self, state: &State) -> Step {
+        let mut put = *state;
+        let share = self.random.pick(&[1, 4, 12]);
+        for (field, kind, set) in FIELDS {
+            if self.random.one_in(share) {
+                put[field] = self.value(kind);
+                self.set(&mut put, field, set);
+            }
+        }
+        put[BYTES_LOST_IN_ROUND] = put[BYTES_LOST_IN_ROUND].min(put[TOTAL_LOST]);
+        put[MAX_DELIVERED] = put[MAX_DELIVERED].min(put[TOTAL_ACKED]);
+        if self.random.one_in(4) {
+            self.spoil(&mut put);
+            let left = 1 + self.random.below(8);
+            self.calls.at_most(left);
+        }
+        let changed = (0..50).filter(|&field| put[field] != state[field]);
+        Step::Put(changed.map(|field| (field, put[field])).collect())
+    }
+
+    /// Sets or unsets the field, if it can be unset.
+    fn set(&mut self, state: &mut State, field: usize, set: Option<usize>) {
+        if let Some(set) = set {
+            state[set] = !self.random.one_in(4) as u64;
+            state[field] *= state[set];
+        }
+    }
+
+    fn value(&mut self, kind: Kind) -> u64 {
+        let random = &mut self.random;
+        match kind {
+            Free => match random.below(6) {
+                0 => 0,
+                1 => 1,
+                2 => u64::MAX - 1,
+                3 => random.of_length(64),
+                _ => u64::MAX,
+            },
+            Below(end) => random.below(end),
+            UpTo(limit) => match random.below(8) {
+                0 => 0,
+                1 => limit,
+                2 => limit - 1,
+                3 => random.below(limit + 1),
+                4 => random.of_length(12),
+                _ => random.of_length(24),
+            }
+            .min(limit),
+            Bound => match random.below(4) {
+                0 => UNSET,
+                _ => self.value(UpTo(BYTES)),
+            },
+            Gain => match random.below(4) {
+                0 => bits(LEAST_GAIN) as u64,
+                1 => bits(MOST_GAIN) as u64,
+                _ => random.gain() as u64,
+            },
+        }
+    }
+
+    /// Puts one number outside its bounds.
+    fn spoil(&mut self, state: &mut State) {
+        let (field, kind, set) = self.random.pick(&FIELDS);
+        match kind {
+            Free | Below(_) => match self.random.one_in(2) {
+                true => state[BYTES_LOST_IN_ROUND] = state[TOTAL_LOST] + 1,
+                false => state[MAX_DELIVERED] = state[TOTAL_ACKED] + 1,
+            },
+            UpTo(limit) => state[field] = self.past(limit),
+            Bound => state[field] = self.past(BYTES).min(UNSET - 1),
+            Gain => state[field] = self.no_float() as u64,
+        }
+        if let Some(set) = set {
+            state[set] = 1;
+        }
+    }
+}
+
+/// The state with every number within its bounds, for choosing calls.
+fn within(state: &State) -> State {
+    let mut state = *state;
+    for (field, kind, _) in FIELDS {
+        state[field] = match kind {
+            Free | Below(_) => state[field],
+            UpTo(limit) => state[field].min(limit),
+            Bound if state[field] == UNSET => UNSET,
+            Bound => state[field].min(BYTES),
+            Gain => state[field],
+        };
+    }
+    state
+}

@@ -1,0 +1,232 @@
+#!/usr/bin/env python3
+"""Small changes to the original, each of which the comparison with the port must notice.
+
+    tests/changes.py [SEED [CALLS]]
+
+Copies the files of the original that were ported to a temporary folder, makes one change at a time, builds the oracle
+with the changed files, and compares them with the port by `diff` (a change to the windowed filter by `filter`). A change
+that isn't noticed is listed, and the script ends with 1. PORT is the command of the port; without it the unchanged
+original answers in its place, which tries the comparison alone. ORIGINAL says where the original is, as for the oracle."""
+
+import os
+import shutil
+import subprocess
+import sys
+import tempfile
+
+ROOT = os.path.dirname(os.path.dirname(os.path.abspath(__file__)))
+PACKAGE = os.path.join(ROOT, "oracle")
+BANDWIDTH = "bandwidth.rs"
+FILTER = "gcongestion/bbr/windowed_filter.rs"
+MODEL = "gcongestion/bbr2/network_model.rs"
+PROBE = "gcongestion/bbr2/probe_bw.rs"
+MODE = "gcongestion/bbr2/mode.rs"
+
+# In which file; after which words, that occur once; what is found first after them; what is put in its place.
+CHANGES = [
+    (BANDWIDTH, "rhs: f64)", ".round()", ".trunc()"),
+    (BANDWIDTH, "rhs: f64)", ".round()", ".ceil()"),
+    (BANDWIDTH, "rhs: f64)", ".round()", ".round_ties_even()"),
+    (BANDWIDTH, "rhs: f32)", "rhs as f64", "(rhs as f64 + 1e-9)"),
+    (BANDWIDTH, "pub const fn zero()", "0", "1"),
+    (BANDWIDTH, "NUM_NANOS_PER_SECOND: u64", "1000", "1001"),
+    (BANDWIDTH, "fn to_bytes_per_period", "return bits / (8", "return bits / (7"),
+    (BANDWIDTH, "fn to_bytes_per_period", "let bytes = bits / (8", "let bytes = bits / (9"),
+    (BANDWIDTH, "fn to_bytes_per_period", "checked_mul(time_nanos)", "checked_mul(time_nanos).or(Some(u64::MAX))"),
+    (FILTER, "pub fn clear", "self.estimates = [None, None, None];", ""),
+    (FILTER, "pub fn update", "new_sample > best", "new_sample >= best"),
+    (FILTER, "pub fn update", ".time >", ".time >="),
+    (FILTER, "pub fn update", "new_sample > self.estimates[1]", "new_sample >= self.estimates[1]"),
+    (FILTER, "pub fn update", "self.estimates[2] = self.estimates[1];", ""),
+    (FILTER, "pub fn update", "new_sample > self.estimates[2]", "new_sample >= self.estimates[2]"),
+    (FILTER, "// Expire and update", ".time >", ".time >="),
+    (FILTER, "// Expire and update", "[0] = self.estimates[1]", "[0] = self.estimates[2]"),
+    (FILTER, "// Expire and update", "self.estimates[1] = self.estimates[2];", ""),
+    (FILTER, "check at the start", ".time >", ".time >="),
+    (FILTER, "check at the start", "self.estimates[1] = self.estimates[2];", ""),
+    (FILTER, "check at the start", ".sample ==", ".sample !="),
+    (FILTER, "check at the start", "/ 4", "/ 3"),
+    (FILTER, "// second-best estimate", "self.estimates[2] = self.estimates[1];", ""),
+    (FILTER, "// second-best estimate", "/ 2", "/ 4"),
+    (FILTER, "// take a third-best", "self.estimates[2] =", "self.estimates[1] ="),
+    (MODEL, "DEFAULT_MSS: usize", "1300", "1301"),
+    (MODEL, "fn on_packets_acked", "<= pkt", "< pkt"),
+    (MODEL, "fn on_packets_acked", "self.round_trip_count += 1;", ""),
+    (MODEL, "fn on_packets_acked", "Some(self.last_sent_packet)", "Some(last_acked_packet)"),
+    (MODEL, "fn restart_round(", "Some(self.last_sent_packet)", "None"),
+    (MODEL, "fn update(&mut self, sample_rtt", "sample_rtt <", "sample_rtt <="),
+    (MODEL, "fn update(&mut self, sample_rtt", "self.min_rtt_timestamp = now;", ""),
+    (MODEL, "fn force_update(", "self.min_rtt_timestamp = now;", ""),
+    (MODEL, "impl MaxBandwidthFilter", ".max(", ".min("),
+    (MODEL, "fn update(&mut self, sample: ", "self.max_bandwidth[1].max(sample)", "sample"),
+    (MODEL, "fn advance(&mut self)", "[1] ==", "[0] =="),
+    (MODEL, "fn advance(&mut self)", "self.max_bandwidth[1] = Bandwidth::zero();", ""),
+    (MODEL, "fn new(params", "usize::MAX", "0"),
+    (MODEL, "fn new(params", "params.startup_cwnd_gain", "params.startup_pacing_gain"),
+    (MODEL, "fn bandwidth_estimate", "a.min(b)", "a"),
+    (MODEL, "fn bdp1", "1.0", "1.001"),
+    (MODEL, "&mut self, sent_time", ".min(bytes_in_flight)", ".min(bytes_in_flight + bytes)"),
+    (MODEL, "&mut self, sent_time", "bytes >=", "bytes >"),
+    (MODEL, "fn on_congestion_event_start", ".last()", ".first()"),
+    (MODEL, "fn on_congestion_event_start", "extra_acked == 0", "extra_acked <= 1"),
+    (MODEL, "fn on_congestion_event_start", ".prior_bytes_in_flight >=", ".prior_bytes_in_flight >"),
+    (MODEL, "fn on_congestion_event_start", "if sample.last_packet_send_state.is_valid", "if true"),
+    (MODEL, "fn on_congestion_event_start", "prior_bytes_acked != self.total_bytes_acked()", "true"),
+    (MODEL, "fn on_congestion_event_start", "!sample.sample_is_app_limited ||", ""),
+    (MODEL, "fn on_congestion_event_start", "sample_max > self", "sample_max >= self"),
+    (MODEL, "fn on_congestion_event_start", "= sample.sample_max_send_rate", "= sample.sample_max_ack_rate"),
+    (MODEL, "fn on_congestion_event_start", ".saturating_sub(congestion_event.bytes_lost)", ""),
+    (MODEL, "fn on_congestion_event_start", "bytes_lost > 0", "bytes_lost > 1"),
+    (MODEL, "fn on_congestion_event_start", "self.loss_events_in_round += 1;", ""),
+    (MODEL, "fn on_congestion_event_start", "congestion_event.bytes_acked > 0 &&", ""),
+    (MODEL, "fn on_congestion_event_start", "self.max_bytes_delivered_in_round.max(bytes_delivered)", "bytes_delivered"),
+    (MODEL, "fn on_congestion_event_start", ".min(congestion_event.bytes_in_flight)", ""),
+    (MODEL, "fn on_congestion_event_start", "sample_max_bandwidth > Some(self.bandwidth_latest)", "sample_max_bandwidth.is_some()"),
+    (MODEL, "fn on_congestion_event_start", "> self.inflight_latest", "!= self.inflight_latest"),
+    (MODEL, "fn on_congestion_event_start", "if !congestion_event.end_of_round_trip", "if false"),
+    (MODEL, "fn on_congestion_event_start", "sample_max_inflight > 0", "sample_max_inflight > 1"),
+    (MODEL, "fn adapt_lower_bounds", "!congestion_event.end_of_round_trip", "false"),
+    (MODEL, "fn adapt_lower_bounds", "congestion_event.is_probing_for_bandwidth", "false"),
+    (MODEL, "fn adapt_lower_bounds", "self.bytes_lost_in_round > 0", "congestion_event.bytes_lost > 0"),
+    (MODEL, "fn adapt_lower_bounds", "Some(self.max_bandwidth())", "Some(self.bandwidth_latest)"),
+    (MODEL, "fn adapt_lower_bounds", "1.0 - params.beta", "params.beta"),
+    (MODEL, "fn adapt_lower_bounds", "= congestion_event.prior_cwnd", "= congestion_event.prior_bytes_in_flight"),
+    (MODEL, "let inflight_lo_new", "self.inflight_lo as f32 * (1.0 - params.beta)", "self.inflight_lo as f64 * (1.0 - params.beta) as f64"),
+    (MODEL, "let inflight_lo_new", "self.inflight_latest.max(inflight_lo_new)", "inflight_lo_new"),
+    (MODEL, "fn on_congestion_event_finish", "if congestion_event.end_of_round_trip", "if true"),
+    (MODEL, "fn maybe_expire_min_rtt", "event_time <", "event_time <="),
+    (MODEL, "fn is_inflight_too_high", "!send_state.is_valid", "false"),
+    (MODEL, "fn is_inflight_too_high", "in_round < max", "in_round <= max"),
+    (MODEL, "fn is_inflight_too_high", "inflight_at_send > 0 &&", ""),
+    (MODEL, "fn is_inflight_too_high", "inflight_at_send as f32", "inflight_at_send as f64 as f32 * 1.0000001"),
+    (MODEL, "fn is_inflight_too_high", "in_round > lost", "in_round >= lost"),
+    (MODEL, "fn restart_round_early", "self.rounds_with_queueing = 0;", ""),
+    (MODEL, "fn on_new_round", "self.loss_events_in_round = 0;", ""),
+    (MODEL, "fn on_new_round", "self.max_bytes_delivered_in_round = 0;", ""),
+    (MODEL, "fn on_new_round", "usize::MAX", "0"),
+    (MODEL, "fn on_new_round", "self.inflight_hi_limited_in_round = false;", ""),
+    (MODEL, "fn has_bandwidth_growth", "self.max_bandwidth() >=", "self.max_bandwidth() >"),
+    (MODEL, "fn has_bandwidth_growth", "self.rounds_without_bandwidth_growth = 0;", ""),
+    (MODEL, "fn has_bandwidth_growth", "self.ignore_app_limited_for_no_bandwidth_growth &&", ""),
+    (MODEL, "fn has_bandwidth_growth", "growth >= params", "growth > params"),
+    (MODEL, "fn has_bandwidth_growth", "&&\n            !congestion_event.last_packet_send_state.is_app_limited", ""),
+    (MODEL, "fn queueing_threshold_extra_bytes", "2 * DEFAULT_MSS", "3 * DEFAULT_MSS"),
+    (MODEL, "fn check_persistent_queue", ".max(", ".min("),
+    (MODEL, "fn check_persistent_queue", "< target", "<= target"),
+    (MODEL, "fn check_persistent_queue", "self.rounds_with_queueing = 0;", ""),
+    (MODEL, "fn check_persistent_queue", "queueing >= params", "queueing > params"),
+    (MODEL, "fn set_pacing_gain", "self.pacing_gain", "self.cwnd_gain"),
+    (MODEL, "fn inflight_hi_with_headroom", "params.inflight_hi_headroom", "params.loss_threshold"),
+    (MODEL, "fn inflight_hi_with_headroom", "self.inflight_hi.saturating_sub(headroom)", "headroom"),
+    (MODEL, "fn cap_inflight_lo", "self.inflight_lo != usize::MAX", "true"),
+    (MODEL, "fn cap_inflight_lo", "cap.min(self.inflight_lo)", "cap"),
+    (MODEL, "fn clear_bandwidth_lo", "self.bandwidth_lo = None", ""),
+    (MODEL, "fn postpone_min_rtt_timestamp", "self.min_rtt_timestamp().add(duration)", "self.min_rtt_timestamp()"),
+    (PROBE, "fn enter_probe_down", "= probed_too_high", "= stopped_risky_probe"),
+    (PROBE, "fn enter_probe_down", "cycle.start_time = now;", ""),
+    (PROBE, "fn enter_probe_down", "cycle.phase_start_time = now;", ""),
+    (PROBE, "fn enter_probe_down", "cycle.rounds_in_phase = 0;", ""),
+    (PROBE, "fn enter_probe_down", "cycle.rounds_since_probe = 0;", ""),
+    (PROBE, "fn enter_probe_down", "from_micros(500)", "from_nanos(500)"),
+    (PROBE, "fn enter_probe_down", "cycle.probe_up_bytes = None;", ""),
+    (PROBE, "fn enter_probe_down", "cycle.probe_up_app_limited_since_inflight_hi_limited = false;", ""),
+    (PROBE, "fn enter_probe_down", "cycle.has_advanced_max_bw = false;", ""),
+    (PROBE, "fn enter_probe_down", "self.model.restart_round_early();", ""),
+    (PROBE, "fn enter_probe_cruise", "== CyclePhase::Down", "!= CyclePhase::Down"),
+    (PROBE, "fn enter_probe_cruise", "self.model.inflight_hi()", "self.model.inflight_lo()"),
+    (PROBE, "fn enter_probe_cruise", "cycle.is_sample_from_probing = false;", ""),
+    (PROBE, "fn enter_probe_refill", "self.exit_probe_down();", ""),
+    (PROBE, "fn enter_probe_refill", "cycle.last_cycle_stopped_risky_probe = false;", ""),
+    (PROBE, "fn enter_probe_refill", "self.model.clear_inflight_lo();", ""),
+    (PROBE, "fn enter_probe_refill", "cycle.probe_up_rounds = probe_up_rounds;", ""),
+    (PROBE, "fn enter_probe_refill", "cycle.probe_up_acked = 0;", ""),
+    (PROBE, "fn enter_probe_up", "is_sample_from_probing = true", "is_sample_from_probing = false"),
+    (PROBE, "fn enter_probe_up", "self.raise_inflight_high_slope(cwnd);", ""),
+    (PROBE, "fn enter_probe_up", "self.model.restart_round_early();", ""),
+    (PROBE, "fn exit_probe_down", "if !self", "if self"),
+    (PROBE, "fn exit_probe_down", "self.cycle.has_advanced_max_bw = true;", ""),
+    (PROBE, "fn raise_inflight_high_slope", "1usize <<", "2usize <<"),
+    (PROBE, "fn raise_inflight_high_slope", ".min(30)", ".min(29)"),
+    (PROBE, "fn raise_inflight_high_slope", "cwnd /", "1 + cwnd /"),
+    (PROBE, "fn raise_inflight_high_slope", ".max(DEFAULT_MSS)", ".max(DEFAULT_MSS - 1)"),
+    (MODE, "impl Default for Cycle", "CyclePhase::NotStarted", "CyclePhase::Cruise"),
+    (MODE, "impl Default for Cycle", "probe_wait_time: None", "probe_wait_time: Some(Duration::ZERO)"),
+    (MODE, "impl Default for Cycle", "probe_up_rounds: 0", "probe_up_rounds: 1"),
+    (MODE, "impl Default for Cycle", "has_advanced_max_bw: false", "has_advanced_max_bw: true"),
+]
+
+
+def sources():
+    """The folder `recovery` of the original."""
+    given = os.environ.get("ORIGINAL", os.path.join(ROOT, "../shared/docs/src"))
+    for folder in (os.path.join(PACKAGE, given, "src"), os.path.join(PACKAGE, given, "quiche/src")):
+        if os.path.isdir(os.path.join(folder, "recovery")):
+            return os.path.join(folder, "recovery")
+    sys.exit("The original is not in %s: set ORIGINAL." % given)
+
+
+def changed(text, after, find, put):
+    if text.count(after) != 1:
+        sys.exit("%r occurs %d times" % (after, text.count(after)))
+    at = text.find(find, text.index(after) + len(after))
+    if at < 0:
+        sys.exit("%r isn't found after %r" % (find, after))
+    return text[:at] + put + text[at + len(find):]
+
+
+def build(original, target):
+    """The oracle with this original; the fast build, since it is built so often."""
+    environment = dict(os.environ, ORIGINAL=original, CARGO_TARGET_DIR=target)
+    command = ["cargo", "build", "--quiet", "--manifest-path", os.path.join(PACKAGE, "Cargo.toml")]
+    built = subprocess.run(command, env=environment, capture_output=True, text=True)
+    if built.returncode != 0:
+        sys.exit("It can't be built:\n" + built.stderr)
+    return os.path.join(target, "debug", "oracle")
+
+
+def compare(oracle, port, command, seed, calls):
+    """The end of the comparison, and the line that says what differed."""
+    ran = subprocess.run([oracle, command, seed, calls], env=dict(os.environ, PORT=port), capture_output=True, text=True)
+    lines = ran.stdout.splitlines()
+    return ran.returncode, lines[0] if ran.returncode == 1 and lines else ran.stderr.strip()
+
+
+def main():
+    seed, calls = (sys.argv[1:] + ["1", "200000"][len(sys.argv) - 1:])[:2]
+    missed = []
+    with tempfile.TemporaryDirectory() as folder:
+        original = os.path.join(folder, "original")
+        recovery = os.path.join(original, "src", "recovery")
+        shutil.copytree(sources(), recovery)
+        target = os.path.join(folder, "target")
+        oracle = build(original, target)
+        port = os.environ.get("PORT")
+        if not port:
+            unchanged = shutil.copy(oracle, os.path.join(folder, "unchanged"))
+            port = unchanged + " serve"
+        for command in ("diff", "filter"):
+            code, said = compare(oracle, port, command, seed, calls)
+            if code != 0:
+                sys.exit("The unchanged original and the port differ in %s: %s" % (command, said))
+
+        for number, (file, after, find, put) in enumerate(CHANGES, 1):
+            path = os.path.join(recovery, file)
+            with open(path) as opened:
+                text = opened.read()
+            with open(path, "w") as opened:
+                opened.write(changed(text, after, find, put))
+            code, said = compare(build(original, target), port, "filter" if file == FILTER else "diff", seed, calls)
+            with open(path, "w") as opened:
+                opened.write(text)
+            what = "%d. %s, %s: %r to %r" % (number, os.path.basename(file), after, find, put)
+            print("%s\n   %s" % (what, "NOT NOTICED" if code == 0 else said), flush=True)
+            if code != 1:
+                missed.append(what)
+
+    print("%d changes, %d noticed" % (len(CHANGES), len(CHANGES) - len(missed)))
+    for what in missed:
+        print("not noticed: " + what)
+    sys.exit(1 if missed else 0)
+
+
+main()
