@@ -6,7 +6,7 @@ use lib.Dec.{leb, eqb}
 use Rattle.filters.specs.declared.time.Duration.{Duration}
 use Rattle.filters.specs.declared.time.Moment.{Moment}
 use Rattle.model.specs.declared.network_model.NetworkModel.{NetworkModel}
-use Rattle.model.specs.Answers.{settled}
+use Rattle.model.specs.Answers.{settled, noMoment}
 use Rattle.model.specs.Calls.{startNumber, startModel}
 use Rattle.events.specs.Event.{eventNumber, modelNext, recordNext}
 use Rattle.phases.specs.declared.cycle.Cycle.{Cycle}
@@ -36,13 +36,14 @@ isAsked call = leb 10 call && leb call 13 || leb 23 call && leb call 38
 abbrev pub noRecord : List ℕ
 noRecord = 0 ∷ 0 ∷ 0 ∷ 0 ∷ 0 ∷ 0 ∷ 0 ∷ 0 ∷ 0 ∷ 0 ∷ 0 ∷ 0 ∷ 0 ∷ 0 ∷ 0 ∷ 0 ∷ []
 
--- a start, at word 1's moment, with word 2's round trip; it makes a fresh cycle too
+-- a start, at word 1's moment, with word 2's round trip. It makes a fresh cycle too; where it is refused, both are at moment 0
 unfoldable pub startTurn : List ℕ → Turn
 startTurn w =
     let p = paramsOf w in
     let now : Moment = record { 0 = word w 1 } in
     let rtt : Duration = record { 0 = word w 2 } in
-    record { model = startModel p rtt now; cycle = freshCycle now; reply = startNumber p rtt now; value = 0; event = noRecord }
+    let n = startNumber p rtt now in
+    record { model = startModel p rtt now; cycle = freshCycle (settled n now noMoment); reply = n; value = 0; event = noRecord }
 
 unfoldable pub eventTurn : List ℕ → NetworkModel → Cycle → Turn
 eventTurn w m y =

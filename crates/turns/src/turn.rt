@@ -1,7 +1,7 @@
 // One call on a model and a cycle, from the 49 words of its record.
 ghost use mathlib.Core.Path.{_≡_};
 ghost use Rattle.filters.specs.Reply.{number};
-ghost use Rattle.model.specs.Answers.{settled};
+ghost use Rattle.model.specs.Answers.{settled, noMoment};
 ghost use Rattle.events.specs.Event.{eventNumber, modelNext, recordNext};
 ghost use Rattle.encoding.specs.Params.{paramsOf};
 ghost use Rattle.encoding.specs.Record.{recordOf};
@@ -22,6 +22,7 @@ use encoding::word::float_of;
 use events::event::Event;
 use filters::Duration;
 use filters::Moment;
+use filters::Reply;
 use model::NetworkModel;
 use phases::Cycle;
 
@@ -89,9 +90,9 @@ fn started(n: &[u64; 49]) -> Turn
 {
     let now = Moment(n[1]);
     let begun = NetworkModel::new(params_of(n), Duration(n[2]), now);
-    let fresh = Cycle::new(now);
     let reply = begun.reply;
     let model = begun.model;
+    let fresh = Cycle::new(moment_of(reply, now));
     let cycle = fresh.cycle;
     Turn {
         model,
@@ -100,6 +101,13 @@ fn started(n: &[u64; 49]) -> Turn
         value: 0,
         event: no_record(),
     }
+}
+
+// The moment of a start, 0 where it is refused.
+fn moment_of(reply: Reply, now: Moment) -> Moment
+    ensures { λ r. ⌜ r ≡ settled (number reply) now noMoment ⌝ }
+{
+    if reply.is_done() { now } else { Moment(0) }
 }
 
 // ---- call 3
