@@ -185,10 +185,12 @@ def build(original, target):
 
 
 def compare(oracle, port, command, seed, calls):
-    """The end of the comparison, and the line that says what differed."""
+    """The end of the comparison, and what it said: after how many calls something differed, and what."""
     ran = subprocess.run([oracle, command, seed, calls], env=dict(os.environ, PORT=port), capture_output=True, text=True)
     lines = ran.stdout.splitlines()
-    return ran.returncode, lines[0] if ran.returncode == 1 and lines else ran.stderr.strip()
+    if ran.returncode == 1 and lines:
+        return 1, "%s: %s" % (lines[-1], lines[0])
+    return ran.returncode, ran.stderr.strip()
 
 
 def main():

@@ -214,6 +214,9 @@ fn conclude(comparison: Comparison, difference: Option<Difference>) -> bool {
         return true;
     };
     tell(&difference);
+    if let (Some(call), What::Word { .. }) = (difference.run.last(), &difference.what) {
+        println!("In the call: {}", text::line(call));
+    }
     let shortest = shortest(comparison.port, difference, comparison.begins);
     println!("The shortest run of calls found that shows a difference:");
     for step in &shortest.run {
