@@ -7,7 +7,8 @@ use borrow.Fn.Kinds.{Dens, resT, endedOf}
 use Rattle.numbers.proofs.OneReply.{OneReply}
 use Rattle.exports.proofs.conversions as conversions
 use Rattle.exports.proofs.slope.guovssalu_raise_inflight_high_slope as slope
-use Rattle.exports.proofs.filter_run.guovssalu_filter_run as run
+use Rattle.exports.proofs.filter_run.guovssalu_filter_run as filter
+use Rattle.exports.proofs.model_run.guovssalu_run as run
 
 pub one-u64-to-f32 : OneReply conversions.guovssalu_u64_to_f32.Reads.Learnt
 one-u64-to-f32 κ a x y s t p q = p ∙ sym q
@@ -36,6 +37,11 @@ pub one-raise-inflight-high-slope :
 one-raise-inflight-high-slope κ a x y s t p q = (p .0 ∙ sym (q .0), p .1 ∙ sym (q .1))
 
 pub one-filter-run :
-    (κ : Lfts 2) (a : Dens κ run.Kinds.ps) (x y : resT run.Kinds.r κ .Denot) (s t : AtExit (endedOf 2 run.Kinds.ps run.Kinds.r) κ) →
-    run.Reads.Learnt κ a x s → run.Reads.Learnt κ a y t → (x ≡ y) × (now (s .1 .1 .0) ≡ now (t .1 .1 .0))
+    (κ : Lfts 2) (a : Dens κ filter.Kinds.ps) (x y : resT filter.Kinds.r κ .Denot) (s t : AtExit (endedOf 2 filter.Kinds.ps filter.Kinds.r) κ) →
+    filter.Reads.Learnt κ a x s → filter.Reads.Learnt κ a y t → (x ≡ y) × (now (s .1 .1 .0) ≡ now (t .1 .1 .0))
 one-filter-run κ a x y s t p q = (p .0 ∙ sym (q .0), p .1 ∙ sym (q .1))
+
+pub one-run :
+    (κ : Lfts 3) (a : Dens κ run.Kinds.ps) (x y : resT run.Kinds.r κ .Denot) (s t : AtExit (endedOf 3 run.Kinds.ps run.Kinds.r) κ) →
+    run.Reads.Learnt κ a x s → run.Reads.Learnt κ a y t → (x ≡ y) × ((now (s .0) ≡ now (t .0)) × (now (s .1 .1 .0) ≡ now (t .1 .1 .0)))
+one-run κ a x y s t p q = (p .0 ∙ sym (q .0), (p .1 .0 ∙ sym (q .1 .0), p .1 .1 ∙ sym (q .1 .1)))

@@ -2,4 +2,5 @@
 pub mod Determined
 pub mod Examples
 pub mod Rows
+pub mod ModelRun
 pub mod Run

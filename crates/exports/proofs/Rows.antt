@@ -3,7 +3,7 @@ use Prim.Native.Nat.{ℕ}
 use mathlib.Core.Bool.{Bool, true, false, not, cond, _&&_, true≢false}
 use mathlib.Core.List.{List}
 use mathlib.Core.Path.{_≡_, refl, sym, ap, _∙_}
-use borrow.Author.Tests.{not-true, not-false}
+use borrow.Author.Tests.{not-true, not-false, eqb-true}
 use lib.Dec.{eqb}
 use lib.Seq.{sets}
 use Rattle.words.specs.Words.{allBytes}
@@ -18,6 +18,15 @@ done-room row true h = absurd (go (eqb row 0) refl h)
     go : (t : Bool) → eqb row 0 ≡ t → eqb (cond (t && true) 7 row) 0 ≡ true → ⊥
     go true e g = true≢false (sym g)
     go false e g = true≢false (sym g ∙ e)
+
+-- and no lower row holds
+pub done-first : (row : ℕ) (short : Bool) → eqb (orShort row short) 0 ≡ true → row ≡ 0
+unfolding orShort
+done-first row short h = eqb-true row 0 (go (eqb row 0) refl h)
+  where
+    go : (t : Bool) → eqb row 0 ≡ t → eqb (cond (t && short) 7 row) 0 ≡ true → eqb row 0 ≡ true
+    go true e g = e
+    go false e g = g
 
 -- a reply's number n, by its row, and whether it is done
 module _ {row n : ℕ} {done : Bool} (is : n ≡ row) (test : done ≡ eqb n 0) where

@@ -2,5 +2,6 @@
 pub mod Conversions
 pub mod Examples
 pub mod FilterRun
+pub mod ModelRun
 pub mod Reply
 pub mod Slope

@@ -1,0 +1,120 @@
+-- One turn of each pass of the model's run, over plain variables: what is still to be done leads to the same end. Assumes nothing.
+use Prim.Native.Nat.{ℕ, zero, suc, _+_, _-_, _*_, _≤_, _<_}
+use mathlib.Core.Bool.{Bool, true, false, not, cond}
+use mathlib.Core.List.{List, _++_}
+use mathlib.Core.Path.{_≡_, refl, sym, ap, _∙_}
+use native.Mathlib.Omega.{arith}
+use lib.Dec.{eqb, ltb, leb}
+use lib.ListN.{length, getD}
+use lib.Seq.{sets}
+use borrow.Author.Tests.{ltb-false, eqb-true, not-false}
+use Rattle.model.specs.declared.network_model.NetworkModel.{NetworkModel}
+use Rattle.model.proofs.Rows.{none, or-left}
+use Rattle.phases.specs.declared.cycle.Cycle.{Cycle}
+use Rattle.words.specs.Words.{word, wordsAt, allBytes}
+use Rattle.words.proofs.Stores.{sets-append}
+use Rattle.words.proofs.Laws.{allBytes-append, length-allBytes}
+use Rattle.encoding.specs.NetworkModel.{modelOf}
+use Rattle.encoding.specs.Cycle.{cycleOf}
+use Rattle.encoding.specs.RoundTrip.{RoundTrip}
+use Rattle.encoding.proofs.RoundTrip.{round-trip}
+use Rattle.turns.specs.declared.turn.Turn.{Turn}
+use Rattle.turns.specs.Turn.{isCall, isJudged, isAsked, startTurn, eventTurn, judgeTurn, askTurn, enterTurn, changeTurn, turnOf}
+use Rattle.exports.specs.ModelRun.{same, stateIn, callsIn, hasUnknown, turnAt, answerWords, answersTo, leftBy, wordsLeft, modelRow}
+use Rattle.exports.proofs.Rows.{done-room, done-first}
+
+-- ---- two states, word by word
+module _ (a b : List ℕ) (i : ℕ) (h : i < 50) where
+  left-of-50 : 50 - i ≡ suc (50 - (i + 1))
+  left-of-50 = omega arith
+
+  pub differ-now : {end : Bool} → eqb (getD a i 0) (getD b i 0) ≡ false → same a b i (50 - i) ≡ end → false ≡ end
+  unfolding same
+  differ-now d e = rw d at (rw left-of-50 at e)
+
+  pub differ-later : {end : Bool} → eqb (getD a i 0) (getD b i 0) ≡ true → same a b i (50 - i) ≡ end → same a b (i + 1) (50 - (i + 1)) ≡ end
+  unfolding same
+  differ-later d e = rw d at (rw left-of-50 at e)
+
+-- ---- lengths
+either : (b : Bool) (s t : Turn) → length (s .event) ≡ 16 → length (t .event) ≡ 16 → length (cond b s t .event) ≡ 16
+either true s t p q = p
+either false s t p q = q
+
+pub length-event : (m : NetworkModel) (y : Cycle) (src : List ℕ) (at : ℕ) → length (turnAt m y src at .event) ≡ 16
+unfolding turnAt turnOf startTurn eventTurn judgeTurn askTurn enterTurn changeTurn
+length-event m y src at =
+    let w = wordsAt src at 49 in
+    let call = getD w 0 0 in
+    let others = cond (leb 40 call) (enterTurn w m y) (changeTurn w m y) in
+    let asks = cond (isAsked call) (askTurn w m y) others in
+    let judges = cond (isJudged call) (judgeTurn w m y) asks in
+    let occurs = cond (eqb call 3) (eventTurn w m y) judges in
+    either (eqb call 0) (startTurn w) occurs refl
+    (either (eqb call 3) (eventTurn w m y) judges (round-trip .recordLength _)
+    (either (isJudged call) (judgeTurn w m y) asks refl
+    (either (isAsked call) (askTurn w m y) others refl
+    (either (leb 40 call) (enterTurn w m y) (changeTurn w m y) refl refl))))
+
+length-left : (m : NetworkModel) (y : Cycle) (src : List ℕ) (at n : ℕ) → length (leftBy m y src at n) ≡ 50
+unfolding leftBy
+length-left m y src at zero = round-trip .stateLength m y
+length-left m y src at (suc n) = length-left (turnAt m y src at .model) (turnAt m y src at .cycle) src (at + 392) n
+
+pub length-words-left : (state src : List ℕ) → length (wordsLeft state src) ≡ 50
+unfolding wordsLeft
+length-words-left state src = length-left (modelOf (stateIn state)) (cycleOf (stateIn state)) src 0 (callsIn src)
+
+length-answer : (m : NetworkModel) (y : Cycle) (src : List ℕ) (at : ℕ) → length (allBytes (answerWords (turnAt m y src at))) ≡ 144
+unfolding answerWords
+length-answer m y src at = length-allBytes (answerWords (turnAt m y src at)) ∙ rw (length-event m y src at)
+
+-- ---- calls
+module _ (src : List ℕ) (i count : ℕ) (h : i < count) where
+  left : count - i ≡ suc (count - (i + 1))
+  left = omega arith
+
+  next : 392 * (i + 1) ≡ 392 * i + 392
+  next = omega arith
+
+  -- a number that is no call's
+  pub unknown-now : {end : Bool} → isCall (word src (392 * i)) ≡ false → hasUnknown src (392 * i) (count - i) ≡ end → true ≡ end
+  unfolding hasUnknown
+  unknown-now d e = rw d at (rw left at e)
+
+  -- one that is
+  pub unknown-later :
+      {end : Bool} → isCall (word src (392 * i)) ≡ true → hasUnknown src (392 * i) (count - i) ≡ end →
+      hasUnknown src (392 * (i + 1)) (count - (i + 1)) ≡ end
+  unfolding hasUnknown
+  unknown-later d e = rw next (rw d at (rw left at e))
+
+  -- a call, carried out
+  pub left-later :
+      (m : NetworkModel) (y : Cycle) {end : List ℕ} → leftBy m y src (392 * i) (count - i) ≡ end →
+      leftBy (turnAt m y src (392 * i) .model) (turnAt m y src (392 * i) .cycle) src (392 * (i + 1)) (count - (i + 1)) ≡ end
+  unfolding leftBy
+  left-later m y e = rw next (rw left at e)
+
+  -- its answer, written
+  pub write-answer :
+      (m : NetworkModel) (y : Cycle) (l : List ℕ) {end : List ℕ} → sets l (144 * i) (allBytes (answersTo m y src (392 * i) (count - i))) ≡ end →
+      sets (sets l (144 * i) (allBytes (answerWords (turnAt m y src (392 * i))))) (144 * (i + 1)) (allBytes (answersTo (turnAt m y src (392 * i) .model) (turnAt m y src (392 * i) .cycle) src (392 * (i + 1)) (count - (i + 1)))) ≡ end
+  unfolding answersTo
+  write-answer m y l e =
+      let t = turnAt m y src (392 * i) in
+      let answer = allBytes (answerWords t) in
+      let more = answersTo (t .model) (t .cycle) src (392 * i + 392) (count - (i + 1)) in
+      let step : 144 * (i + 1) ≡ 144 * i + length answer = rw (length-answer m y src (392 * i)) (omega arith) in
+      rw (next, step) (sets-append l (144 * i) answer (allBytes more) ∙ ap (sets l (144 * i)) (sym (allBytes-append (answerWords t) more)) ∙ rw left at e)
+
+-- ---- what a run that is done has been lent
+pub run-room : (state src : List ℕ) (room : ℕ) → eqb (modelRow state src room) 0 ≡ true → 144 * callsIn src ≤ room
+unfolding modelRow
+run-room state src room h = ltb-false room (144 * callsIn src) (done-room _ (ltb room (144 * callsIn src)) h)
+
+pub run-whole : (state src : List ℕ) (room : ℕ) → eqb (modelRow state src room) 0 ≡ true → length state ≡ 400
+unfolding modelRow
+run-whole state src room h =
+    let fine = none _ _ _ _ _ (done-first _ (ltb room (144 * callsIn src)) h) .argument-fine in
+    eqb-true (length state) 400 (not-false (eqb (length state) 400) (or-left (not (eqb (length state) 400)) _ fine))

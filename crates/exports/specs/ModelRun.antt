@@ -1,0 +1,82 @@
+-- The exported run of the model: calls, carried out in order on a state in lent bytes (docs/LAYOUT.md).
+use Prim.Native.Nat.{ℕ, zero, suc, _+_, _*_, _/_, _%_}
+use mathlib.Core.Bool.{Bool, true, false, not, _&&_, _||_}
+use mathlib.Core.List.{List, [], _∷_, _++_}
+use lib.Dec.{ltb, eqb}
+use lib.ListN.{length, getD}
+use Rattle.model.specs.declared.network_model.NetworkModel.{NetworkModel}
+use Rattle.model.specs.Bounds.{rowOf}
+use Rattle.phases.specs.declared.cycle.Cycle.{Cycle}
+use Rattle.words.specs.Words.{word, wordsAt}
+use Rattle.encoding.specs.NetworkModel.{modelOf, modelWords}
+use Rattle.encoding.specs.Cycle.{cycleOf, cycleWords}
+use Rattle.turns.specs.declared.turn.Turn.{Turn}
+use Rattle.turns.specs.Turn.{isCall, turnOf}
+use Rattle.exports.specs.Reply.{orShort, answered}
+
+-- a state has 50 words, 400 bytes
+abbrev pub stateIn : List ℕ → List ℕ
+stateIn s = wordsAt s 0 50
+
+-- the words of a model and a cycle
+abbrev pub stateWords : NetworkModel → Cycle → List ℕ
+stateWords m y = modelWords m ++ cycleWords y
+
+-- whether the n words from an index on are the same
+unfoldable pub same : List ℕ → List ℕ → ℕ → ℕ → Bool
+same a b at zero = true
+same a b at (suc n) = eqb (getD a at 0) (getD b at 0) && same a b (at + 1) n
+
+-- words encode a state where what is read from them is written as they are
+unfoldable pub isState : List ℕ → Bool
+isState w = same (stateWords (modelOf w) (cycleOf w)) w 0 50
+
+-- "Bytes that encode no state are refusal 1": as many as a state has
+unfoldable pub encodesNone : List ℕ → Bool
+encodesNone s = eqb (length s) 400 && not (isState (stateIn s))
+
+-- how many calls there are: a call has 49 words, 392 bytes
+abbrev pub callsIn : List ℕ → ℕ
+callsIn src = length src / 392
+
+-- "unknown calls": one of the n calls from an index on
+unfoldable pub hasUnknown : List ℕ → ℕ → ℕ → Bool
+hasUnknown src at zero = false
+hasUnknown src at (suc n) = not (isCall (word src at)) || hasUnknown src (at + 392) n
+
+-- the call at an index, carried out
+unfoldable pub turnAt : NetworkModel → Cycle → List ℕ → ℕ → Turn
+turnAt m y src at = turnOf (wordsAt src at 49) m y
+
+-- "each answer has the refusal, the number or flag, and the event's record where there is one": 18 words, 144 bytes
+unfoldable pub answerWords : Turn → List ℕ
+answerWords t = t .reply ∷ t .value ∷ t .event
+
+-- the answers to the n calls from an index on, each carried out in the state that the one before it left: "A call refused inside a run is answered with its number and the run goes on"
+unfoldable pub answersTo : NetworkModel → Cycle → List ℕ → ℕ → ℕ → List ℕ
+answersTo m y src at zero = []
+answersTo m y src at (suc n) = let t = turnAt m y src at in answerWords t ++ answersTo (t .model) (t .cycle) src (at + 392) n
+
+-- the words of the state that they leave
+unfoldable pub leftBy : NetworkModel → Cycle → List ℕ → ℕ → ℕ → List ℕ
+leftBy m y src at zero = stateWords m y
+leftBy m y src at (suc n) = let t = turnAt m y src at in leftBy (t .model) (t .cycle) src (at + 392) n
+
+-- all of them, from a state in bytes
+unfoldable pub answersFrom : (state src : List ℕ) → List ℕ
+answersFrom state src = answersTo (modelOf (stateIn state)) (cycleOf (stateIn state)) src 0 (callsIn src)
+
+unfoldable pub wordsLeft : (state src : List ℕ) → List ℕ
+wordsLeft state src = leftBy (modelOf (stateIn state)) (cycleOf (stateIn state)) src 0 (callsIn src)
+
+-- "Bytes that encode no state are refusal 1, wrong lengths or unknown calls 2, a short output 7, nothing written"
+unfoldable pub modelRow : (state src : List ℕ) (room : ℕ) → ℕ
+modelRow state src room =
+    orShort (rowOf (encodesNone state) (not (eqb (length state) 400) || (not (eqb (length src % 392) 0) || hasUnknown src 0 (callsIn src))) false false false) (ltb room (144 * callsIn src))
+
+unfoldable pub answersOut : (state src out : List ℕ) → List ℕ
+answersOut state src out = answered (modelRow state src (length out)) (answersFrom state src) out
+
+-- "leaves the new state in the state's bytes"
+unfoldable pub stateOut : (state src out : List ℕ) → List ℕ
+stateOut state src out = answered (modelRow state src (length out)) (wordsLeft state src) state

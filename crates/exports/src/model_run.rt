@@ -1,0 +1,156 @@
+// The model, run over call records on a state in lent bytes (docs/LAYOUT.md).
+ghost use mathlib.Core.Path.{_≡_};
+ghost use Prim.Native.Nat.{_+_, _*_, _≤_};
+ghost use lib.ListN.{length};
+ghost use lib.Seq.{sets};
+ghost use Rattle.filters.specs.Reply.{number};
+ghost use Rattle.words.specs.Words.{allBytes};
+ghost use Rattle.exports.specs.ModelRun.{same, stateIn, isState, encodesNone, callsIn, hasUnknown, turnAt, answerWords, answersTo, leftBy, answersFrom, wordsLeft, modelRow, stateOut, answersOut};
+use crate::reply::or_short;
+use encoding::cycle::cycle_of;
+use encoding::network_model::model_of;
+use encoding::state::state_words;
+use filters::Reply;
+use model::NetworkModel;
+use model::bounds::refusal;
+use phases::Cycle;
+use turns::turn::Turn;
+use turns::turn::carry_out;
+use turns::turn::is_call;
+use words::get_word;
+use words::get_words;
+use words::put_words;
+
+// Carries out the calls in order, answers each and leaves the new state: 1 for bytes that encode no
+// state, 2 for a length that is none of a state's or of whole calls, and for an unknown call, 7 for
+// answers under 144 bytes a call.
+#[no_mangle]
+pub extern "C" fn guovssalu_run(state: &mut [u8], calls: &[u8], answers: &mut [u8]) -> u64
+    ensures { λ r. ⌜ r ≡ modelRow (now (state .entry)) (now (calls .entry)) (length (now (answers .entry))) ⌝ }
+    ensures { λ _. ⌜ now (state .exit) ≡ stateOut (now (state .entry)) (now (calls .entry)) (now (answers .entry)) ⌝ }
+    ensures { λ _. ⌜ now (answers .exit) ≡ answersOut (now (state .entry)) (now (calls .entry)) (now (answers .entry)) ⌝ }
+{
+    let reply = model_reply(state, calls, answers.len());
+    if !reply.is_done() {
+        return reply.row();
+    }
+    let left = run_calls(state, calls, answers);
+    put_words(state, 0, &left);
+    reply.row()
+}
+
+fn model_reply(state: &[u8], calls: &[u8], room: usize) -> Reply
+    ensures { λ r. ⌜ number r ≡ modelRow (now (state .entry)) (now (calls .entry)) room ⌝ }
+{
+    let uneven = (state.len() != 400) | ((calls.len() % 392 != 0) | has_unknown(calls));
+    let reply = refusal(encodes_none(state), uneven, false, false, false);
+    or_short(reply, room < 144 * (calls.len() / 392))
+}
+
+// Whether bytes as many as a state has encode none.
+fn encodes_none(state: &[u8]) -> bool
+    ensures { λ r. ⌜ r ≡ encodesNone (now (state .entry)) ⌝ }
+{
+    if state.len() != 400 {
+        return false;
+    }
+    let words = state_in(state);
+    !is_state(&words)
+}
+
+// The words of a state.
+fn state_in(state: &[u8]) -> [u64; 50]
+    requires { ⌜ length (now state) ≡ 400 ⌝ }
+    ensures { λ r. ⌜ r ≡ stateIn (now (state .entry)) ⌝ }
+{
+    let mut words = [0u64; 50];
+    get_words(state, 0, &mut words);
+    words
+}
+
+// Whether the state that the words are read as is written in the same words.
+fn is_state(words: &[u64; 50]) -> bool
+    ensures { λ r. ⌜ r ≡ isState (now (words .entry)) ⌝ }
+{
+    let again = state_words(model_of(words), cycle_of(words));
+    are_same(&again, words)
+}
+
+fn are_same(a: &[u64; 50], b: &[u64; 50]) -> bool
+    ensures { λ r. ⌜ r ≡ same (now (a .entry)) (now (b .entry)) 0 50 ⌝ }
+{
+    let mut i = 0;
+    while i < 50 {
+        if a[i] != b[i] {
+            return false;
+        }
+        i += 1;
+    }
+    true
+}
+
+// Whether a number is no call's.
+fn has_unknown(calls: &[u8]) -> bool
+    ensures { λ r. ⌜ r ≡ hasUnknown (now (calls .entry)) 0 (callsIn (now (calls .entry))) ⌝ }
+{
+    let count = calls.len() / 392;
+    let mut i = 0;
+    while i < count {
+        let call = get_word(calls, 392 * i);
+        if !is_call(call) {
+            return true;
+        }
+        i += 1;
+    }
+    false
+}
+
+// Carries out the calls from a state, writes their answers, and gives the words of the state that they leave.
+fn run_calls(state: &[u8], calls: &[u8], answers: &mut [u8]) -> [u64; 50]
+    requires { ⌜ (length (now state) ≡ 400) × (144 * callsIn (now calls) ≤ length (now answers)) ⌝ }
+    ensures { λ r. ⌜ r ≡ wordsLeft (now (state .entry)) (now (calls .entry)) ⌝ }
+    ensures { λ _. ⌜ now (answers .exit) ≡ sets (now (answers .entry)) 0 (allBytes (answersFrom (now (state .entry)) (now (calls .entry)))) ⌝ }
+{
+    let words = state_in(state);
+    run_from(model_of(&words), cycle_of(&words), calls, answers)
+}
+
+// The same, from a model and a cycle.
+fn run_from(model: NetworkModel, cycle: Cycle, calls: &[u8], answers: &mut [u8]) -> [u64; 50]
+    requires { ⌜ 144 * callsIn (now calls) ≤ length (now answers) ⌝ }
+    ensures { λ r. ⌜ r ≡ leftBy model cycle (now (calls .entry)) 0 (callsIn (now (calls .entry))) ⌝ }
+    ensures { λ _. ⌜ now (answers .exit) ≡ sets (now (answers .entry)) 0 (allBytes (answersTo model cycle (now (calls .entry)) 0 (callsIn (now (calls .entry))))) ⌝ }
+{
+    let count = calls.len() / 392;
+    let mut m = model;
+    let mut y = cycle;
+    let mut i = 0;
+    while i < count {
+        let turn = turn_at(m, y, calls, 392 * i);
+        put_answer(answers, 144 * i, turn);
+        m = turn.model;
+        y = turn.cycle;
+        i += 1;
+    }
+    state_words(m, y)
+}
+
+// The call at an index, carried out.
+fn turn_at(model: NetworkModel, cycle: Cycle, calls: &[u8], at: usize) -> Turn
+    requires { ⌜ at + 392 ≤ length (now calls) ⌝ }
+    ensures { λ r. ⌜ r ≡ turnAt model cycle (now (calls .entry)) at ⌝ }
+{
+    let mut call = [0u64; 49];
+    get_words(calls, at, &mut call);
+    carry_out(model, cycle, &call)
+}
+
+// Writes a call's answer at an index.
+fn put_answer(answers: &mut [u8], at: usize, turn: Turn)
+    requires { ⌜ (at + 144 ≤ length (now answers)) × (length (turn .event) ≡ 16) ⌝ }
+    ensures { λ _. ⌜ now (answers .exit) ≡ sets (now (answers .entry)) at (allBytes (answerWords turn)) ⌝ }
+{
+    put_words(answers, at, &[turn.reply, turn.value]);
+    let event = turn.event;
+    put_words(answers, at + 16, &event);
+}
