@@ -20,7 +20,7 @@ use Rattle.encoding.specs.RoundTrip.{RoundTrip}
 use Rattle.encoding.proofs.RoundTrip.{round-trip}
 use Rattle.turns.specs.declared.turn.Turn.{Turn}
 use Rattle.turns.specs.Turn.{isCall, isJudged, isAsked, startTurn, eventTurn, judgeTurn, askTurn, enterTurn, changeTurn, turnOf}
-use Rattle.exports.specs.ModelRun.{same, stateIn, callsIn, hasUnknown, turnAt, answerWords, answersTo, leftBy, wordsLeft, modelRow}
+use Rattle.exports.specs.ModelRun.{sameWords, stateIn, callsIn, hasUnknown, turnAt, answerWords, answersTo, leftBy, wordsLeft, modelRow}
 use Rattle.exports.proofs.Rows.{done-room, done-first}
 
 -- ---- two states, word by word
@@ -28,12 +28,12 @@ module _ (a b : List ℕ) (i : ℕ) (h : i < 50) where
   left-of-50 : 50 - i ≡ suc (50 - (i + 1))
   left-of-50 = omega arith
 
-  pub differ-now : {end : Bool} → eqb (getD a i 0) (getD b i 0) ≡ false → same a b i (50 - i) ≡ end → false ≡ end
-  unfolding same
+  pub differ-now : {end : Bool} → eqb (getD a i 0) (getD b i 0) ≡ false → sameWords a b i (50 - i) ≡ end → false ≡ end
+  unfolding sameWords
   differ-now d e = rw d at (rw left-of-50 at e)
 
-  pub differ-later : {end : Bool} → eqb (getD a i 0) (getD b i 0) ≡ true → same a b i (50 - i) ≡ end → same a b (i + 1) (50 - (i + 1)) ≡ end
-  unfolding same
+  pub differ-later : {end : Bool} → eqb (getD a i 0) (getD b i 0) ≡ true → sameWords a b i (50 - i) ≡ end → sameWords a b (i + 1) (50 - (i + 1)) ≡ end
+  unfolding sameWords
   differ-later d e = rw d at (rw left-of-50 at e)
 
 -- ---- lengths

@@ -1,11 +1,12 @@
 -- Worked calls: what the definitions say of a few inputs. The slope's are document 01's example 11; the run's first two pairs are those of example 9.
-use Prim.Native.Nat.{ℕ}
+use Prim.Native.Nat.{ℕ, _+_}
 use mathlib.Core.Bool.{Bool, true, false, _&&_}
 use mathlib.Core.List.{List, [], _∷_, _++_}
 use lib.Dec.{eqb}
-use lib.ListN.{take, replicate}
+use lib.ListN.{take, drop, replicate}
 use Rattle.words.specs.Words.{allBytes}
 use Rattle.exports.specs.FilterRun.{runRow, runOut}
+use Rattle.exports.specs.ModelRun.{modelRow, stateOut, answersOut}
 use Rattle.exports.specs.Slope.{slopeRow, slopeOut}
 
 abbrev pub same : List ℕ → List ℕ → Bool
@@ -31,6 +32,20 @@ falling = allBytes (0 ∷ 5 ∷ 2 ∷ 1 ∷ 1 ∷ 1 ∷ [])
 
 abbrev pub refused : List ℕ
 refused = allBytes (3 ∷ 5 ∷ 2 ∷ 5 ∷ [])
+
+-- a state of zeros, in which every call is refused; the same with one word that encodes nothing
+abbrev pub zeros : ℕ → List ℕ
+zeros n = replicate n 0
+
+abbrev pub with : List ℕ → ℕ → ℕ → List ℕ
+with words i x = take i words ++ (x ∷ drop (i + 1) words)
+
+abbrev pub states : ℕ → ℕ → List ℕ
+states i x = allBytes (with (zeros 50) i x)
+
+-- one call of no arguments, by its number
+abbrev pub call : ℕ → List ℕ
+call number = allBytes (number ∷ zeros 48)
 
 unfoldable pub exportExamples : List Bool
 exportExamples =
@@ -58,4 +73,31 @@ exportExamples =
     ∷ eqb (slopeRow 30 1_099_511_627_777 0) 2
     ∷ eqb (slopeRow 30 26_000 15) 7
     ∷ same (slopeOut 31 26_000 (room 17)) (room 17)
+    -- no call: done, and the state written as it was
+    ∷ eqb (modelRow (zeros 400) [] 0) 0
+    ∷ same (stateOut (zeros 400) [] []) (zeros 400)
+    -- a flag of 2, a number that is unset, a float of 33 bits, a phase past the last; and those that are states
+    ∷ eqb (modelRow (states 12 2) [] 0) 1
+    ∷ eqb (modelRow (states 12 1) [] 0) 0
+    ∷ eqb (modelRow (states 3 7) [] 0) 1
+    ∷ eqb (modelRow (states 19 4_294_967_296) [] 0) 1
+    ∷ eqb (modelRow (states 19 2_143_289_345) [] 0) 1
+    ∷ eqb (modelRow (states 19 2_143_289_344) [] 0) 0
+    ∷ eqb (modelRow (states 34 5) [] 0) 1
+    ∷ eqb (modelRow (states 34 4) [] 0) 0
+    -- lengths that are wrong, unknown calls, and rows that overlap
+    ∷ eqb (modelRow (zeros 399) [] 0) 2
+    ∷ eqb (modelRow (zeros 401) [] 0) 2
+    ∷ eqb (modelRow (zeros 400) (take 391 (call 12)) 144) 2
+    ∷ eqb (modelRow (zeros 400) (call 2) 144) 2
+    ∷ eqb (modelRow (zeros 400) (call 39) 144) 2
+    ∷ eqb (modelRow (zeros 400) (call 46) 144) 2
+    ∷ eqb (modelRow (zeros 400) (call 12 ++ call 46) 0) 2
+    ∷ eqb (modelRow (states 12 2) (call 46) 0) 1
+    -- a byte is missing for an answer: nothing is written
+    ∷ eqb (modelRow (zeros 400) (call 45 ++ call 12) 288) 0
+    ∷ eqb (modelRow (zeros 400) (call 45 ++ call 12) 287) 7
+    ∷ same (answersOut (zeros 400) (call 12) (room 143)) (room 143)
+    ∷ same (answersOut (states 12 2) (call 12) (room 144)) (room 144)
+    ∷ same (stateOut (states 12 2) (call 12) (room 144)) (states 12 2)
     ∷ []

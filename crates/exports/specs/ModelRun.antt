@@ -23,13 +23,13 @@ abbrev pub stateWords : NetworkModel → Cycle → List ℕ
 stateWords m y = modelWords m ++ cycleWords y
 
 -- whether the n words from an index on are the same
-unfoldable pub same : List ℕ → List ℕ → ℕ → ℕ → Bool
-same a b at zero = true
-same a b at (suc n) = eqb (getD a at 0) (getD b at 0) && same a b (at + 1) n
+unfoldable pub sameWords : List ℕ → List ℕ → ℕ → ℕ → Bool
+sameWords a b at zero = true
+sameWords a b at (suc n) = eqb (getD a at 0) (getD b at 0) && sameWords a b (at + 1) n
 
 -- words encode a state where what is read from them is written as they are
 unfoldable pub isState : List ℕ → Bool
-isState w = same (stateWords (modelOf w) (cycleOf w)) w 0 50
+isState w = sameWords (stateWords (modelOf w) (cycleOf w)) w 0 50
 
 -- "Bytes that encode no state are refusal 1": as many as a state has
 unfoldable pub encodesNone : List ℕ → Bool

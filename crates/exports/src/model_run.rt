@@ -5,7 +5,7 @@ ghost use lib.ListN.{length};
 ghost use lib.Seq.{sets};
 ghost use Rattle.filters.specs.Reply.{number};
 ghost use Rattle.words.specs.Words.{allBytes};
-ghost use Rattle.exports.specs.ModelRun.{same, stateIn, isState, encodesNone, callsIn, hasUnknown, turnAt, answerWords, answersTo, leftBy, answersFrom, wordsLeft, modelRow, stateOut, answersOut};
+ghost use Rattle.exports.specs.ModelRun.{sameWords, stateIn, isState, encodesNone, callsIn, hasUnknown, turnAt, answerWords, answersTo, leftBy, answersFrom, wordsLeft, modelRow, stateOut, answersOut};
 use crate::reply::or_short;
 use encoding::cycle::cycle_of;
 use encoding::network_model::model_of;
@@ -77,7 +77,7 @@ fn is_state(words: &[u64; 50]) -> bool
 }
 
 fn are_same(a: &[u64; 50], b: &[u64; 50]) -> bool
-    ensures { λ r. ⌜ r ≡ same (now (a .entry)) (now (b .entry)) 0 50 ⌝ }
+    ensures { λ r. ⌜ r ≡ sameWords (now (a .entry)) (now (b .entry)) 0 50 ⌝ }
 {
     let mut i = 0;
     while i < 50 {

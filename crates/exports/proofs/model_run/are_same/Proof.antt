@@ -4,13 +4,13 @@ use borrow.Author.Tests.{eq-eqb, ne-eqb}
 use Prim.Native.Nat.{ℕ, _-_, _≤_}
 use mathlib.Core.Path.{_≡_, refl}
 use native.Mathlib.Omega.{arith}
-use Rattle.exports.specs.ModelRun.{same}
+use Rattle.exports.specs.ModelRun.{sameWords}
 use Rattle.exports.proofs.ModelRun.{differ-now, differ-later}
 use Rattle.exports.proofs.model_run.are_same.Statement.{statement}
 use Rattle.exports.proofs.model_run.are_same.Tie as tie
 
 abbrev Inv-loop : tie.InvT-loop
-Inv-loop a b i₀ i = (i ≤ 50) × (same a b i (50 - i) ≡ same a b 0 50)
+Inv-loop a b i₀ i = (i ≤ 50) × (sameWords a b i (50 - i) ≡ sameWords a b 0 50)
 
 abbrev μ-loop : tie.MeasureT-loop
 μ-loop a b i₀ i = 50 - i
@@ -49,7 +49,7 @@ loop-again c =
     (omega arith, differ-later (args .a .now) (args .b .now) (loop .i) (c .before .before .before .loop-test .taken) (eq-eqb _ _ (c .if1 .left)) (loop .inv .1))
 
 returns-2 : tie.Need-returns-2 Inv-loop μ-loop
-unfolding same
+unfolding sameWords
 returns-2 c =
     let all : c .before .loop .i ≡ 50 = omega arith in
     rw all at (c .before .loop .inv .1)
