@@ -412,22 +412,18 @@ pub fn on_congestion_event_start(
     ensures record { λ r. ⌜ r .record ≡ settled (eventNumber model params event sample (now (acked .entry))) (recordNext model event sample (now (acked .entry))) event ⌝ }
 {
     let reply = event_reply(model, params, event, sample, acked);
+    let mut next = model;
+    let mut record = event;
     if reply.is_done() {
         let rounds = model.rounds;
         let answer = rounds.on_packets_acked(acked);
-        let after = record_of(model, event, sample, answer.ended);
         let counter = answer.counter;
-        let next = model_of(model, params, after, sample, counter);
-        Event {
-            reply,
-            model: next,
-            record: after,
-        }
-    } else {
-        Event {
-            reply,
-            model,
-            record: event,
-        }
+        record = record_of(model, event, sample, answer.ended);
+        next = model_of(model, params, record, sample, counter);
+    }
+    Event {
+        reply,
+        model: next,
+        record,
     }
 }

@@ -44,25 +44,17 @@ fn judged_reply(model: NetworkModel, params: Params, event: Record, full: bool) 
     refusal(!(model.ok() & params.ok()), !event.ok(), false, false, full)
 }
 
-fn finished(model: NetworkModel, event: Record) -> NetworkModel
-    ensures { λ r. ⌜ r ≡ finishNext model event ⌝ }
-{
-    if event.ended {
-        let round = Round::new();
-        let mut next = model;
-        next.round = round;
-        next
-    } else {
-        model
-    }
-}
-
 // The event is over: the round's sums begin anew if it ended the round.
 pub fn on_congestion_event_finish(model: NetworkModel, event: Record) -> Changed
     ensures reply { λ r. ⌜ number (r .reply) ≡ recordNumber model event ⌝ }
     ensures model { λ r. ⌜ r .model ≡ settled (recordNumber model event) (finishNext model event) model ⌝ }
 {
-    model.settle(record_reply(model, event), finished(model, event))
+    let reply = record_reply(model, event);
+    let mut next = model;
+    if reply.is_done() & event.ended {
+        next.round = Round::new();
+    }
+    Changed { reply, model: next }
 }
 
 fn is_given(sample: MaybeLength) -> bool

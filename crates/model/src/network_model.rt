@@ -226,10 +226,16 @@ impl NetworkModel {
         ensures reply { λ r. ⌜ number (r .reply) ≡ sentNumber self now inflight bytes ⌝ }
         ensures model { λ r. ⌜ r .model ≡ settled (sentNumber self now inflight bytes) (sentNext self now inflight packet bytes) self ⌝ }
     {
-        self.settle(
-            self.sent_reply(now, inflight, bytes),
-            self.sent(now, inflight, packet, bytes),
-        )
+        let reply = self.sent_reply(now, inflight, bytes);
+        let round = self.round;
+        let rounds = self.rounds;
+        let mut next = self;
+        if reply.is_done() {
+            next.round = round.sent(inflight, reaches(self.high, inflight, bytes));
+            next.rounds = rounds.on_packet_sent(packet);
+            next.moment = now;
+        }
+        Changed { reply, model: next }
     }
 
     fn sent_reply(self, now: Moment, inflight: u64, bytes: u64) -> Reply
@@ -238,20 +244,6 @@ impl NetworkModel {
         let moment = self.moment;
         let fine = moment_ok(now) & bytes_ok(inflight) & bytes_ok(bytes);
         refusal(!self.ok(), !fine, now.is_before(moment), false, false)
-    }
-
-    fn sent(self, now: Moment, inflight: u64, packet: u64, bytes: u64) -> NetworkModel
-        ensures { λ r. ⌜ r ≡ sentNext self now inflight packet bytes ⌝ }
-    {
-        let round = self.round;
-        let rounds = self.rounds;
-        let sums = round.sent(inflight, reaches(self.high, inflight, bytes));
-        let counter = rounds.on_packet_sent(packet);
-        let mut next = self;
-        next.round = sums;
-        next.rounds = counter;
-        next.moment = now;
-        next
     }
 
     // The round begins anew before its end, uncounted.

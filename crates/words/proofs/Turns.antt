@@ -1,4 +1,4 @@
--- One turn of each loop, over plain variables: what is still to be done leads to the same end. Assumes nothing.
+-- A word's bytes, and one turn of each loop, over plain variables: what is still to be done leads to the same end. Assumes nothing.
 use Prim.Native.Nat.{ℕ, suc, _+_, _-_, _*_, _/_, _%_, _^_, _<_}
 use mathlib.Core.List.{List}
 use mathlib.Core.Path.{_≡_, ap, _∙_}
@@ -11,18 +11,17 @@ use Rattle.words.specs.Words.{numberAt, lowBytes, word, bytes, wordsAt, 
 use Rattle.words.proofs.Stores.{sets-append}
 use Rattle.words.proofs.Laws.{length-bytes}
 
--- a number read from its highest byte down
-pub read-more : (s : List ℕ) (at n x b : ℕ) → n < 8 → x ≡ numberAt n s (at + (8 - n)) → b ≡ getD s (at + (8 - (n + 1))) 0 → 256 * x + b ≡ numberAt (n + 1) s (at + (8 - (n + 1)))
+-- a byte, its place written in another way
+byte-at : (s : List ℕ) (x i j : ℕ) → i ≡ j → x ≡ getD s i 0 → x ≡ getD s j 0
+byte-at s x i j e p = p ∙ ap (λ (k : ℕ). getD s k 0) e
+
+-- a word from its eight bytes
+pub eight-bytes :
+    (s : List ℕ) (at a b c d e f g h : ℕ) → a ≡ getD s at 0 → b ≡ getD s (at + 1) 0 → c ≡ getD s (at + 2) 0 → d ≡ getD s (at + 3) 0 →
+    e ≡ getD s (at + 4) 0 → f ≡ getD s (at + 5) 0 → g ≡ getD s (at + 6) 0 → h ≡ getD s (at + 7) 0 →
+    a + 256 * b + 256 ^ 2 * c + 256 ^ 3 * d + 256 ^ 4 * e + 256 ^ 5 * f + 256 ^ 6 * g + 256 ^ 7 * h ≡ word s at
 unfolding numberAt
-read-more s at n x b h e f =
-    let p : at + (8 - n) ≡ suc (at + (8 - suc n)) = omega arith in
-    rw add-one (omega (arith, e ∙ ap (numberAt n s) p, rw add-one at f))
-
-pub read-bound : (n x b : ℕ) → x < 256 ^ n → b < 256 → 256 * x + b < 256 ^ (n + 1)
-read-bound n x b h g = rw (add-one, pow-suc) (omega arith)
-
-pub read-fits : (n x b : ℕ) → n < 8 → x < 256 ^ n → b < 256 → 256 * x + b < 2 ^ 64
-read-fits n x b h f g = lt-of-lt-of-le (read-bound n x b f g) (pow-le-pow-right (zero-lt-suc 255) {j = 8} (omega arith))
+eight-bytes s at a b c d e f g h p q r t u v w x = omega (arith, p, byte-at s b (at + 1) (suc at) (omega arith) q, byte-at s c (at + 2) (suc (suc at)) (omega arith) r, byte-at s d (at + 3) (suc (suc (suc at))) (omega arith) t, byte-at s e (at + 4) (suc (suc (suc (suc at)))) (omega arith) u, byte-at s f (at + 5) (suc (suc (suc (suc (suc at))))) (omega arith) v, byte-at s g (at + 6) (suc (suc (suc (suc (suc (suc at)))))) (omega arith) w, byte-at s h (at + 7) (suc (suc (suc (suc (suc (suc (suc at))))))) (omega arith) x)
 
 -- a word, byte by byte
 pub write-byte :

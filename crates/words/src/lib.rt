@@ -21,13 +21,14 @@ pub fn get_word(s: &[u8], at: usize) -> u64
     requires { ⌜ at + 8 ≤ length (now s) ⌝ }
     ensures { λ r. ⌜ r ≡ word (now (s .entry)) at ⌝ }
 {
-    let mut x: u64 = 0;
-    let mut n: usize = 0;
-    while n < 8 {
-        n += 1;
-        x = 256 * x + wide(s[at + (8 - n)]);
-    }
-    x
+    wide(s[at])
+        + 0x100 * wide(s[at + 1])
+        + 0x1_0000 * wide(s[at + 2])
+        + 0x100_0000 * wide(s[at + 3])
+        + 0x1_0000_0000 * wide(s[at + 4])
+        + 0x100_0000_0000 * wide(s[at + 5])
+        + 0x1_0000_0000_0000 * wide(s[at + 6])
+        + 0x100_0000_0000_0000 * wide(s[at + 7])
 }
 
 // Writes a word at an index.

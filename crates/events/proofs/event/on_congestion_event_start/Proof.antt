@@ -14,11 +14,11 @@ use Rattle.events.proofs.event.on_congestion_event_start.Tie as tie
 
 model-of-requires : tie.Need-model-of-requires
 unfolding recordOf
-model-of-requires c κs = let a = c .before .before .before .before .before .before .before .before .args in subst (λ (r : Record). (a .model .round .lost + r .lost < 2 ^ 64) × (ltb 0 (r .lost) ≡ true → eqb (a .model .round .losses) (2 ^ 64 - 1) ≡ false)) (sym (c .before .record-of .ensures)) (room (a .model) (a .params) (a .event) (a .sample) (a .acked .now) _ (c .before .before .before .before .before .before .event-reply .ensures) (sym (c .before .before .before .before .before .is-done .ensures) ∙ c .before .before .before .before .if1 .taken))
+model-of-requires c κs = let a = c .before .before .before .before .before .before .before .before .args in subst (λ (r : Record). (a .model .round .lost + r .lost < 2 ^ 64) × (ltb 0 (r .lost) ≡ true → eqb (a .model .round .losses) (2 ^ 64 - 1) ≡ false)) (sym (c .record-of .ensures)) (room (a .model) (a .params) (a .event) (a .sample) (a .acked .now) _ (c .before .before .before .before .before .before .event-reply .ensures) (sym (c .before .before .before .before .before .is-done .ensures) ∙ c .before .before .before .before .if1 .taken))
 
 returns : tie.Need-returns
 unfolding recordNext modelNext
-returns c = let a = c .before .before .before .before .before .before .before .before .before .args in let r = c .before .before .record-of .ensures ∙ ap (recordOf (a .model) (a .event) (a .sample)) (c .before .before .before .on-packets-acked .ensures .1 .1) in (c .before .before .before .before .before .before .before .event-reply .ensures, (done-as _ _ _ _ _ _ (c .before .before .before .before .before .before .before .event-reply .ensures) (c .before .before .before .before .before .before .is-done .ensures) (c .before .before .before .before .before .if1 .taken) (c .model-of .ensures ∙ ap₂ (λ (x : Record) (y : RoundTripCounter). modelOf (a .model) (a .params) x (a .sample) y) r (c .before .before .before .on-packets-acked .ensures .1 .0)), done-as _ _ _ _ _ _ (c .before .before .before .before .before .before .before .event-reply .ensures) (c .before .before .before .before .before .before .is-done .ensures) (c .before .before .before .before .before .if1 .taken) r))
+returns c = let a = c .before .before .before .before .before .before .before .before .before .args in let r = c .before .record-of .ensures ∙ ap (recordOf (a .model) (a .event) (a .sample)) (c .before .before .before .on-packets-acked .ensures .1 .1) in (c .before .before .before .before .before .before .before .event-reply .ensures, (done-as _ _ _ _ _ _ (c .before .before .before .before .before .before .before .event-reply .ensures) (c .before .before .before .before .before .before .is-done .ensures) (c .before .before .before .before .before .if1 .taken) (c .model-of .ensures ∙ ap₂ (λ (x : Record) (y : RoundTripCounter). modelOf (a .model) (a .params) x (a .sample) y) r (c .before .before .before .on-packets-acked .ensures .1 .0)), done-as _ _ _ _ _ _ (c .before .before .before .before .before .before .before .event-reply .ensures) (c .before .before .before .before .before .before .is-done .ensures) (c .before .before .before .before .before .if1 .taken) r))
 
 returns-2 : tie.Need-returns-2
 returns-2 c = (c .before .before .event-reply .ensures, (refused-as _ _ _ _ _ _ (c .before .before .event-reply .ensures) (c .before .is-done .ensures) (c .if1 .left) refl, refused-as _ _ _ _ _ _ (c .before .before .event-reply .ensures) (c .before .is-done .ensures) (c .if1 .left) refl))
