@@ -1,11 +1,11 @@
--- The calls that change the model alone, by their numbers (docs/LAYOUT.md).
+-- The calls that change the model alone, but for a send, by their numbers (docs/LAYOUT.md).
 use Prim.Native.Nat.{ℕ}
 use mathlib.Core.Bool.{cond}
 use lib.Dec.{eqb}
 use lib.Ieee.{Float}
 use Rattle.model.specs.declared.network_model.NetworkModel.{NetworkModel}
 use Rattle.model.specs.Bounds.{bytesOrUnsetOk, gainOk}
-use Rattle.model.specs.Calls.{storedNumber, givenNumber, sentNumber, sentNext, restartNext, reachedNext, pacingNext, cwndNext, withHigh, capNext, clearInflightNext, clearBandwidthNext, advanceNext, postponeNumber, postponeNext}
+use Rattle.model.specs.Calls.{storedNumber, givenNumber, restartNext, reachedNext, pacingNext, cwndNext, withHigh, capNext, clearInflightNext, clearBandwidthNext, advanceNext, postponeNumber, postponeNext}
 
 -- the number of the reply, and the model that the call leaves where that is 0
 pub record Change : Type 0 where
@@ -22,12 +22,11 @@ changeMore call n m =
     (cond (eqb call 21) (record { number = storedNumber m; next = advanceNext m })
     (record { number = postponeNumber m (record { 0 = n }); next = postponeNext m (record { 0 = n }) })))))
 
--- calls 1, 8 and 14 to 22; `gain` is n's f32
-unfoldable pub changeOf : (call n inflight packet bytes : ℕ) → Float → NetworkModel → Change
-changeOf call n inflight packet bytes gain m =
-    cond (eqb call 1) (record { number = sentNumber m (record { 0 = n }) inflight bytes; next = sentNext m (record { 0 = n }) inflight packet bytes })
-    (cond (eqb call 8) (record { number = storedNumber m; next = restartNext m })
+-- calls 8 and 14 to 22; `gain` is n's f32
+unfoldable pub changeOf : (call n : ℕ) → Float → NetworkModel → Change
+changeOf call n gain m =
+    cond (eqb call 8) (record { number = storedNumber m; next = restartNext m })
     (cond (eqb call 14) (record { number = storedNumber m; next = reachedNext m })
     (cond (eqb call 15) (record { number = givenNumber m (gainOk gain); next = pacingNext m gain })
     (cond (eqb call 16) (record { number = givenNumber m (gainOk gain); next = cwndNext m gain })
-    (changeMore call n m)))))
+    (changeMore call n m))))

@@ -1,28 +1,18 @@
-// The calls that change the model alone.
+// The calls that change the model alone, but for a send.
 ghost use mathlib.Core.Path.{_≡_};
 ghost use Rattle.filters.specs.Reply.{number};
 ghost use Rattle.model.specs.Answers.{settled};
 ghost use Rattle.calls.specs.Change.{changeOf, changeMore};
 use filters::Duration;
-use filters::Moment;
 use model::NetworkModel;
 use model::network_model::Changed;
 
-// Calls 1, 8 and 14 to 22; `gain` is n's f32.
-pub fn change(
-    model: NetworkModel,
-    call: u64,
-    n: u64,
-    inflight: u64,
-    packet: u64,
-    bytes: u64,
-    gain: f32,
-) -> Changed
-    ensures reply { λ r. ⌜ number (r .reply) ≡ changeOf call n inflight packet bytes gain model .number ⌝ }
-    ensures model { λ r. ⌜ r .model ≡ settled (changeOf call n inflight packet bytes gain model .number) (changeOf call n inflight packet bytes gain model .next) model ⌝ }
+// Calls 8 and 14 to 22; `gain` is n's f32.
+pub fn change(model: NetworkModel, call: u64, n: u64, gain: f32) -> Changed
+    ensures reply { λ r. ⌜ number (r .reply) ≡ changeOf call n gain model .number ⌝ }
+    ensures model { λ r. ⌜ r .model ≡ settled (changeOf call n gain model .number) (changeOf call n gain model .next) model ⌝ }
 {
     match call {
-        1 => model.on_packet_sent(Moment(n), inflight, packet, bytes),
         8 => model.restart_round_early(),
         14 => model.set_full_bandwidth_reached(),
         15 => model.set_pacing_gain(gain),

@@ -1,4 +1,4 @@
-// The calls that carry an event's record, or count rounds.
+// The questions about an event, and the queue's.
 ghost use mathlib.Core.Path.{_≡_};
 ghost use mathlib.Core.Bool.{false};
 ghost use Rattle.filters.specs.Reply.{number};
@@ -11,7 +11,7 @@ use model::Params;
 use model::answers::Flag;
 use model::network_model::Changed;
 
-// Calls 4 to 7 and 9; `limit` is the call's number, `gain` its f32.
+// Calls 5 to 7 and 9; `limit` is the call's number, `gain` its f32.
 pub fn judge(
     model: NetworkModel,
     params: Params,
@@ -25,7 +25,6 @@ pub fn judge(
     ensures yes { λ r. ⌜ r .yes ≡ settled (judgeOf call limit gain model params event .number) (judgeOf call limit gain model params event .yes) false ⌝ }
 {
     match call {
-        4 => changed(events::on_congestion_event_finish(model, event)),
         5 => events::maybe_expire_min_rtt(model, params, event),
         6 => answered(
             model,

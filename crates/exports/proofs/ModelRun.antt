@@ -1,26 +1,28 @@
 -- One turn of each pass of the model's run, over plain variables: what is still to be done leads to the same end. Assumes nothing.
 use Prim.Native.Nat.{ℕ, zero, suc, _+_, _-_, _*_, _≤_, _<_}
 use mathlib.Core.Bool.{Bool, true, false, not, cond}
-use mathlib.Core.List.{List, _++_}
+use mathlib.Core.List.{List, _∷_, _++_}
 use mathlib.Core.Path.{_≡_, refl, sym, ap, _∙_}
+use native.Mathlib.Nat.{add-zero}
 use native.Mathlib.Omega.{arith}
 use lib.Dec.{eqb, ltb, leb}
 use lib.ListN.{length, getD}
 use lib.Seq.{sets}
-use borrow.Author.Tests.{ltb-false, eqb-true, not-false}
+use borrow.Author.Tests.{ltb-false, eqb-true, not-false, ne-eqb}
 use Rattle.model.specs.declared.network_model.NetworkModel.{NetworkModel}
 use Rattle.model.proofs.Rows.{none, or-left}
 use Rattle.phases.specs.declared.cycle.Cycle.{Cycle}
-use Rattle.words.specs.Words.{word, wordsAt, allBytes}
+use Rattle.words.specs.Words.{word, allBytes}
 use Rattle.words.proofs.Stores.{sets-append}
-use Rattle.words.proofs.Laws.{allBytes-append, length-allBytes}
+use Rattle.words.proofs.Laws.{allBytes-append, length-allBytes, getD-wordsAt}
 use Rattle.encoding.specs.NetworkModel.{modelOf}
 use Rattle.encoding.specs.Cycle.{cycleOf}
+use Rattle.encoding.specs.Record.{recordWords}
 use Rattle.encoding.specs.RoundTrip.{RoundTrip}
 use Rattle.encoding.proofs.RoundTrip.{round-trip}
 use Rattle.turns.specs.declared.turn.Turn.{Turn}
-use Rattle.turns.specs.Turn.{isCall, isJudged, isAsked, startTurn, eventTurn, judgeTurn, askTurn, enterTurn, changeTurn, turnOf}
-use Rattle.exports.specs.ModelRun.{sameWords, stateIn, callsIn, hasUnknown, turnAt, answerWords, answersTo, leftBy, wordsLeft, modelRow}
+use Rattle.turns.specs.Turn.{isCall, isJudged, isAsked, noRecord, sendNumber, sendLeaves, startedNumber, startedLeaves, startedRecord, finishedNumber, finishedLeaves, startTurn, sendTurn, eventTurn, finishTurn, judgeTurn, askTurn, enterTurn, changeTurn, otherTurn, turnOf}
+use Rattle.exports.specs.ModelRun.{sameWords, stateIn, callsIn, hasUnknown, callAt, turnAt, answerWords, answersTo, leftBy, wordsLeft, modelRow}
 use Rattle.exports.proofs.Rows.{done-room, done-first}
 
 -- ---- two states, word by word
@@ -41,20 +43,28 @@ either : (b : Bool) (s t : Turn) → length (s .event) ≡ 16 → length (t .eve
 either true s t p q = p
 either false s t p q = q
 
-pub length-event : (m : NetworkModel) (y : Cycle) (src : List ℕ) (at : ℕ) → length (turnAt m y src at .event) ≡ 16
-unfolding turnAt turnOf startTurn eventTurn judgeTurn askTurn enterTurn changeTurn
-length-event m y src at =
-    let w = wordsAt src at 49 in
+pub length-other : (w : List ℕ) (m : NetworkModel) (y : Cycle) → length (otherTurn w m y .event) ≡ 16
+unfolding otherTurn startTurn judgeTurn askTurn enterTurn changeTurn
+length-other w m y =
     let call = getD w 0 0 in
-    let others = cond (leb 40 call) (enterTurn w m y) (changeTurn w m y) in
-    let asks = cond (isAsked call) (askTurn w m y) others in
+    let more = cond (leb 40 call) (enterTurn w m y) (changeTurn w m y) in
+    let asks = cond (isAsked call) (askTurn w m y) more in
     let judges = cond (isJudged call) (judgeTurn w m y) asks in
-    let occurs = cond (eqb call 3) (eventTurn w m y) judges in
-    either (eqb call 0) (startTurn w) occurs refl
-    (either (eqb call 3) (eventTurn w m y) judges (round-trip .recordLength _)
+    either (eqb call 0) (startTurn w) judges refl
     (either (isJudged call) (judgeTurn w m y) asks refl
-    (either (isAsked call) (askTurn w m y) others refl
-    (either (leb 40 call) (enterTurn w m y) (changeTurn w m y) refl refl))))
+    (either (isAsked call) (askTurn w m y) more refl
+    (either (leb 40 call) (enterTurn w m y) (changeTurn w m y) refl refl)))
+
+length-event : (m : NetworkModel) (y : Cycle) (src : List ℕ) (at : ℕ) → length (turnAt m y src at .event) ≡ 16
+unfolding turnAt turnOf sendTurn eventTurn finishTurn
+length-event m y src at =
+    let w = callAt src at in
+    let call = getD w 0 0 in
+    let ends = cond (eqb call 4) (finishTurn w m y) (otherTurn w m y) in
+    let starts = cond (eqb call 3) (eventTurn w m y) ends in
+    either (eqb call 1) (sendTurn w m y) starts refl
+    (either (eqb call 3) (eventTurn w m y) ends (round-trip .recordLength (startedRecord w m))
+    (either (eqb call 4) (finishTurn w m y) (otherTurn w m y) refl (length-other w m y)))
 
 length-left : (m : NetworkModel) (y : Cycle) (src : List ℕ) (at n : ℕ) → length (leftBy m y src at n) ≡ 50
 unfolding leftBy
@@ -107,6 +117,33 @@ module _ (src : List ℕ) (i count : ℕ) (h : i < count) where
       let more = answersTo (t .model) (t .cycle) src (392 * i + 392) (count - (i + 1)) in
       let step : 144 * (i + 1) ≡ 144 * i + length answer = rw (length-answer m y src (392 * i)) (omega arith) in
       rw (next, step) (sets-append l (144 * i) answer (allBytes more) ∙ ap (sets l (144 * i)) (sym (allBytes-append (answerWords t) more)) ∙ rw left at e)
+
+-- ---- one call, by its number: the bytes with its answer, and the state that it leaves
+module _ (m : NetworkModel) (y : Cycle) (src : List ℕ) (at : ℕ) (out : List ℕ) (to : ℕ) (out′ : List ℕ) (m′ : NetworkModel) (y′ : Cycle) where
+  abbrev pub Carried : Type 0
+  Carried = (out′ ≡ sets out to (allBytes (answerWords (turnAt m y src at)))) × (m′ ≡ turnAt m y src at .model) × (y′ ≡ turnAt m y src at .cycle)
+
+  number-at : {n : ℕ} → word src at ≡ n → getD (callAt src at) 0 0 ≡ n
+  number-at e = getD-wordsAt src at 49 0 (omega arith) ∙ ap (word src) (add-zero at) ∙ e
+
+  pub by-send : word src at ≡ 1 → m′ ≡ sendLeaves (callAt src at) m → y′ ≡ y → out′ ≡ sets out to (allBytes (sendNumber (callAt src at) m ∷ 0 ∷ noRecord)) → Carried
+  unfolding turnAt turnOf sendTurn answerWords
+  by-send e p q r = rw (number-at e) (r, p, q)
+
+  pub by-start : word src at ≡ 3 → m′ ≡ startedLeaves (callAt src at) m → y′ ≡ y → out′ ≡ sets out to (allBytes (startedNumber (callAt src at) m ∷ 0 ∷ recordWords (startedRecord (callAt src at) m))) → Carried
+  unfolding turnAt turnOf eventTurn answerWords
+  by-start e p q r = rw (number-at e) (r, p, q)
+
+  pub by-end : word src at ≡ 4 → m′ ≡ finishedLeaves (callAt src at) m → y′ ≡ y → out′ ≡ sets out to (allBytes (finishedNumber (callAt src at) m ∷ 0 ∷ noRecord)) → Carried
+  unfolding turnAt turnOf finishTurn answerWords
+  by-end e p q r = rw (number-at e) (r, p, q)
+
+  pub by-other :
+      {n : ℕ} {t : Turn} → n ≡ word src at → (n ≡ 1 → ⊥) → (n ≡ 3 → ⊥) → (n ≡ 4 → ⊥) →
+      t ≡ otherTurn (callAt src at) m y → m′ ≡ t .model → y′ ≡ t .cycle → out′ ≡ sets out to (allBytes (answerWords (otherTurn (callAt src at) m y))) → Carried
+  unfolding turnAt turnOf
+  by-other e f g h k p q r =
+      rw (number-at (sym e), ne-eqb _ 1 f, ne-eqb _ 3 g, ne-eqb _ 4 h) (r, p ∙ ap (λ (t : Turn). t .model) k, q ∙ ap (λ (t : Turn). t .cycle) k)
 
 -- ---- what a run that is done has been lent
 pub run-room : (state src : List ℕ) (room : ℕ) → eqb (modelRow state src room) 0 ≡ true → 144 * callsIn src ≤ room

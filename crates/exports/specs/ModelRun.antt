@@ -44,9 +44,13 @@ unfoldable pub hasUnknown : List ℕ → ℕ → ℕ → Bool
 hasUnknown src at zero = false
 hasUnknown src at (suc n) = not (isCall (word src at)) || hasUnknown src (at + 392) n
 
+-- the words of the call at an index
+abbrev pub callAt : List ℕ → ℕ → List ℕ
+callAt src at = wordsAt src at 49
+
 -- the call at an index, carried out
 unfoldable pub turnAt : NetworkModel → Cycle → List ℕ → ℕ → Turn
-turnAt m y src at = turnOf (wordsAt src at 49) m y
+turnAt m y src at = turnOf (callAt src at) m y
 
 -- "each answer has the refusal, the number or flag, and the event's record where there is one": 18 words, 144 bytes
 unfoldable pub answerWords : Turn → List ℕ

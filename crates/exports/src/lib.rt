@@ -2,5 +2,6 @@
 pub mod conversions;
 pub mod filter_run;
 pub mod model_run;
+mod one_call;
 mod reply;
 pub mod slope;

@@ -1,11 +1,15 @@
 // The model, run over call records on a state in lent bytes (docs/LAYOUT.md).
 ghost use mathlib.Core.Path.{_≡_};
-ghost use Prim.Native.Nat.{_+_, _*_, _≤_};
+ghost use Prim.Native.Nat.{_*_, _≤_};
 ghost use lib.ListN.{length};
 ghost use lib.Seq.{sets};
 ghost use Rattle.filters.specs.Reply.{number};
 ghost use Rattle.words.specs.Words.{allBytes};
-ghost use Rattle.exports.specs.ModelRun.{sameWords, stateIn, isState, encodesNone, callsIn, hasUnknown, turnAt, answerWords, answersTo, leftBy, answersFrom, wordsLeft, modelRow, stateOut, answersOut};
+ghost use Rattle.exports.specs.ModelRun.{sameWords, stateIn, isState, encodesNone, callsIn, hasUnknown, answersTo, leftBy, answersFrom, wordsLeft, modelRow, stateOut, answersOut};
+use crate::one_call::end;
+use crate::one_call::other;
+use crate::one_call::send;
+use crate::one_call::start;
 use crate::reply::or_short;
 use encoding::cycle::cycle_of;
 use encoding::network_model::model_of;
@@ -14,8 +18,6 @@ use filters::Reply;
 use model::NetworkModel;
 use model::bounds::refusal;
 use phases::Cycle;
-use turns::turn::Turn;
-use turns::turn::carry_out;
 use turns::turn::is_call;
 use words::get_word;
 use words::get_words;
@@ -126,31 +128,21 @@ fn run_from(model: NetworkModel, cycle: Cycle, calls: &[u8], answers: &mut [u8])
     let mut y = cycle;
     let mut i = 0;
     while i < count {
-        let turn = turn_at(m, y, calls, 392 * i);
-        put_answer(answers, 144 * i, turn);
-        m = turn.model;
-        y = turn.cycle;
+        let at = 392 * i;
+        let to = 144 * i;
+        let call = get_word(calls, at);
+        if call == 1 {
+            m = send(m, calls, at, answers, to);
+        } else if call == 3 {
+            m = start(m, calls, at, answers, to);
+        } else if call == 4 {
+            m = end(m, calls, at, answers, to);
+        } else {
+            let turn = other(m, y, calls, at, answers, to);
+            m = turn.model;
+            y = turn.cycle;
+        }
         i += 1;
     }
     state_words(m, y)
-}
-
-// The call at an index, carried out.
-fn turn_at(model: NetworkModel, cycle: Cycle, calls: &[u8], at: usize) -> Turn
-    requires { ⌜ at + 392 ≤ length (now calls) ⌝ }
-    ensures { λ r. ⌜ r ≡ turnAt model cycle (now (calls .entry)) at ⌝ }
-{
-    let mut call = [0u64; 49];
-    get_words(calls, at, &mut call);
-    carry_out(model, cycle, &call)
-}
-
-// Writes a call's answer at an index.
-fn put_answer(answers: &mut [u8], at: usize, turn: Turn)
-    requires { ⌜ (at + 144 ≤ length (now answers)) × (length (turn .event) ≡ 16) ⌝ }
-    ensures { λ _. ⌜ now (answers .exit) ≡ sets (now (answers .entry)) at (allBytes (answerWords turn)) ⌝ }
-{
-    put_words(answers, at, &[turn.reply, turn.value]);
-    let event = turn.event;
-    put_words(answers, at + 16, &event);
 }

@@ -7,8 +7,10 @@ use Rattle.filters.specs.declared.time.Duration.{Duration}
 use Rattle.filters.specs.declared.time.Moment.{Moment}
 use Rattle.model.specs.declared.network_model.NetworkModel.{NetworkModel}
 use Rattle.model.specs.Answers.{settled, noMoment}
-use Rattle.model.specs.Calls.{startNumber, startModel}
+use Rattle.model.specs.Calls.{startNumber, startModel, sentNumber, sentNext}
 use Rattle.events.specs.Event.{eventNumber, modelNext, recordNext}
+use Rattle.events.specs.Judge.{recordNumber, finishNext}
+use Rattle.events.specs.declared.record.Record.{Record}
 use Rattle.phases.specs.declared.cycle.Cycle.{Cycle}
 use Rattle.phases.specs.Cycle.{freshCycle}
 use Rattle.encoding.specs.Word.{word, flagWord, floatOf}
@@ -25,9 +27,9 @@ use Rattle.calls.specs.Enter.{enterOf}
 abbrev pub isCall : ℕ → Bool
 isCall call = leb call 45 && not (eqb call 2 || eqb call 39)
 
--- calls 4 to 7 and 9; calls 10 to 13 and 23 to 38
+-- calls 5 to 7 and 9; calls 10 to 13 and 23 to 38
 abbrev pub isJudged : ℕ → Bool
-isJudged call = leb 4 call && leb call 7 || eqb call 9
+isJudged call = leb 5 call && leb call 7 || eqb call 9
 
 abbrev pub isAsked : ℕ → Bool
 isAsked call = leb 10 call && leb call 13 || leb 23 call && leb call 38
@@ -45,13 +47,38 @@ startTurn w =
     let n = startNumber p rtt now in
     record { model = startModel p rtt now; cycle = freshCycle (settled n now noMoment); reply = n; value = 0; event = noRecord }
 
+-- call 1: a send at word 1's moment, with word 2's bytes in flight, of word 3's number and word 4's bytes
+abbrev pub sendNumber : List ℕ → NetworkModel → ℕ
+sendNumber w m = sentNumber m (record { 0 = word w 1 }) (word w 2) (word w 4)
+
+abbrev pub sendLeaves : List ℕ → NetworkModel → NetworkModel
+sendLeaves w m = settled (sendNumber w m) (sentNext m (record { 0 = word w 1 }) (word w 2) (word w 3) (word w 4)) m
+
+unfoldable pub sendTurn : List ℕ → NetworkModel → Cycle → Turn
+sendTurn w m y = record { model = sendLeaves w m; cycle = y; reply = sendNumber w m; value = 0; event = noRecord }
+
+-- call 3: an event's start
+abbrev pub startedNumber : List ℕ → NetworkModel → ℕ
+startedNumber w m = eventNumber m (paramsOf w) (recordOf w) (sampleOf w) (ackedOf w)
+
+abbrev pub startedLeaves : List ℕ → NetworkModel → NetworkModel
+startedLeaves w m = settled (startedNumber w m) (modelNext m (paramsOf w) (recordOf w) (sampleOf w) (ackedOf w)) m
+
+abbrev pub startedRecord : List ℕ → NetworkModel → Record
+startedRecord w m = settled (startedNumber w m) (recordNext m (recordOf w) (sampleOf w) (ackedOf w)) (recordOf w)
+
 unfoldable pub eventTurn : List ℕ → NetworkModel → Cycle → Turn
-eventTurn w m y =
-    let p = paramsOf w in
-    let e = recordOf w in
-    let x = sampleOf w in
-    let n = eventNumber m p e x (ackedOf w) in
-    record { model = settled n (modelNext m p e x (ackedOf w)) m; cycle = y; reply = n; value = 0; event = recordWords (settled n (recordNext m e x (ackedOf w)) e) }
+eventTurn w m y = record { model = startedLeaves w m; cycle = y; reply = startedNumber w m; value = 0; event = recordWords (startedRecord w m) }
+
+-- call 4: an event's finish
+abbrev pub finishedNumber : List ℕ → NetworkModel → ℕ
+finishedNumber w m = recordNumber m (recordOf w)
+
+abbrev pub finishedLeaves : List ℕ → NetworkModel → NetworkModel
+finishedLeaves w m = settled (finishedNumber w m) (finishNext m (recordOf w)) m
+
+unfoldable pub finishTurn : List ℕ → NetworkModel → Cycle → Turn
+finishTurn w m y = record { model = finishedLeaves w m; cycle = y; reply = finishedNumber w m; value = 0; event = noRecord }
 
 unfoldable pub judgeTurn : List ℕ → NetworkModel → Cycle → Turn
 judgeTurn w m y =
@@ -68,13 +95,19 @@ enterTurn w m y =
 
 unfoldable pub changeTurn : List ℕ → NetworkModel → Cycle → Turn
 changeTurn w m y =
-    let c = changeOf (word w 0) (word w 1) (word w 2) (word w 3) (word w 4) (floatOf (word w 1)) m in
+    let c = changeOf (word w 0) (word w 1) (floatOf (word w 1)) m in
     record { model = settled (c .number) (c .next) m; cycle = y; reply = c .number; value = 0; event = noRecord }
+
+-- all but calls 1, 3 and 4
+unfoldable pub otherTurn : List ℕ → NetworkModel → Cycle → Turn
+otherTurn w m y =
+    cond (eqb (word w 0) 0) (startTurn w)
+    (cond (isJudged (word w 0)) (judgeTurn w m y)
+    (cond (isAsked (word w 0)) (askTurn w m y)
+    (cond (leb 40 (word w 0)) (enterTurn w m y) (changeTurn w m y))))
 
 unfoldable pub turnOf : List ℕ → NetworkModel → Cycle → Turn
 turnOf w m y =
-    cond (eqb (word w 0) 0) (startTurn w)
+    cond (eqb (word w 0) 1) (sendTurn w m y)
     (cond (eqb (word w 0) 3) (eventTurn w m y)
-    (cond (isJudged (word w 0)) (judgeTurn w m y)
-    (cond (isAsked (word w 0)) (askTurn w m y)
-    (cond (leb 40 (word w 0)) (enterTurn w m y) (changeTurn w m y)))))
+    (cond (eqb (word w 0) 4) (finishTurn w m y) (otherTurn w m y)))

@@ -2,18 +2,13 @@
 ghost use mathlib.Core.Path.{_≡_};
 ghost use Rattle.filters.specs.Reply.{number};
 ghost use Rattle.model.specs.Answers.{settled, noMoment};
-ghost use Rattle.events.specs.Event.{eventNumber, modelNext, recordNext};
-ghost use Rattle.encoding.specs.Params.{paramsOf};
-ghost use Rattle.encoding.specs.Record.{recordOf};
-ghost use Rattle.encoding.specs.Sample.{sampleOf, ackedOf};
-ghost use Rattle.turns.specs.Turn.{isCall, isJudged, isAsked, noRecord, startTurn, eventTurn, judgeTurn, askTurn, enterTurn, changeTurn, turnOf};
+ghost use Rattle.turns.specs.Turn.{isCall, isJudged, isAsked, noRecord, startTurn, startedNumber, startedLeaves, startedRecord, finishedNumber, finishedLeaves, judgeTurn, askTurn, enterTurn, changeTurn, otherTurn};
 use calls::ask::ask;
 use calls::change::change;
 use calls::enter::enter;
 use calls::judge::judge;
 use encoding::params::params_of;
 use encoding::record::record_of;
-use encoding::record::record_words;
 use encoding::sample::acked_count;
 use encoding::sample::acked_numbers;
 use encoding::sample::sample_of;
@@ -24,6 +19,7 @@ use filters::Duration;
 use filters::Moment;
 use filters::Reply;
 use model::NetworkModel;
+use model::network_model::Changed;
 use phases::Cycle;
 
 // The state after a call; the number of its reply, its answer, 0 where it has none, and the words of the event's record
@@ -36,15 +32,13 @@ pub struct Turn {
     pub event: [u64; 16],
 }
 
+// All calls but 1, 3 and 4, a send and an event's two, which a run makes for itself.
 pub fn carry_out(model: NetworkModel, cycle: Cycle, n: &[u64; 49]) -> Turn
-    ensures { λ r. ⌜ r ≡ turnOf (now (n .entry)) model cycle ⌝ }
+    ensures { λ r. ⌜ r ≡ otherTurn (now (n .entry)) model cycle ⌝ }
 {
     let call = n[0];
     if call == 0 {
         return started(n);
-    }
-    if call == 3 {
-        return occurred(model, cycle, n);
     }
     if is_judged(call) {
         return judged(model, cycle, n);
@@ -68,7 +62,7 @@ pub fn is_call(call: u64) -> bool
 fn is_judged(call: u64) -> bool
     ensures { λ r. ⌜ r ≡ isJudged call ⌝ }
 {
-    (4 <= call) & (call <= 7) | (call == 9)
+    (5 <= call) & (call <= 7) | (call == 9)
 }
 
 fn is_asked(call: u64) -> bool
@@ -77,7 +71,8 @@ fn is_asked(call: u64) -> bool
     (10 <= call) & (call <= 13) | (23 <= call) & (call <= 38)
 }
 
-fn no_record() -> [u64; 16]
+// Where a call has no record.
+pub fn no_record() -> [u64; 16]
     ensures { λ r. ⌜ r ≡ noRecord ⌝ }
 {
     [0; 16]
@@ -112,26 +107,10 @@ fn moment_of(reply: Reply, now: Moment) -> Moment
 
 // ---- call 3
 
-fn occurred(model: NetworkModel, cycle: Cycle, n: &[u64; 49]) -> Turn
-    ensures { λ r. ⌜ r ≡ eventTurn (now (n .entry)) model cycle ⌝ }
-{
-    let event = event(model, n);
-    let reply = event.reply;
-    let next = event.model;
-    let record = event.record;
-    Turn {
-        model: next,
-        cycle,
-        reply: reply.row(),
-        value: 0,
-        event: record_words(record),
-    }
-}
-
-fn event(model: NetworkModel, n: &[u64; 49]) -> Event
-    ensures reply { λ r. ⌜ number (r .reply) ≡ eventNumber model (paramsOf (now (n .entry))) (recordOf (now (n .entry))) (sampleOf (now (n .entry))) (ackedOf (now (n .entry))) ⌝ }
-    ensures model { λ r. ⌜ r .model ≡ settled (eventNumber model (paramsOf (now (n .entry))) (recordOf (now (n .entry))) (sampleOf (now (n .entry))) (ackedOf (now (n .entry)))) (modelNext model (paramsOf (now (n .entry))) (recordOf (now (n .entry))) (sampleOf (now (n .entry))) (ackedOf (now (n .entry)))) model ⌝ }
-    ensures record { λ r. ⌜ r .record ≡ settled (eventNumber model (paramsOf (now (n .entry))) (recordOf (now (n .entry))) (sampleOf (now (n .entry))) (ackedOf (now (n .entry)))) (recordNext model (recordOf (now (n .entry))) (sampleOf (now (n .entry))) (ackedOf (now (n .entry)))) (recordOf (now (n .entry))) ⌝ }
+pub fn event(model: NetworkModel, n: &[u64; 49]) -> Event
+    ensures reply { λ r. ⌜ number (r .reply) ≡ startedNumber (now (n .entry)) model ⌝ }
+    ensures model { λ r. ⌜ r .model ≡ startedLeaves (now (n .entry)) model ⌝ }
+    ensures record { λ r. ⌜ r .record ≡ startedRecord (now (n .entry)) model ⌝ }
 {
     let acked = acked_numbers(n);
     let few = acked_count(n);
@@ -142,6 +121,15 @@ fn event(model: NetworkModel, n: &[u64; 49]) -> Event
         sample_of(n),
         &acked[..few],
     )
+}
+
+// ---- call 4
+
+pub fn finish(model: NetworkModel, n: &[u64; 49]) -> Changed
+    ensures reply { λ r. ⌜ number (r .reply) ≡ finishedNumber (now (n .entry)) model ⌝ }
+    ensures model { λ r. ⌜ r .model ≡ finishedLeaves (now (n .entry)) model ⌝ }
+{
+    events::on_congestion_event_finish(model, record_of(n))
 }
 
 // ---- the other calls
@@ -201,7 +189,7 @@ fn entered(model: NetworkModel, cycle: Cycle, n: &[u64; 49]) -> Turn
 fn changed(model: NetworkModel, cycle: Cycle, n: &[u64; 49]) -> Turn
     ensures { λ r. ⌜ r ≡ changeTurn (now (n .entry)) model cycle ⌝ }
 {
-    let changed = change(model, n[0], n[1], n[2], n[3], n[4], float_of(n[1]));
+    let changed = change(model, n[0], n[1], float_of(n[1]));
     let reply = changed.reply;
     let next = changed.model;
     Turn {

@@ -2,15 +2,15 @@
 use borrow.Author.Needs.{needs}
 use Prim.Native.Nat.{ℕ, _-_, _*_, _/_, _^_, _≤_, _<_}
 use mathlib.Core.List.{List}
+use mathlib.Core.Logic.{⊎-elim}
 use mathlib.Core.Path.{_≡_, refl, sym, ap, _∙_}
 use native.Mathlib.Nat.{sub-zero, sub-self}
 use native.Mathlib.Omega.{arith}
 use lib.ListN.{length}
 use lib.Seq.{sets, length-sets}
 use Rattle.words.specs.Words.{allBytes}
-use Rattle.turns.specs.declared.turn.Turn.{Turn}
 use Rattle.exports.specs.ModelRun.{turnAt, answerWords, answersTo, leftBy}
-use Rattle.exports.proofs.ModelRun.{length-event, left-later, write-answer}
+use Rattle.exports.proofs.ModelRun.{Carried, by-send, by-start, by-end, by-other, left-later, write-answer}
 use Rattle.exports.proofs.model_run.run_from.Statement.{statement}
 use Rattle.exports.proofs.model_run.run_from.Tie as tie
 
@@ -28,40 +28,44 @@ abbrev μ-loop : tie.MeasureT-loop
 loop-holds : tie.Need-loop-holds Inv-loop μ-loop
 loop-holds c = (search needs, omega arith, refl, simp sub-zero, simp sub-zero)
 
-mul-turn-at : tie.Need-mul-turn-at Inv-loop μ-loop
-mul-turn-at c = omega arith
+get-word-requires : tie.Need-get-word-requires Inv-loop μ-loop
+get-word-requires c κs = omega arith
 
-turn-at-requires : tie.Need-turn-at-requires Inv-loop μ-loop
-turn-at-requires c κs = omega arith
+send-requires : tie.Need-send-requires Inv-loop μ-loop
+send-requires c κs = (omega arith, omega arith)
 
-mul-put-answer : tie.Need-mul-put-answer Inv-loop μ-loop
-mul-put-answer c = omega arith
+start-requires : tie.Need-start-requires Inv-loop μ-loop
+start-requires c κs = (omega arith, omega arith)
 
-put-answer-requires : tie.Need-put-answer-requires Inv-loop μ-loop
-put-answer-requires c κs =
-    let loop = c .before .before .before .loop in
-    let calls = c .before .before .before .before .before .before .args .calls .now in
-    (omega arith, ap (λ (t : Turn). length (t .event)) (c .before .turn-at .ensures) ∙ length-event (loop .m) (loop .y) calls (392 * loop .i))
+end-requires : tie.Need-end-requires Inv-loop μ-loop
+end-requires c κs = (omega arith, omega arith)
 
-add-i : tie.Need-add-i Inv-loop μ-loop
-add-i c = omega arith
-
-loop-less : tie.Need-loop-less Inv-loop μ-loop
-loop-less c = omega arith
+other-requires : tie.Need-other-requires Inv-loop μ-loop
+other-requires c κs = (omega arith, omega arith)
 
 loop-again : tie.Need-loop-again Inv-loop μ-loop
 loop-again c =
-    let loop = c .before .before .before .before .before .before .before .before .loop in
-    let calls = c .before .before .before .before .before .before .before .before .before .before .before .args .calls .now in
+    let loop = c .before .before .before .loop in
+    let calls = c .before .before .before .before .before .before .args .calls .now in
     let count = length calls / 392 in
-    let turn = c .before .before .before .before .before .before .turn-at .ensures in
-    let test = c .before .before .before .before .before .before .before .loop-test .taken in
-    let written = c .before .before .before .before .put-answer .ensures ∙ ap (λ (t : Turn). sets (loop .answers) (144 * loop .i) (allBytes (answerWords t))) turn in (
+    let test = c .before .before .loop-test .taken in
+    let call = c .before .get-word .ensures in
+    let now = c .if1 in
+    let carried : Carried (loop .m) (loop .y) calls (392 * loop .i) (loop .answers) (144 * loop .i) (now .answers) (now .m) (now .y) =
+    ⊎-elim
+    (λ w. by-send _ _ _ _ _ _ _ _ _ (sym call ∙ w .0 .taken) (w .6 ∙ w .2 .ensures .0) (w .7) (w .5 ∙ w .2 .ensures .1))
+    (⊎-elim
+    (λ w. by-start _ _ _ _ _ _ _ _ _ (sym call ∙ w .1 .taken) (w .7 ∙ w .3 .ensures .0) (w .8) (w .6 ∙ w .3 .ensures .1))
+    (⊎-elim
+    (λ w. by-end _ _ _ _ _ _ _ _ _ (sym call ∙ w .2 .taken) (w .8 ∙ w .4 .ensures .0) (w .9) (w .7 ∙ w .4 .ensures .1))
+    (λ w. by-other _ _ _ _ _ _ _ _ _ call (w .0 .left) (w .1 .left) (w .2 .left) (w .4 .ensures .0) (w .10) (w .11) (w .9 ∙ w .4 .ensures .1))))
+    (now .came)
+    in (
       omega arith,
       loop .inv .1,
-      ap length written ∙ length-sets (loop .answers) (144 * loop .i) (allBytes (answerWords (turnAt (loop .m) (loop .y) calls (392 * loop .i)))) ∙ loop .inv .2,
-      rw (turn, written) (write-answer calls (loop .i) count test (loop .m) (loop .y) (loop .answers) (loop .inv .3)),
-      rw turn (left-later calls (loop .i) count test (loop .m) (loop .y) (loop .inv .4)),
+      ap length (carried .0) ∙ length-sets (loop .answers) (144 * loop .i) (allBytes (answerWords (turnAt (loop .m) (loop .y) calls (392 * loop .i)))) ∙ loop .inv .2,
+      rw (carried .0, carried .1, carried .2) (write-answer calls (loop .i) count test (loop .m) (loop .y) (loop .answers) (loop .inv .3)),
+      rw (carried .1, carried .2) (left-later calls (loop .i) count test (loop .m) (loop .y) (loop .inv .4)),
     )
 
 same-length : tie.Need-same-length Inv-loop μ-loop
@@ -81,12 +85,15 @@ run-from-spec =
     Inv-loop
     μ-loop
     loop-holds
-    mul-turn-at
-    turn-at-requires
-    mul-put-answer
-    put-answer-requires
-    add-i
-    loop-less
+    (λ c. omega arith)
+    (λ c. omega arith)
+    get-word-requires
+    send-requires
+    start-requires
+    end-requires
+    other-requires
+    (λ c. omega arith)
+    (λ c. omega arith)
     loop-again
     (λ c κs. search needs)
     same-length

@@ -13,4 +13,4 @@ returns c =
     rw (← c .before .before .before .before .float-of .ensures) (turn-as (change .1) refl (c .before .row .ensures ∙ change .0) refl (c .no-record .ensures))
 
 pub changed-spec : {M : Type 1} → statement M
-changed-spec = tie.close (tie.spec (λ c. search needs) (λ c. search needs) (λ c. search needs) (λ c. search needs) (λ c. search needs) (λ c. search needs) (λ c κs. search needs) (λ c κs. search needs) (λ c κs. search needs) (λ c κs. search needs) returns)
+changed-spec = tie.close (tie.spec (λ c. search needs) (λ c. search needs) (λ c. search needs) (λ c κs. search needs) (λ c κs. search needs) (λ c κs. search needs) (λ c κs. search needs) returns)

@@ -1,0 +1,123 @@
+// One call of a run: carried out, with its answer written. A send and an event's two calls have ways
+// of their own, since nearly all calls are of these.
+ghost use mathlib.Core.Path.{_≡_};
+ghost use mathlib.Core.List.{_∷_};
+ghost use Prim.Native.Nat.{_+_, _≤_};
+ghost use lib.ListN.{length};
+ghost use lib.Seq.{sets};
+ghost use Rattle.words.specs.Words.{allBytes};
+ghost use Rattle.encoding.specs.Record.{recordWords};
+ghost use Rattle.turns.specs.Turn.{noRecord, sendNumber, sendLeaves, startedNumber, startedLeaves, startedRecord, finishedNumber, finishedLeaves, otherTurn};
+ghost use Rattle.exports.specs.ModelRun.{callAt, answerWords};
+use encoding::record::record_words;
+use filters::Moment;
+use model::NetworkModel;
+use phases::Cycle;
+use turns::turn::Turn;
+use turns::turn::carry_out;
+use turns::turn::event;
+use turns::turn::finish;
+use turns::turn::no_record;
+use words::get_word;
+use words::get_words;
+use words::put_words;
+
+// Call 1, a send, which reads four words of its record.
+pub(crate) fn send(
+    model: NetworkModel,
+    calls: &[u8],
+    at: usize,
+    answers: &mut [u8],
+    to: usize,
+) -> NetworkModel
+    requires { ⌜ (at + 392 ≤ length (now calls)) × (to + 144 ≤ length (now answers)) ⌝ }
+    ensures { λ r. ⌜ r ≡ sendLeaves (callAt (now (calls .entry)) at) model ⌝ }
+    ensures { λ _. ⌜ now (answers .exit) ≡ sets (now (answers .entry)) to (allBytes (sendNumber (callAt (now (calls .entry)) at) model ∷ 0 ∷ noRecord)) ⌝ }
+{
+    let time = get_word(calls, at + 8);
+    let inflight = get_word(calls, at + 16);
+    let packet = get_word(calls, at + 24);
+    let bytes = get_word(calls, at + 32);
+    let changed = model.on_packet_sent(Moment(time), inflight, packet, bytes);
+    let reply = changed.reply;
+    put_answer(answers, to, reply.row(), 0, &no_record());
+    changed.model
+}
+
+// Call 3, an event's start.
+pub(crate) fn start(
+    model: NetworkModel,
+    calls: &[u8],
+    at: usize,
+    answers: &mut [u8],
+    to: usize,
+) -> NetworkModel
+    requires { ⌜ (at + 392 ≤ length (now calls)) × (to + 144 ≤ length (now answers)) ⌝ }
+    ensures { λ r. ⌜ r ≡ startedLeaves (callAt (now (calls .entry)) at) model ⌝ }
+    ensures { λ _. ⌜ now (answers .exit) ≡ sets (now (answers .entry)) to (allBytes (startedNumber (callAt (now (calls .entry)) at) model ∷ 0 ∷ recordWords (startedRecord (callAt (now (calls .entry)) at) model))) ⌝ }
+{
+    let words = call_at(calls, at);
+    let happened = event(model, &words);
+    let reply = happened.reply;
+    let record = happened.record;
+    put_answer(answers, to, reply.row(), 0, &record_words(record));
+    happened.model
+}
+
+// Call 4, an event's finish.
+pub(crate) fn end(
+    model: NetworkModel,
+    calls: &[u8],
+    at: usize,
+    answers: &mut [u8],
+    to: usize,
+) -> NetworkModel
+    requires { ⌜ (at + 392 ≤ length (now calls)) × (to + 144 ≤ length (now answers)) ⌝ }
+    ensures { λ r. ⌜ r ≡ finishedLeaves (callAt (now (calls .entry)) at) model ⌝ }
+    ensures { λ _. ⌜ now (answers .exit) ≡ sets (now (answers .entry)) to (allBytes (finishedNumber (callAt (now (calls .entry)) at) model ∷ 0 ∷ noRecord)) ⌝ }
+{
+    let words = call_at(calls, at);
+    let changed = finish(model, &words);
+    let reply = changed.reply;
+    put_answer(answers, to, reply.row(), 0, &no_record());
+    changed.model
+}
+
+// Every other call.
+pub(crate) fn other(
+    model: NetworkModel,
+    cycle: Cycle,
+    calls: &[u8],
+    at: usize,
+    answers: &mut [u8],
+    to: usize,
+) -> Turn
+    requires { ⌜ (at + 392 ≤ length (now calls)) × (to + 144 ≤ length (now answers)) ⌝ }
+    ensures { λ r. ⌜ r ≡ otherTurn (callAt (now (calls .entry)) at) model cycle ⌝ }
+    ensures { λ _. ⌜ now (answers .exit) ≡ sets (now (answers .entry)) to (allBytes (answerWords (otherTurn (callAt (now (calls .entry)) at) model cycle))) ⌝ }
+{
+    let words = call_at(calls, at);
+    let turn = carry_out(model, cycle, &words);
+    let record = turn.event;
+    put_answer(answers, to, turn.reply, turn.value, &record);
+    turn
+}
+
+// The words of the call at an index.
+fn call_at(calls: &[u8], at: usize) -> [u64; 49]
+    requires { ⌜ at + 392 ≤ length (now calls) ⌝ }
+    ensures { λ r. ⌜ r ≡ callAt (now (calls .entry)) at ⌝ }
+{
+    let mut words = [0u64; 49];
+    get_words(calls, at, &mut words);
+    words
+}
+
+// Writes an answer: the reply's number, the value and the record's words.
+fn put_answer(answers: &mut [u8], to: usize, reply: u64, value: u64, event: &[u64; 16])
+    requires { ⌜ (to + 144 ≤ length (now answers)) × (length (now event) ≡ 16) ⌝ }
+    ensures { λ _. ⌜ now (answers .exit) ≡ sets (now (answers .entry)) to (allBytes (reply ∷ value ∷ now (event .entry))) ⌝ }
+{
+    put_words(answers, to, &[reply, value]);
+    put_words(answers, to + 16, event);
+}
