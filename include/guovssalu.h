@@ -29,6 +29,8 @@ enum {
     GUOVSSALU_OUT_OF_BOUNDS = 1,
     GUOVSSALU_BAD_ARGUMENT = 2,
     GUOVSSALU_EARLIER_MOMENT = 3,
+    GUOVSSALU_LOWER_TOTAL = 4,
+    GUOVSSALU_FULL_COUNTER = 5,
     GUOVSSALU_SHORT_OUTPUT = 7
 };
 
@@ -76,6 +78,24 @@ uint64_t guovssalu_raise_inflight_high_slope(uint64_t rounds, uint64_t window, u
  * holds then, 7 for an output under 24 bytes a pair. */
 uint64_t guovssalu_filter_run(uint64_t window, const uint8_t *src, size_t src_len, uint8_t *out,
                               size_t out_len);
+
+/* ---- The model. */
+
+enum {
+    GUOVSSALU_STATE_BYTES = 400,
+    GUOVSSALU_CALL_BYTES = 392,
+    GUOVSSALU_ANSWER_BYTES = 144
+};
+
+/* Carries out calls in order on the state in lent bytes, and leaves the new state there: the model
+ * and its cycle, 50 words. A call has 49 words, its answer 18; docs/LAYOUT.md has them all. A call
+ * that is refused is answered with its number and changes nothing, and the run goes on. Bytes of
+ * answers past the last keep what they held. Begin with call 0, a start, on a state of zeros.
+ *
+ * Replies 1 for 400 bytes that encode no state, 2 for a state of another length, calls that are no
+ * whole number of 392 bytes or an unknown call, 7 for answers under 144 bytes a call. */
+uint64_t guovssalu_run(uint8_t *state, size_t state_len, const uint8_t *calls, size_t calls_len,
+                       uint8_t *answers, size_t answers_len);
 
 #ifdef __cplusplus
 }
