@@ -14,6 +14,11 @@ use Rattle.numbers.proofs.Closest.{closest-le}
 use Rattle.numbers.proofs.Rounding.{sizes, of-cut}
 use Rattle.numbers.proofs.Fields.{plain-bits, power-lt, power-value}
 
+-- a number that the format holds counts as a float without a gap
+pub whole-in-float : (f : Format) (n : ℕ) → n ≤ 2 ^ prec f → T (inFloat f (pos n))
+unfolding inFloat
+whole-in-float f n h = le→leb n (2 ^ prec f) h
+
 module _ (f : Format) (w : ℕ) {n k : ℕ} (W : top f ≤ 2 ^ w) (s : Spare (prec f) n k) where
   reach : k ≤ emax f
   reach = omega (arith, s .few, sizes f)
@@ -27,8 +32,7 @@ module _ (f : Format) (w : ℕ) {n k : ℕ} (W : top f ≤ 2 ^ w) (s : Spare (pr
 
   -- what is kept counts as a float without a gap
   pub kept-in-float : {m : ℕ} → m ≡ closest n (2 ^ k) → T (inFloat f (pos m))
-  unfolding inFloat
-  kept-in-float {m} e = le→leb m (2 ^ prec f) (rw e (closest-le n (2 ^ k) (2 ^ prec f) (s .cut .0)))
+  kept-in-float {m} e = whole-in-float f m (rw e (closest-le n (2 ^ k) (2 ^ prec f) (s .cut .0)))
 
   pub of-spare : {m : ℕ} → m ≡ closest n (2 ^ k) → mul f (ofInt f (pos m)) (ofBits f ((emax f + k) * hid f % 2 ^ w)) ≡ ofInt f (pos n)
   of-spare e = rw (e, shifted) (of-cut f n k (ofBits f ((emax f + k) * hid f)) (s .cut) (omega (arith, s .few, sizes f)) (power-value f k reach))

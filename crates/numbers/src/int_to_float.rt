@@ -1,4 +1,4 @@
-// A whole number as a float: Rust's `n as f32` and `n as f64`.
+// A whole number as a float: Rust's `n as f32` and `n as f64`. What the float can hold needs no cut.
 ghost use mathlib.Core.Path.{_≡_};
 ghost use Prim.Native.Nat.{_^_, _<_};
 ghost use lib.Ieee.{binary32, binary64};
@@ -39,6 +39,9 @@ fn round_shift(n: u64, k: u64) -> u64
 pub fn to_f32(n: u64) -> f32
     ensures { λ r. ⌜ r ≡ intToFloat binary32 n ⌝ }
 {
+    if n <= 0x100_0000 {
+        return n as f32;
+    }
     let k: u64 = spare_digits(n, 24);
     let digits: u64 = round_shift(n, k);
     (digits as f32) * f32::from_bits(((127 + k) as u32) << 23)
@@ -48,6 +51,9 @@ pub fn to_f32(n: u64) -> f32
 pub fn to_f64(n: u64) -> f64
     ensures { λ r. ⌜ r ≡ intToFloat binary64 n ⌝ }
 {
+    if n <= 0x20_0000_0000_0000 {
+        return n as f64;
+    }
     let k: u64 = spare_digits(n, 53);
     let digits: u64 = round_shift(n, k);
     (digits as f64) * f64::from_bits((1023 + k) << 52)
