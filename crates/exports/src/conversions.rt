@@ -3,15 +3,14 @@ ghost use mathlib.Core.Path.{_≡_};
 ghost use Rattle.exports.specs.Conversions.{f32Bits, f64Bits, f32ToU64, f64RoundToU64, scaledBy, bandwidthBy, bytesIn};
 use filters::Bandwidth;
 use filters::Duration;
-use numbers::round_to_u64;
+use numbers::pattern_round_to_u64;
+use numbers::pattern_to_u64;
 use numbers::scale;
 use numbers::to_f32;
 use numbers::to_f64;
-use numbers::to_u64;
 use words::float_bits::f32_bits;
 use words::float_bits::f32_of;
 use words::float_bits::f64_bits;
-use words::float_bits::f64_of;
 
 // n as an `f32`.
 #[no_mangle]
@@ -34,7 +33,7 @@ pub extern "C" fn guovssalu_u64_to_f64(n: u64) -> u64
 pub extern "C" fn guovssalu_f32_to_u64(bits: u32) -> u64
     ensures { λ r. ⌜ r ≡ f32ToU64 bits ⌝ }
 {
-    to_u64(f32_of(bits))
+    pattern_to_u64(bits)
 }
 
 // An `f64` to the nearest whole number.
@@ -42,7 +41,7 @@ pub extern "C" fn guovssalu_f32_to_u64(bits: u32) -> u64
 pub extern "C" fn guovssalu_f64_round_to_u64(bits: u64) -> u64
     ensures { λ r. ⌜ r ≡ f64RoundToU64 bits ⌝ }
 {
-    round_to_u64(f64_of(bits))
+    pattern_round_to_u64(bits)
 }
 
 // n times an `f32`, as a byte count is scaled.

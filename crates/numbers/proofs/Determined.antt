@@ -18,6 +18,12 @@ one-to-u64 κs a x y s t p q = p ∙ sym q
 pub one-round-to-u64 : OneReply float-to-int.round_to_u64.Reads.Learnt
 one-round-to-u64 κs a x y s t p q = p ∙ sym q
 
+pub one-pattern-to-u64 : OneReply float-to-int.pattern_to_u64.Reads.Learnt
+one-pattern-to-u64 κs a x y s t p q = p ∙ sym q
+
+pub one-pattern-round-to-u64 : OneReply float-to-int.pattern_round_to_u64.Reads.Learnt
+one-pattern-round-to-u64 κs a x y s t p q = p ∙ sym q
+
 pub one-scale : OneReply scaling.scale.Reads.Learnt
 one-scale κs a x y s t p q = p ∙ sym q
 

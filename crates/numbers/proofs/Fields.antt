@@ -7,17 +7,17 @@ use native.Mathlib.Nat.{lt-of-lt-of-le, lt-of-le-of-lt, one-mul, mul-one, mul-as
 use native.Mathlib.Nat.{mul-div-mul-right, mul-mod-left, mod-lt, mod-eq-of-lt, min-eq-left, min-eq-right}
 use native.Mathlib.Numerals.{sub-one}
 use native.Mathlib.Omega.{arith}
-use lib.Dec.{T, eqb}
+use lib.Dec.{T, eqb, lit<}
 use lib.Arith.{le→nltb}
 use lib.Pow.{pow-add, pow-pos, pow-mono, shl-lt, shl-exact, shr-le, le-ones}
 use lib.Bits.{bitAnd, bitOr, and-mask, or-shifted-r}
 use lib.Ieee.{Float, nan, inf, fin, Format, binary32, binary64, prec, emax, low, up, down, odd, hid, ones, top, ofFields, ofBits, toUnsigned, isNan, nanBits, ne}
-use lib.Ieee.Bits.{nanBits-above}
+use lib.Ieee.Bits.{nanBits-is, nanBits-above}
 use lib.Ieee.Compare.{nan-differs}
 use lib.Ieee.Fits.{down-pos}
 use lib.Ieee.Exact.{HasValue, odd-sign}
 use lib.Ieee.Nearest.{div-same}
-use borrow.Author.Tests.{le-leb, lt-leb, ne-eqb}
+use borrow.Author.Tests.{lt-ltb, le-leb, lt-leb, ne-eqb}
 use Rattle.numbers.proofs.Closest.{le-or-lt, halves}
 use Rattle.numbers.proofs.Rounding.{sizes, same-value}
 
@@ -36,8 +36,29 @@ no-nan nan h = absurd (true≢false (sym nan-differs ∙ h))
 no-nan (inf s) h = tt
 no-nan (fin s m e) h = tt
 
+nan-is : (x : Float) → isNan x ≡ true → x ≡ nan
+unfolding isNan
+nan-is nan h = refl
+nan-is (inf s) h = absurd (true≢false (sym h))
+nan-is (fin s m e) h = absurd (true≢false (sym h))
+
+-- the patterns above an infinity's are a NaN's, and no other
+above-infinite : (f : Format) → ones f * hid f < top f
+above-infinite binary32 = lit< tt
+above-infinite binary64 = lit< tt
+
+pub below-top : (f : Format) {b : ℕ} → b ≤ ones f * hid f → b < top f
+below-top f h = lt-of-le-of-lt h (above-infinite f)
+
 pub plain-bits : (f : Format) (b : ℕ) → b % top f ≤ ones f * hid f → T (not (nanBits f b))
 plain-bits f b h = rw nanBits-above (le→nltb (ones f * hid f) (b % top f) h)
+
+pub plain-float : (f : Format) (b : ℕ) → b ≤ ones f * hid f → T (not (isNan (ofBits f b)))
+plain-float f b h =
+    rw (← nanBits-is f b) (plain-bits f b (rw (mod-eq-of-lt (below-top f h)) h))
+
+pub nan-bits : (f : Format) (b : ℕ) → ones f * hid f < b % top f → ofBits f b ≡ nan
+nan-bits f b h = nan-is (ofBits f b) (sym (nanBits-is f b) ∙ nanBits-above f b ∙ lt-ltb (ones f * hid f) (b % top f) h)
 
 -- ---- a NaN, and what has the sign: as an unsigned integer it is 0
 abbrev pub nothing : Float → Bool
@@ -74,6 +95,12 @@ nothing-fields f (suc x) t = go (eqb (suc x) (ones f)) (eqb t 0)
 pub nothing-negative : (f : Format) (b : ℕ) → top f ≤ b → T (nothing (ofBits f b))
 unfolding ofBits
 nothing-negative f b h = rw (le-leb (top f) b h) (nothing-fields f (b % top f / hid f) (b % hid f))
+
+pub nothing-above : (f : Format) (b : ℕ) → ones f * hid f < b → T (nothing (ofBits f b))
+nothing-above f b h = elim (le-or-lt (top f) b) [
+  | inl t ↦ nothing-negative f b t
+  | inr t ↦ rw (nan-bits f b (rw (mod-eq-of-lt t) h)) tt
+]
 
 -- ---- the value of a pattern
 -- the digits, with the leading one where the exponent's field is not 0

@@ -1,6 +1,6 @@
 // A float as a whole number: Rust's `x as u64` for an `f32`, and `x.round() as u64` for an `f64`.
 ghost use mathlib.Core.Path.{_≡_};
-ghost use lib.Ieee.{binary64};
+ghost use lib.Ieee.{binary32, binary64, ofBits};
 ghost use Rattle.numbers.specs.FloatToInt.{floatToInt, roundAway};
 
 // x without its fraction; 0 for a NaN or a negative, 2^64 - 1 for what is too large.
@@ -10,8 +10,14 @@ pub fn to_u64(x: f32) -> u64
     if x != x {
         return 0;
     }
-    let bits: u32 = f32::to_bits(x);
-    if bits >= 0x8000_0000 {
+    pattern_to_u64(f32::to_bits(x))
+}
+
+// The same of a pattern. Those above an infinity's are a NaN's or have the sign.
+pub fn pattern_to_u64(bits: u32) -> u64
+    ensures { λ r. ⌜ r ≡ floatToInt 64 (ofBits binary32 bits) ⌝ }
+{
+    if bits > 0x7f80_0000 {
         return 0;
     }
     let exponent: u32 = bits >> 23;
@@ -37,8 +43,14 @@ pub fn round_to_u64(x: f64) -> u64
     if x != x {
         return 0;
     }
-    let bits: u64 = f64::to_bits(x);
-    if bits >= 0x8000_0000_0000_0000 {
+    pattern_round_to_u64(f64::to_bits(x))
+}
+
+// The same of a pattern.
+pub fn pattern_round_to_u64(bits: u64) -> u64
+    ensures { λ r. ⌜ r ≡ floatToInt 64 (roundAway binary64 (ofBits binary64 bits)) ⌝ }
+{
+    if bits > 0x7ff0_0000_0000_0000 {
         return 0;
     }
     let exponent: u64 = bits >> 52;

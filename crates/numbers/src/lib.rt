@@ -4,6 +4,8 @@ pub mod int_to_float;
 pub mod order;
 pub mod scaling;
 
+pub use float_to_int::pattern_round_to_u64;
+pub use float_to_int::pattern_to_u64;
 pub use float_to_int::round_to_u64;
 pub use float_to_int::to_u64;
 pub use int_to_float::to_f32;

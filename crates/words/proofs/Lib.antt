@@ -1,5 +1,4 @@
--- Laws of stores, words and floats' bits, for the proofs of this crate and of those above it.
-pub mod Floats
+-- Laws of stores and words, for the proofs of this crate and of those above it.
 pub mod Stores
 pub mod Laws
 pub mod Turns

@@ -3,7 +3,7 @@ use mathlib.Core.Path.{refl, sym, ap, subst}
 use lib.Dec.{T}
 use lib.Ieee.{binary32, toBits}
 use lib.Ieee.Compare.{differs-from-itself}
-use Rattle.words.proofs.Floats.{no-nan}
+use Rattle.numbers.proofs.Fields.{no-nan}
 use Rattle.words.proofs.float_bits.f32_bits.Statement.{statement}
 use Rattle.words.proofs.float_bits.f32_bits.Tie as tie
 

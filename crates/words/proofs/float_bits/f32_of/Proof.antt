@@ -1,7 +1,7 @@
 -- `words::f32_of` meets its contract: the patterns above an infinity's are a NaN's, and no other. Assumes nothing.
 use mathlib.Core.Path.{refl, sym}
 use lib.Ieee.{binary32, div, ofBits}
-use Rattle.words.proofs.Floats.{plain-bits, nan-bits}
+use Rattle.numbers.proofs.Fields.{plain-bits, nan-bits}
 use Rattle.words.proofs.float_bits.f32_of.Statement.{statement}
 use Rattle.words.proofs.float_bits.f32_of.Tie as tie
 
