@@ -1,5 +1,5 @@
 # make run: proves, builds and runs the demonstration. make test: the whole gate.
-.PHONY: run test drift picture lists clean
+.PHONY: run test drift picture lists rust bench clean
 
 run:
 	rt check show
@@ -33,5 +33,27 @@ lists:
 		mv target/lists/$$program/* crates/$$program/data/; \
 	done
 
+# The archive of the exported calls, and the Rust package over it: its tests and its example. The archive is for
+# x86-64; another machine can only check the package.
+CARGO = CARGO_TARGET_DIR=$(CURDIR)/target/cargo cargo
+rust:
+	rt staticlib exports
+	@if [ "$$(uname -m)" = x86_64 ]; then \
+		$(CARGO) test --manifest-path rust/Cargo.toml && \
+		$(CARGO) run --quiet --manifest-path rust/Cargo.toml --example loss_episode; \
+	else \
+		echo "The archive is for x86-64, and this machine is $$(uname -m): the package is checked, not run."; \
+		$(CARGO) check --all-targets --manifest-path rust/Cargo.toml; \
+	fi
+
+# The port beside the original, in one process (docs/BENCHMARKS.md).
+bench:
+	@[ "$$(uname -m)" = x86_64 ] || { \
+		echo "The archive is for x86-64, and this machine is $$(uname -m): the port can't be timed here."; \
+		exit 1; \
+	}
+	rt staticlib exports
+	$(CARGO) run --release --quiet --manifest-path bench/Cargo.toml
+
 clean:
-	rm -rf target oracle/target
+	rm -rf target oracle/target rust/target bench/target

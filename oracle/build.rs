@@ -1,7 +1,8 @@
 //! Lays out, in the build folder, the module tree of the original: links to
 //! its files, which stay where they are and as they are, and between them the
 //! stubs of this package. A file that something is appended to becomes two
-//! `include!` lines, the link to the original first.
+//! `include!` lines, the link to the original first. The package bench, beside
+//! this one, is built from the same tree by the same script.
 
 use std::env;
 use std::fs;
@@ -72,13 +73,14 @@ const DEFAULT_PLACE: &str = "../../shared/docs/src";
 
 fn main() {
     println!("cargo:rerun-if-env-changed=ORIGINAL");
-    println!("cargo:rerun-if-changed=build.rs");
+    println!("cargo:rerun-if-changed=../oracle/build.rs");
 
     let package = PathBuf::from(env::var_os("CARGO_MANIFEST_DIR").unwrap());
     let out = PathBuf::from(env::var_os("OUT_DIR").unwrap());
 
     let original = find_original(&package);
-    if let Err(error) = lay_out(&original, &package, &out) {
+    let oracle = package.join("../oracle");
+    if let Err(error) = lay_out(&original, &oracle, &out) {
         fail(&format!("The module tree can't be laid out: {error}."));
     }
 }
@@ -106,7 +108,7 @@ fn find_original(package: &Path) -> PathBuf {
     ))
 }
 
-fn lay_out(original: &Path, package: &Path, out: &Path) -> io::Result<()> {
+fn lay_out(original: &Path, oracle: &Path, out: &Path) -> io::Result<()> {
     let tree = out.join("recovery");
     if tree.exists() {
         fs::remove_dir_all(&tree)?;
@@ -118,7 +120,7 @@ fn lay_out(original: &Path, package: &Path, out: &Path) -> io::Result<()> {
 
         match part {
             Original => link(&original.join(file), &place)?,
-            Stub(name) => link(&package.join("src/stubs").join(name), &place)?,
+            Stub(name) => link(&oracle.join("src/stubs").join(name), &place)?,
             Appended(name) => {
                 // The link stands in the folder in which `mod` lines of the
                 // original have to find their files.
@@ -131,7 +133,7 @@ fn lay_out(original: &Path, package: &Path, out: &Path) -> io::Result<()> {
                 let whole = children.join("original.rs");
                 link(&original.join(file), &whole)?;
 
-                let appended = package.join("src/appended").join(name);
+                let appended = oracle.join("src/appended").join(name);
                 println!("cargo:rerun-if-changed={}", appended.display());
                 fs::write(
                     &place,

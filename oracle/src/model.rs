@@ -331,7 +331,7 @@ impl Record {
 
 impl Sample {
     /// The sampler's answer of these 21 arguments.
-    fn of(numbers: &[u64]) -> Sample {
+    pub fn of(numbers: &[u64]) -> Sample {
         Sample {
             bandwidth: to_option(numbers),
             send_rate: to_option(&numbers[2..]),

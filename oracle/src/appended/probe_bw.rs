@@ -111,6 +111,67 @@ impl Host {
         self.last = state[33];
     }
 
+    /// A packet is sent.
+    pub fn sent(&mut self, moment: u64, in_flight: u64, number: u64, bytes: u64) {
+        self.last = moment.max(self.last);
+        let now = self.base + Duration::from_nanos(moment);
+        let model = &mut self.probe.model;
+        model.on_packet_sent(now, in_flight as usize, number, bytes as usize, true)
+    }
+
+    /// Sets the current record; the original isn't called.
+    pub fn record(&mut self, record: &Record) {
+        self.event = event_of(record, self.base);
+    }
+
+    /// The numbers of the current record.
+    pub fn recorded(&self) -> [u64; 16] {
+        self.recorded_at(whole_nanos(self.event.event_time - self.base))
+    }
+
+    /// The same, where its moment is known.
+    pub fn recorded_at(&self, moment: u64) -> [u64; 16] {
+        let event = &self.event;
+        let bandwidth = event.sample_max_bandwidth;
+        let [bandwidth_set, bandwidth] = option(bandwidth.map(Bandwidth::to_bits_per_second));
+        let [rtt_set, rtt] = option(event.sample_min_rtt.map(whole_nanos));
+        let send_state = &event.last_packet_send_state;
+        [
+            moment,
+            event.prior_cwnd as u64,
+            event.prior_bytes_in_flight as u64,
+            event.bytes_in_flight as u64,
+            event.bytes_acked as u64,
+            event.bytes_lost as u64,
+            event.end_of_round_trip as u64,
+            event.is_probing_for_bandwidth as u64,
+            bandwidth_set,
+            bandwidth,
+            rtt_set,
+            rtt,
+            send_state.is_valid as u64,
+            send_state.is_app_limited as u64,
+            send_state.total_bytes_acked as u64,
+            send_state.bytes_in_flight as u64,
+        ]
+    }
+
+    /// An event, whose record is the current one; `moment` is the record's.
+    pub fn event(&mut self, moment: u64, sample: &Sample) {
+        self.last = moment.max(self.last);
+        let time_sent = self.base;
+        let acked = sample.acked.map(|pkt_num| Acked { pkt_num, time_sent });
+        let acked = &acked[..sample.acked_length];
+        let model = &mut self.probe.model;
+        model.hand_in(answer_of(sample));
+        model.on_congestion_event_start(acked, &[], &mut self.event, &self.params)
+    }
+
+    /// The current event is over.
+    pub fn finish(&mut self) {
+        self.probe.model.on_congestion_event_finish(0, &self.event)
+    }
+
     /// Makes one call; the answer, 0 where the call answers nothing.
     pub fn call(&mut self, call: &Call) -> u64 {
         let Host {
@@ -134,24 +195,13 @@ impl Host {
                 in_flight,
                 number,
                 bytes,
-            } => {
-                let now = accept(moment);
-                model.on_packet_sent(now, in_flight as usize, number, bytes as usize, true)
-            }
-            Call::Record(record) => *event = event_of(&record, base),
+            } => self.sent(moment, in_flight, number, bytes),
+            Call::Record(record) => self.record(&record),
             Call::Event(sample) => {
-                accept(whole_nanos(event.event_time - base));
-                let acked = sample.acked[..sample.acked_length].iter();
-                let acked: Vec<Acked> = acked
-                    .map(|&pkt_num| Acked {
-                        pkt_num,
-                        time_sent: base,
-                    })
-                    .collect();
-                model.hand_in(answer_of(&sample));
-                model.on_congestion_event_start(&acked, &[], event, params)
+                let moment = whole_nanos(event.event_time - base);
+                self.event(moment, &sample)
             }
-            Call::Finish => model.on_congestion_event_finish(0, event),
+            Call::Finish => self.finish(),
             Call::ExpireMinRtt => return model.maybe_expire_min_rtt(event, params) as u64,
             Call::InflightTooHigh { max_loss_events } => {
                 let most = max_loss_events as usize;
@@ -197,9 +247,7 @@ impl Host {
     }
 
     pub fn state(&self) -> State {
-        let Host {
-            base, probe, event, ..
-        } = self;
+        let Host { base, probe, .. } = self;
         let moment = |moment: Instant| whole_nanos(moment - *base);
         let cycle = &probe.cycle;
         let mut state = [0; 66];
@@ -234,28 +282,7 @@ impl Host {
             cycle.last_cycle_stopped_risky_probe as u64,
         ]);
 
-        let bandwidth = event.sample_max_bandwidth;
-        let [bandwidth_set, bandwidth] = option(bandwidth.map(Bandwidth::to_bits_per_second));
-        let [rtt_set, rtt] = option(event.sample_min_rtt.map(whole_nanos));
-        let send_state = &event.last_packet_send_state;
-        state[50..].copy_from_slice(&[
-            moment(event.event_time),
-            event.prior_cwnd as u64,
-            event.prior_bytes_in_flight as u64,
-            event.bytes_in_flight as u64,
-            event.bytes_acked as u64,
-            event.bytes_lost as u64,
-            event.end_of_round_trip as u64,
-            event.is_probing_for_bandwidth as u64,
-            bandwidth_set,
-            bandwidth,
-            rtt_set,
-            rtt,
-            send_state.is_valid as u64,
-            send_state.is_app_limited as u64,
-            send_state.total_bytes_acked as u64,
-            send_state.bytes_in_flight as u64,
-        ]);
+        state[50..].copy_from_slice(&self.recorded());
         state
     }
 }

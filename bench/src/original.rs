@@ -1,0 +1,142 @@
+//! The original's side. It reads the bytes that the port reads and writes the bytes that the port
+//! writes; its parameters it has from the start.
+
+use std::time::Duration;
+
+use crate::inputs::bytes;
+use crate::inputs::ANSWER;
+use crate::inputs::CALL;
+use crate::inputs::STATE;
+use crate::model::Host;
+use crate::model::Record;
+use crate::model::Sample;
+use crate::model::Start;
+use crate::recovery::bandwidth::Bandwidth;
+use crate::recovery::gcongestion::WindowedFilter;
+
+/// The functions on single numbers. The port's are behind a call that can't be folded into the
+/// loop around it, so neither are these.
+pub mod numbers {
+    use super::*;
+
+    #[inline(never)]
+    pub fn u64_to_f32(n: u64) -> f32 {
+        n as f32
+    }
+
+    #[inline(never)]
+    pub fn u64_to_f64(n: u64) -> f64 {
+        n as f64
+    }
+
+    #[inline(never)]
+    pub fn f32_to_u64(x: f32) -> u64 {
+        x as u64
+    }
+
+    #[inline(never)]
+    pub fn f64_round_to_u64(x: f64) -> u64 {
+        x.round() as u64
+    }
+
+    #[inline(never)]
+    pub fn scale(n: u64, gain: f32) -> u64 {
+        (n as f32 * gain) as u64
+    }
+
+    #[inline(never)]
+    pub fn bandwidth_mul_f32(bandwidth: Bandwidth, gain: f32) -> Bandwidth {
+        bandwidth * gain
+    }
+
+    #[inline(never)]
+    pub fn to_bytes_per_period(bandwidth: Bandwidth, nanos: u64) -> u64 {
+        bandwidth.to_bytes_per_period(Duration::from_nanos(nanos))
+    }
+}
+
+#[inline(never)]
+pub fn filter_run(window: u64, pairs: &[u8], out: &mut [u8]) {
+    let mut filter: WindowedFilter<u64, usize, usize> = WindowedFilter::new(window as usize);
+    for (pair, out) in pairs.chunks_exact(16).zip(out.chunks_exact_mut(24)) {
+        let [time, sample] = words(pair, 0);
+        filter.update(sample, time as usize);
+        let samples = [
+            filter.get_best().unwrap_or(0),
+            filter.get_second_best().unwrap_or(0),
+            filter.get_third_best().unwrap_or(0),
+        ];
+        for (out, sample) in out.chunks_exact_mut(8).zip(samples) {
+            out.copy_from_slice(&sample.to_le_bytes());
+        }
+    }
+}
+
+/// A model, its cycle and the event at hand.
+pub struct Model(Host);
+
+impl Model {
+    pub fn new(start: &Start) -> Self {
+        Model(Host::new(start))
+    }
+
+    pub fn state(&self) -> Vec<u8> {
+        bytes(&self.0.state()[..STATE / 8])
+    }
+
+    /// Sends, events and their finish, as bytes.
+    #[inline(never)]
+    pub fn run(&mut self, calls: &[u8], answers: &mut [u8]) {
+        let host = &mut self.0;
+        let answers = answers.chunks_exact_mut(ANSWER);
+        for (call, answer) in calls.chunks_exact(CALL).zip(answers) {
+            answer.fill(0);
+            match word(call, 0) {
+                1 => host.sent(word(call, 1), word(call, 2), word(call, 3), word(call, 4)),
+                3 => {
+                    let moment = word(call, 22);
+                    host.record(&Record::of(&words::<16>(call, 22)));
+                    host.event(moment, &Sample::of(&words::<21>(call, 1)));
+                    let record = host.recorded_at(moment);
+                    for (out, word) in answer[16..].chunks_exact_mut(8).zip(record) {
+                        out.copy_from_slice(&word.to_le_bytes());
+                    }
+                }
+                _ => {
+                    host.record(&Record::of(&words::<16>(call, 22)));
+                    host.finish();
+                }
+            }
+        }
+    }
+
+    /// The same, one by one.
+    #[inline(never)]
+    pub fn send(&mut self, [moment, in_flight, number, bytes]: [u64; 4]) {
+        self.0.sent(moment, in_flight, number, bytes)
+    }
+
+    #[inline(never)]
+    pub fn event(&mut self, record: &Record, sample: &Sample) -> [u64; 16] {
+        self.0.record(record);
+        self.0.event(record.event_time, sample);
+        self.0.recorded_at(record.event_time)
+    }
+
+    #[inline(never)]
+    pub fn finish(&mut self) {
+        self.0.finish()
+    }
+}
+
+fn word(bytes: &[u8], at: usize) -> u64 {
+    u64::from_le_bytes(bytes[8 * at..8 * at + 8].try_into().unwrap())
+}
+
+fn words<const N: usize>(bytes: &[u8], at: usize) -> [u64; N] {
+    let mut words = [0; N];
+    for (word, bytes) in words.iter_mut().zip(bytes[8 * at..].chunks_exact(8)) {
+        *word = u64::from_le_bytes(bytes.try_into().unwrap());
+    }
+    words
+}

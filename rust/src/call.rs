@@ -1,0 +1,166 @@
+use crate::foreign;
+use crate::words;
+use crate::CongestionEvent;
+use crate::Params;
+use crate::Refusal;
+use crate::Sample;
+
+/// Bytes of a state: the model's, then the cycle's.
+pub const STATE_BYTES: usize = 400;
+
+/// One call as bytes, for [`run`]: its number, its arguments, the event's record and the parameters,
+/// as docs/LAYOUT.md numbers and orders them.
+///
+/// The methods of [`NetworkModel`](crate::NetworkModel) and [`Cycle`](crate::Cycle) make one call at
+/// a time. Whoever has many at hand writes their bytes one after the other and makes them all by one
+/// [`run`].
+#[derive(Clone, Copy, Debug, PartialEq, Eq)]
+pub struct Call {
+    bytes: [u8; Call::BYTES],
+}
+
+impl Call {
+    /// Bytes of a call.
+    pub const BYTES: usize = 392;
+
+    /// The most arguments of a call.
+    pub const ARGUMENTS: usize = 21;
+
+    const EVENT: usize = 22;
+    const PARAMS: usize = 38;
+
+    /// The call of a number, with its arguments in order; the others are 0.
+    ///
+    /// # Panics
+    ///
+    /// If there are more than [`Call::ARGUMENTS`].
+    pub fn new(number: u64, arguments: &[u64]) -> Self {
+        assert!(arguments.len() <= Call::ARGUMENTS, "too many arguments");
+        let mut bytes = [0; Call::BYTES];
+        words::put(&mut bytes, 0, number);
+        for (at, argument) in arguments.iter().enumerate() {
+            words::put(&mut bytes, 1 + at, *argument);
+        }
+        Call { bytes }
+    }
+
+    /// Call 3, an event. Of the packets acked the last three are handed on: only the last counts.
+    pub fn on_congestion_event_start(
+        acked_packets: &[u64],
+        event: &CongestionEvent,
+        sample: &Sample,
+        params: &Params,
+    ) -> Self {
+        let mut call = Call::new(3, &[]).with_event(event).with_params(params);
+        let bytes = &mut call.bytes;
+        words::put_bandwidth(bytes, 1, sample.sample_max_bandwidth);
+        words::put_bandwidth(bytes, 3, sample.sample_max_send_rate);
+        words::put_bandwidth(bytes, 5, sample.sample_max_ack_rate);
+        words::put_flag(bytes, 7, sample.sample_is_app_limited);
+        words::put_length(bytes, 8, sample.sample_rtt);
+        words::put(bytes, 10, sample.sample_max_inflight);
+        words::put(bytes, 11, sample.extra_acked);
+        words::put_send_state(bytes, 12, &sample.last_packet_send_state);
+        words::put(bytes, 16, sample.total_bytes_acked);
+        words::put(bytes, 17, sample.total_bytes_lost);
+
+        let last = &acked_packets[acked_packets.len().saturating_sub(3)..];
+        words::put(bytes, 18, last.len() as u64);
+        for (at, packet) in last.iter().enumerate() {
+            words::put(bytes, 19 + at, *packet);
+        }
+        call
+    }
+
+    /// The call with an event's record.
+    pub fn with_event(mut self, event: &CongestionEvent) -> Self {
+        words::put_event(&mut self.bytes, Call::EVENT, event);
+        self
+    }
+
+    /// The call with parameters.
+    pub fn with_params(mut self, params: &Params) -> Self {
+        words::put_params(&mut self.bytes, Call::PARAMS, params);
+        self
+    }
+
+    /// Its bytes.
+    pub fn as_bytes(&self) -> &[u8; Call::BYTES] {
+        &self.bytes
+    }
+
+    /// Makes the call alone. Where it is refused the state is no more to be used.
+    pub(crate) fn make(&self, state: &mut [u8; STATE_BYTES]) -> Result<Answer, Refusal> {
+        let mut answer = Answer {
+            bytes: [0; Answer::BYTES],
+        };
+        run(state, &self.bytes, &mut answer.bytes)?;
+        answer.number()?;
+        Ok(answer)
+    }
+}
+
+/// A call's answer as bytes, from [`run`].
+#[derive(Clone, Copy, Debug, PartialEq, Eq)]
+pub struct Answer {
+    bytes: [u8; Answer::BYTES],
+}
+
+impl Answer {
+    /// Bytes of an answer.
+    pub const BYTES: usize = 144;
+
+    /// The answer of these bytes.
+    pub fn from_bytes(bytes: &[u8; Answer::BYTES]) -> Self {
+        Answer { bytes: *bytes }
+    }
+
+    /// What the call answered: a number, a flag (0 or 1) or the bits of a gain, 0 where it answers
+    /// nothing; or why it was refused.
+    ///
+    /// # Panics
+    ///
+    /// If the bytes are none of a run's.
+    pub fn number(&self) -> Result<u64, Refusal> {
+        Refusal::of(words::get(&self.bytes, 0))?;
+        Ok(words::get(&self.bytes, 1))
+    }
+
+    /// The event's record after call 3; all zeros after the others.
+    pub fn event(&self) -> CongestionEvent {
+        words::get_event(&self.bytes, 2)
+    }
+}
+
+/// Makes many calls, one after the other, on the state in lent bytes.
+///
+/// `state` is [`STATE_BYTES`] long, `calls` has [`Call::BYTES`] for each call, and `answers` room for
+/// [`Answer::BYTES`] each; what it has beyond them keeps its bytes. A call that is refused says so
+/// in its answer, and the run goes on.
+///
+/// # Errors
+///
+/// `OutOfBounds` for bytes that encode no state; `BadArgument` for a state of another length, calls
+/// not in whole records or a number that is no call's; `ShortOutput` for answers without room. Then
+/// no byte is changed.
+///
+/// ```
+/// use guovssalu::{run, Answer, Call, Params, STATE_BYTES};
+///
+/// let mut calls = Vec::new();
+/// // A start at moment 0 with a round trip of 100 ms, a send, and the question for inflight_lo.
+/// calls.extend(Call::new(0, &[0, 100_000_000]).with_params(&Params::default()).as_bytes());
+/// calls.extend(Call::new(1, &[1_000, 0, 1, 1_200]).as_bytes());
+/// calls.extend(Call::new(35, &[]).as_bytes());
+///
+/// let mut state = [0; STATE_BYTES];
+/// let mut answers = [0; 3 * Answer::BYTES];
+/// run(&mut state, &calls, &mut answers)?;
+/// // It is not set yet.
+/// let last = answers[2 * Answer::BYTES..].try_into().unwrap();
+/// assert_eq!(Answer::from_bytes(last).number(), Ok(u64::MAX));
+/// # Ok::<(), guovssalu::Refusal>(())
+/// ```
+pub fn run(state: &mut [u8], calls: &[u8], answers: &mut [u8]) -> Result<(), Refusal> {
+    Refusal::of(foreign::run(state, calls, answers))
+}

@@ -1,0 +1,81 @@
+//! The BBRv2 network model of quiche 0.30.0, proved in Rattle, for Rust: a safe wrapper over the
+//! archive that `rt staticlib exports` writes for x86-64.
+//!
+//! A [`NetworkModel`] and a [`Cycle`] hold their state as bytes, and their methods have the
+//! original's names. Each call is done, or it is refused with a [`Refusal`] and changes nothing. The
+//! clock is the caller's: a [`Moment`] is a number of nanoseconds after a base moment of its choice.
+//! Nothing allocates and nothing is kept between calls.
+//!
+//! What is proved is what the archive does with the bytes it is lent. This crate, which writes and
+//! reads those bytes, is tested.
+//!
+//! # A loss
+//!
+//! A packet is lost in a window of 1300 bytes. With beta 0.3 the lower bound of the inflight becomes
+//! 910 bytes.
+//!
+//! ```
+//! use guovssalu::{CongestionEvent, Duration, Moment, NetworkModel, Params, Refusal, Sample};
+//!
+//! let params = Params::default();
+//! let mut model = NetworkModel::new(&params, Duration::from_millis(100), Moment::from_nanos(0))?;
+//! assert_eq!(model.inflight_lo(), Ok(NetworkModel::UNSET));
+//!
+//! let sent = Moment::from_nanos(1_000);
+//! model.on_packet_sent(sent, 0, 1, 1300)?;
+//!
+//! let mut event = CongestionEvent::new(sent + Duration::from_millis(50), 1300, 1300, false);
+//! let sample = Sample {
+//!     total_bytes_lost: 1300,
+//!     ..Sample::default()
+//! };
+//! model.on_congestion_event_start(&[1], &mut event, &sample, &params)?;
+//! assert!(event.end_of_round_trip);
+//! assert_eq!(event.bytes_lost, 1300);
+//! model.on_congestion_event_finish(&event)?;
+//! assert_eq!(model.inflight_lo(), Ok(910));
+//!
+//! // An earlier moment is refused, and nothing changes.
+//! let refused = model.on_packet_sent(sent, 0, 2, 1300);
+//! assert_eq!(refused, Err(Refusal::EarlierMoment));
+//! assert_eq!(model.last_sent_packet(), 1);
+//! # Ok::<(), Refusal>(())
+//! ```
+
+#![deny(unsafe_code)]
+#![deny(missing_docs)]
+
+mod bandwidth;
+mod call;
+mod cycle;
+mod event;
+mod foreign;
+mod model;
+mod numbers;
+mod params;
+mod refusal;
+mod time;
+mod words;
+
+pub use bandwidth::Bandwidth;
+pub use call::run;
+pub use call::Answer;
+pub use call::Call;
+pub use call::STATE_BYTES;
+pub use cycle::Cycle;
+pub use cycle::Phase;
+pub use event::CongestionEvent;
+pub use event::Sample;
+pub use event::SendTimeState;
+pub use model::NetworkModel;
+pub use numbers::f32_to_u64;
+pub use numbers::f64_round_to_u64;
+pub use numbers::filter_run;
+pub use numbers::raise_inflight_high_slope;
+pub use numbers::scale;
+pub use numbers::u64_to_f32;
+pub use numbers::u64_to_f64;
+pub use params::Params;
+pub use refusal::Refusal;
+pub use time::Duration;
+pub use time::Moment;

@@ -1,0 +1,441 @@
+use std::convert::TryInto;
+
+use crate::call::STATE_BYTES;
+use crate::run;
+use crate::words;
+use crate::Answer;
+use crate::Bandwidth;
+use crate::Call;
+use crate::CongestionEvent;
+use crate::Cycle;
+use crate::Duration;
+use crate::Moment;
+use crate::Params;
+use crate::Refusal;
+use crate::Sample;
+
+/// The BBRv2 network model, the original's `BBRv2NetworkModel` in its default loss mode, with the
+/// original's names. Each call but those that only look at a stored number is one call of the
+/// archive: it is done, or it is refused and nothing changes.
+///
+/// Byte counts may be up to 2^40, totals up to 2^62, bandwidths up to 2^40 bits per second. What is
+/// unset among `inflight_lo`, `inflight_hi` and the round's smallest inflight is [`NetworkModel::UNSET`],
+/// as in the original.
+#[derive(Clone, Debug, PartialEq, Eq)]
+pub struct NetworkModel {
+    bytes: [u8; NetworkModel::BYTES],
+}
+
+impl NetworkModel {
+    /// Bytes of a model's state.
+    pub const BYTES: usize = 272;
+
+    /// The number that stands for an unset number of bytes, 2^64 - 1.
+    pub const UNSET: u64 = u64::MAX;
+
+    /// A fresh model at the moment `now`.
+    pub fn new(params: &Params, initial_rtt: Duration, now: Moment) -> Result<Self, Refusal> {
+        let arguments = [now.as_nanos(), initial_rtt.as_nanos()];
+        let mut model = NetworkModel {
+            bytes: [0; NetworkModel::BYTES],
+        };
+        model.make(&Call::new(0, &arguments).with_params(params))?;
+        Ok(model)
+    }
+
+    /// The bytes of its state, to be kept: words 0 to 33 of docs/LAYOUT.md.
+    pub fn as_bytes(&self) -> &[u8; NetworkModel::BYTES] {
+        &self.bytes
+    }
+
+    /// The model of bytes that were kept.
+    ///
+    /// # Errors
+    ///
+    /// `BadArgument` for another length, `OutOfBounds` for bytes that encode no state. Bytes that
+    /// encode a state with a number outside its bounds are taken, and refused by the calls.
+    pub fn from_bytes(bytes: &[u8]) -> Result<Self, Refusal> {
+        let bytes = bytes.try_into().map_err(|_| Refusal::BadArgument)?;
+        let model = NetworkModel { bytes };
+        let mut state = model.with(&Cycle::NONE);
+        run(&mut state, &[], &mut [])?;
+        Ok(model)
+    }
+
+    /// The bytes of a state with this model and a cycle.
+    fn with(&self, cycle: &[u8; Cycle::BYTES]) -> [u8; STATE_BYTES] {
+        let mut state = [0; STATE_BYTES];
+        state[..NetworkModel::BYTES].copy_from_slice(&self.bytes);
+        state[NetworkModel::BYTES..].copy_from_slice(cycle);
+        state
+    }
+
+    /// Makes a call on the model alone.
+    fn make(&mut self, call: &Call) -> Result<Answer, Refusal> {
+        let mut state = self.with(&Cycle::NONE);
+        let answer = call.make(&mut state)?;
+        self.bytes.copy_from_slice(&state[..NetworkModel::BYTES]);
+        Ok(answer)
+    }
+
+    /// Makes a call on the model and the bytes of a cycle.
+    pub(crate) fn make_with(
+        &mut self,
+        cycle: &mut [u8; Cycle::BYTES],
+        call: &Call,
+    ) -> Result<(), Refusal> {
+        let mut state = self.with(cycle);
+        call.make(&mut state)?;
+        self.bytes.copy_from_slice(&state[..NetworkModel::BYTES]);
+        cycle.copy_from_slice(&state[NetworkModel::BYTES..]);
+        Ok(())
+    }
+
+    /// The answer to a call that changes nothing.
+    fn ask(&self, call: &Call) -> Result<u64, Refusal> {
+        call.make(&mut self.with(&Cycle::NONE))?.number()
+    }
+
+    fn word(&self, at: usize) -> u64 {
+        words::get(&self.bytes, at)
+    }
+}
+
+/// Sends and events.
+impl NetworkModel {
+    /// A packet of so many bytes is sent while `bytes_in_flight` were in flight.
+    pub fn on_packet_sent(
+        &mut self,
+        sent_time: Moment,
+        bytes_in_flight: u64,
+        packet_number: u64,
+        bytes: u64,
+    ) -> Result<(), Refusal> {
+        let sent_time = sent_time.as_nanos();
+        let call = Call::new(1, &[sent_time, bytes_in_flight, packet_number, bytes]);
+        self.make(&call).map(drop)
+    }
+
+    /// An event: the numbers of the packets acked, in the order in which they were acked, what is
+    /// known of the event, and what the sampler says to it. Fills in the event. Of the numbers only
+    /// the last counts, as in the original.
+    pub fn on_congestion_event_start(
+        &mut self,
+        acked_packets: &[u64],
+        congestion_event: &mut CongestionEvent,
+        sample: &Sample,
+        params: &Params,
+    ) -> Result<(), Refusal> {
+        let event = &*congestion_event;
+        let call = Call::on_congestion_event_start(acked_packets, event, sample, params);
+        *congestion_event = self.make(&call)?.event();
+        Ok(())
+    }
+
+    /// The event is over: the round's sums begin anew if it ended the round.
+    pub fn on_congestion_event_finish(
+        &mut self,
+        congestion_event: &CongestionEvent,
+    ) -> Result<(), Refusal> {
+        let call = Call::new(4, &[]).with_event(congestion_event);
+        self.make(&call).map(drop)
+    }
+
+    /// Whether the smallest round trip has expired; the event's sample then takes its place.
+    pub fn maybe_expire_min_rtt(
+        &mut self,
+        congestion_event: &CongestionEvent,
+        params: &Params,
+    ) -> Result<bool, Refusal> {
+        let call = Call::new(5, &[]).with_event(congestion_event);
+        let answer = self.make(&call.with_params(params))?;
+        Ok(answer.number()? == 1)
+    }
+
+    /// Whether the round has lost more than the threshold bears.
+    pub fn is_inflight_too_high(
+        &self,
+        congestion_event: &CongestionEvent,
+        max_loss_events: u64,
+        params: &Params,
+    ) -> Result<bool, Refusal> {
+        let call = Call::new(6, &[max_loss_events]).with_event(congestion_event);
+        Ok(self.ask(&call.with_params(params))? == 1)
+    }
+
+    /// Whether the bandwidth has grown by the threshold since the baseline; counts a round without
+    /// growth otherwise.
+    pub fn has_bandwidth_growth(
+        &mut self,
+        congestion_event: &CongestionEvent,
+        params: &Params,
+    ) -> Result<bool, Refusal> {
+        let call = Call::new(7, &[]).with_event(congestion_event);
+        let answer = self.make(&call.with_params(params))?;
+        Ok(answer.number()? == 1)
+    }
+
+    /// The round begins anew before its end, uncounted.
+    pub fn restart_round_early(&mut self) -> Result<(), Refusal> {
+        self.make(&Call::new(8, &[])).map(drop)
+    }
+
+    /// Counts a round with a queue, or begins to count anew.
+    pub fn check_persistent_queue(
+        &mut self,
+        target_gain: f32,
+        params: &Params,
+    ) -> Result<(), Refusal> {
+        let call = Call::new(9, &[target_gain.to_bits() as u64]).with_params(params);
+        self.make(&call).map(drop)
+    }
+}
+
+/// Products of bandwidth and delay, and what is left of inflight_hi.
+impl NetworkModel {
+    /// The bytes that the bandwidth times the gain carries in the smallest round trip.
+    pub fn bdp(&self, bandwidth: Bandwidth, gain: f32) -> Result<u64, Refusal> {
+        let arguments = [bandwidth.to_bits_per_second(), gain.to_bits() as u64];
+        self.ask(&Call::new(10, &arguments))
+    }
+
+    /// The bytes that the bandwidth carries in the smallest round trip.
+    pub fn bdp1(&self, bandwidth: Bandwidth) -> Result<u64, Refusal> {
+        self.ask(&Call::new(11, &[bandwidth.to_bits_per_second()]))
+    }
+
+    /// The bytes that the largest bandwidth carries in the smallest round trip.
+    pub fn bdp0(&self) -> Result<u64, Refusal> {
+        self.ask(&Call::new(12, &[]))
+    }
+
+    /// inflight_hi without the headroom.
+    pub fn inflight_hi_with_headroom(&self, params: &Params) -> Result<u64, Refusal> {
+        self.ask(&Call::new(13, &[]).with_params(params))
+    }
+}
+
+/// What the modes set.
+impl NetworkModel {
+    /// The full bandwidth counts as reached.
+    pub fn set_full_bandwidth_reached(&mut self) -> Result<(), Refusal> {
+        self.make(&Call::new(14, &[])).map(drop)
+    }
+
+    /// Sets the pacing gain, 1/1024 to 8.
+    pub fn set_pacing_gain(&mut self, pacing_gain: f32) -> Result<(), Refusal> {
+        let call = Call::new(15, &[pacing_gain.to_bits() as u64]);
+        self.make(&call).map(drop)
+    }
+
+    /// Sets the window's gain, 1/1024 to 8.
+    pub fn set_cwnd_gain(&mut self, cwnd_gain: f32) -> Result<(), Refusal> {
+        let call = Call::new(16, &[cwnd_gain.to_bits() as u64]);
+        self.make(&call).map(drop)
+    }
+
+    /// Sets inflight_hi, or unsets it.
+    pub fn set_inflight_hi(&mut self, new_inflight_hi: u64) -> Result<(), Refusal> {
+        self.make(&Call::new(17, &[new_inflight_hi])).map(drop)
+    }
+
+    /// inflight_lo becomes at most the cap; an unset one stays so.
+    pub fn cap_inflight_lo(&mut self, cap: u64) -> Result<(), Refusal> {
+        self.make(&Call::new(18, &[cap])).map(drop)
+    }
+
+    /// Unsets inflight_lo.
+    pub fn clear_inflight_lo(&mut self) -> Result<(), Refusal> {
+        self.make(&Call::new(19, &[])).map(drop)
+    }
+
+    /// Unsets bandwidth_lo.
+    pub fn clear_bandwidth_lo(&mut self) -> Result<(), Refusal> {
+        self.make(&Call::new(20, &[])).map(drop)
+    }
+
+    /// The newer of the two largest bandwidths becomes the older, unless it is zero.
+    pub fn advance_max_bandwidth_filter(&mut self) -> Result<(), Refusal> {
+        self.make(&Call::new(21, &[])).map(drop)
+    }
+
+    /// The smallest round trip counts as so much younger.
+    pub fn postpone_min_rtt_timestamp(&mut self, duration: Duration) -> Result<(), Refusal> {
+        self.make(&Call::new(22, &[duration.as_nanos()])).map(drop)
+    }
+}
+
+/// What the original's methods answer. They are calls, too: a state with a number outside its bounds
+/// is refused.
+impl NetworkModel {
+    /// The largest bandwidth, or bandwidth_lo where it is lower.
+    pub fn bandwidth_estimate(&self) -> Result<Bandwidth, Refusal> {
+        self.ask(&Call::new(23, &[]))
+            .map(Bandwidth::from_bits_per_second)
+    }
+
+    /// The smallest round trip.
+    pub fn min_rtt(&self) -> Result<Duration, Refusal> {
+        self.ask(&Call::new(24, &[])).map(Duration::from_nanos)
+    }
+
+    /// The moment of the smallest round trip.
+    pub fn min_rtt_timestamp(&self) -> Result<Moment, Refusal> {
+        self.ask(&Call::new(25, &[])).map(Moment::from_nanos)
+    }
+
+    /// The largest bandwidth.
+    pub fn max_bandwidth(&self) -> Result<Bandwidth, Refusal> {
+        self.ask(&Call::new(26, &[]))
+            .map(Bandwidth::from_bits_per_second)
+    }
+
+    /// The most bytes delivered by an event of the round.
+    pub fn max_bytes_delivered_in_round(&self) -> Result<u64, Refusal> {
+        self.ask(&Call::new(27, &[]))
+    }
+
+    /// The total of bytes acked.
+    pub fn total_bytes_acked(&self) -> Result<u64, Refusal> {
+        self.ask(&Call::new(28, &[]))
+    }
+
+    /// The total of bytes lost.
+    pub fn total_bytes_lost(&self) -> Result<u64, Refusal> {
+        self.ask(&Call::new(29, &[]))
+    }
+
+    /// Whether the full bandwidth counts as reached.
+    pub fn full_bandwidth_reached(&self) -> Result<bool, Refusal> {
+        self.ask(&Call::new(30, &[])).map(|answer| answer == 1)
+    }
+
+    /// The pacing gain.
+    pub fn pacing_gain(&self) -> Result<f32, Refusal> {
+        self.ask(&Call::new(31, &[])).map(gain)
+    }
+
+    /// The window's gain.
+    pub fn cwnd_gain(&self) -> Result<f32, Refusal> {
+        self.ask(&Call::new(32, &[])).map(gain)
+    }
+
+    /// The upper bound of the inflight, or unset.
+    pub fn inflight_hi(&self) -> Result<u64, Refusal> {
+        self.ask(&Call::new(33, &[]))
+    }
+
+    /// What inflight_hi is before it is set: unset.
+    pub fn inflight_hi_default(&self) -> Result<u64, Refusal> {
+        self.ask(&Call::new(34, &[]))
+    }
+
+    /// The lower bound of the inflight, or unset.
+    pub fn inflight_lo(&self) -> Result<u64, Refusal> {
+        self.ask(&Call::new(35, &[]))
+    }
+
+    /// The events with losses in the round.
+    pub fn loss_events_in_round(&self) -> Result<u64, Refusal> {
+        self.ask(&Call::new(36, &[]))
+    }
+
+    /// The rounds with a queue, one after the other.
+    pub fn rounds_with_queueing(&self) -> Result<u64, Refusal> {
+        self.ask(&Call::new(37, &[]))
+    }
+
+    /// The bytes by which the inflight may pass the product of bandwidth and delay before it counts
+    /// as a queue.
+    pub fn queueing_threshold_extra_bytes(&self) -> Result<u64, Refusal> {
+        self.ask(&Call::new(38, &[]))
+    }
+}
+
+/// The stored numbers that no call answers, by the original's names of its fields: looked up, within
+/// their bounds or not.
+impl NetworkModel {
+    /// How many rounds have ended.
+    pub fn round_trip_count(&self) -> u64 {
+        self.word(0)
+    }
+
+    /// The number of the packet sent last.
+    pub fn last_sent_packet(&self) -> u64 {
+        self.word(1)
+    }
+
+    /// The number of the packet whose ack does not yet end the round, if it is set.
+    pub fn end_of_round_trip(&self) -> Option<u64> {
+        words::get_option(&self.bytes, 2)
+    }
+
+    /// The bytes lost in the round.
+    pub fn bytes_lost_in_round(&self) -> u64 {
+        self.word(8)
+    }
+
+    /// The fewest bytes in flight in the round, or unset.
+    pub fn min_bytes_in_flight_in_round(&self) -> u64 {
+        self.word(11)
+    }
+
+    /// Whether a send of the round reached inflight_hi.
+    pub fn inflight_hi_limited_in_round(&self) -> bool {
+        words::get_flag(&self.bytes, 12)
+    }
+
+    /// The largest bandwidth sample of the round.
+    pub fn bandwidth_latest(&self) -> Bandwidth {
+        Bandwidth::from_bits_per_second(self.word(13))
+    }
+
+    /// The largest inflight sample of the round.
+    pub fn inflight_latest(&self) -> u64 {
+        self.word(14)
+    }
+
+    /// The lower bound of the bandwidth, if it is set.
+    pub fn bandwidth_lo(&self) -> Option<Bandwidth> {
+        words::get_bandwidth(&self.bytes, 15)
+    }
+
+    /// Whether the window was full before the last event that acked no more than expected.
+    pub fn cwnd_limited_before_aggregation_epoch(&self) -> bool {
+        words::get_flag(&self.bytes, 21)
+    }
+
+    /// The bandwidth that growth is measured from.
+    pub fn full_bandwidth_baseline(&self) -> Bandwidth {
+        Bandwidth::from_bits_per_second(self.word(23))
+    }
+
+    /// The rounds without growth, one after the other.
+    pub fn rounds_without_bandwidth_growth(&self) -> u64 {
+        self.word(24)
+    }
+
+    /// Whether rounds limited by the application don't count as rounds without growth.
+    pub fn ignore_app_limited_for_no_bandwidth_growth(&self) -> bool {
+        words::get_flag(&self.bytes, 26)
+    }
+
+    /// The latest send rate, if there is one.
+    pub fn latest_send_rate(&self) -> Option<Bandwidth> {
+        words::get_bandwidth(&self.bytes, 27)
+    }
+
+    /// The latest ack rate, if there is one.
+    pub fn latest_ack_rate(&self) -> Option<Bandwidth> {
+        words::get_bandwidth(&self.bytes, 29)
+    }
+
+    /// The last accepted moment, which the original doesn't keep.
+    pub fn last_accepted_moment(&self) -> Moment {
+        Moment::from_nanos(self.word(33))
+    }
+}
+
+fn gain(bits: u64) -> f32 {
+    f32::from_bits(bits as u32)
+}

@@ -1,0 +1,54 @@
+use crate::foreign;
+use crate::words;
+use crate::Refusal;
+
+/// The `f32` nearest to n, a tie to the one whose last digit is even: `n as f32`.
+pub fn u64_to_f32(n: u64) -> f32 {
+    f32::from_bits(foreign::u64_to_f32(n))
+}
+
+/// The `f64` nearest to n, a tie to the one whose last digit is even: `n as f64`.
+pub fn u64_to_f64(n: u64) -> f64 {
+    f64::from_bits(foreign::u64_to_f64(n))
+}
+
+/// x without its fraction; 0 for a NaN or a negative, 2^64 - 1 for what is too large: `x as u64`.
+pub fn f32_to_u64(x: f32) -> u64 {
+    foreign::f32_to_u64(x.to_bits())
+}
+
+/// x to the nearest whole number, a half away from zero; 0 for a NaN or a negative, 2^64 - 1 for what
+/// is too large: `x.round() as u64`.
+pub fn f64_round_to_u64(x: f64) -> u64 {
+    foreign::f64_round_to_u64(x.to_bits())
+}
+
+/// n as an `f32`, times the gain, without its fraction: `(n as f32 * gain) as u64`.
+pub fn scale(n: u64, gain: f32) -> u64 {
+    foreign::scale(n, gain.to_bits())
+}
+
+/// The slope of the probing cycle: the next probe_up_rounds and probe_up_bytes, of the present rounds
+/// and a window.
+///
+/// # Errors
+///
+/// `OutOfBounds` for rounds over 30, `BadArgument` for a window above 2^40.
+pub fn raise_inflight_high_slope(rounds: u64, window: u64) -> Result<(u64, u64), Refusal> {
+    let mut out = [0; 16];
+    Refusal::of(foreign::raise_inflight_high_slope(rounds, window, &mut out))?;
+    Ok((words::get(&out, 0), words::get(&out, 1)))
+}
+
+/// Runs an empty windowed filter over pairs of a time and a sample: words of 64 bits, the lowest byte
+/// first, 16 bytes to a pair. For each pair it writes the best, the second and the third sample after
+/// it, 24 bytes. What the output has beyond them keeps its bytes.
+///
+/// # Errors
+///
+/// `BadArgument` for pairs not in whole sixteens, `EarlierMoment` where a pair's time is earlier than
+/// one that the filter holds then, `ShortOutput` for an output under 24 bytes a pair. Then no byte is
+/// written.
+pub fn filter_run(window: u64, pairs: &[u8], out: &mut [u8]) -> Result<(), Refusal> {
+    Refusal::of(foreign::filter_run(window, pairs, out))
+}
