@@ -1,12 +1,12 @@
 // The windowed filter, run over pairs of a time and a sample.
+ghost use mathlib.Core.Bool.{true};
 ghost use mathlib.Core.Path.{_≡_};
 ghost use Prim.Native.Nat.{_+_, _*_, _≤_};
 ghost use lib.ListN.{length};
-ghost use lib.Seq.{sets};
 ghost use Rattle.filters.specs.Reply.{number};
 ghost use Rattle.filters.specs.WindowedFilter.{windowedNew, windowedNumber};
-ghost use Rattle.words.specs.Words.{word, allBytes};
-ghost use Rattle.exports.specs.FilterRun.{pairs, afterPair, refuses, sampleIn, samples, samplesOf, runRow, runOut};
+ghost use Rattle.words.specs.Words.{word};
+ghost use Rattle.exports.specs.FilterRun.{pairs, afterPair, refuses, sampleIn, samples, samplesOf, runRow, runOut, timesFall, setsWhere};
 use crate::reply::or_short;
 use filters::Reply;
 use filters::WindowedFilter;
@@ -27,7 +27,7 @@ pub extern "C" fn guovssalu_filter_run(window: u64, src: &[u8], out: &mut [u8]) 
     if !reply.is_done() {
         return reply.row();
     }
-    write_samples(window, src, out);
+    pass(window, src, out, true);
     reply.row()
 }
 
@@ -39,38 +39,62 @@ fn run_reply(window: u64, src: &[u8], room: usize) -> Reply
     or_short(reply, room < 24 * (src.len() / 16))
 }
 
-// Whether the update refuses a pair.
+// Whether the update refuses a pair. Where no time falls, it refuses none.
 fn is_refused(window: u64, src: &[u8]) -> bool
     ensures { λ r. ⌜ r ≡ refuses (windowedNew window) (now (src .entry)) 0 (pairs (now (src .entry))) ⌝ }
 {
+    if !times_fall(src) {
+        return false;
+    }
+    let mut unwritten = [0u8; 0];
+    pass(window, src, &mut unwritten, false)
+}
+
+// Whether a time is earlier than the one before it.
+fn times_fall(src: &[u8]) -> bool
+    ensures { λ r. ⌜ r ≡ timesFall 0 (now (src .entry)) 0 (pairs (now (src .entry))) ⌝ }
+{
+    let count = src.len() / 16;
+    let mut last = 0;
+    let mut fall = false;
+    let mut i = 0;
+    while i < count {
+        let time = get_word(src, 16 * i);
+        fall = fall | (time < last);
+        last = time;
+        i += 1;
+    }
+    fall
+}
+
+// Whether the update refuses a pair. Writes the samples that each pair leaves, where told to.
+fn pass(window: u64, src: &[u8], out: &mut [u8], writes: bool) -> bool
+    requires { ⌜ (writes ≡ true → 24 * pairs (now src) ≤ length (now out)) ⌝ }
+    ensures reply { λ r. ⌜ r ≡ refuses (windowedNew window) (now (src .entry)) 0 (pairs (now (src .entry))) ⌝ }
+    ensures written { λ _. ⌜ now (out .exit) ≡ setsWhere writes (now (out .entry)) 0 (samplesOf (windowedNew window) (now (src .entry)) 0 (pairs (now (src .entry)))) ⌝ }
+{
     let count = src.len() / 16;
     let mut filter = WindowedFilter::new(window);
+    let mut refused = false;
     let mut i = 0;
     while i < count {
         let updated = after_pair(filter, src, 16 * i);
         let update = updated.reply;
-        if !update.is_done() {
-            return true;
-        }
         filter = updated.filter;
+        refused = refused | !update.is_done();
+        put_samples(out, 24 * i, filter, writes);
         i += 1;
     }
-    false
+    refused
 }
 
-// Writes the samples that each pair leaves.
-fn write_samples(window: u64, src: &[u8], out: &mut [u8])
-    requires { ⌜ 24 * pairs (now src) ≤ length (now out) ⌝ }
-    ensures { λ _. ⌜ now (out .exit) ≡ sets (now (out .entry)) 0 (allBytes (samplesOf (windowedNew window) (now (src .entry)) 0 (pairs (now (src .entry))))) ⌝ }
+// Writes a filter's samples at an index, where told to.
+fn put_samples(out: &mut [u8], at: usize, filter: WindowedFilter, writes: bool)
+    requires { ⌜ (writes ≡ true → at + 24 ≤ length (now out)) ⌝ }
+    ensures { λ _. ⌜ now (out .exit) ≡ setsWhere writes (now (out .entry)) at (samples filter) ⌝ }
 {
-    let count = src.len() / 16;
-    let mut filter = WindowedFilter::new(window);
-    let mut i = 0;
-    while i < count {
-        let updated = after_pair(filter, src, 16 * i);
-        filter = updated.filter;
-        put_words(out, 24 * i, &samples_of(filter));
-        i += 1;
+    if writes {
+        put_words(out, at, &samples_of(filter));
     }
 }
 
