@@ -1,5 +1,5 @@
 // The windowed filter, run over pairs of a time and a sample.
-ghost use mathlib.Core.Bool.{true};
+ghost use mathlib.Core.Bool.{true, false};
 ghost use mathlib.Core.Path.{_≡_};
 ghost use Prim.Native.Nat.{_+_, _*_, _≤_};
 ghost use lib.ListN.{length};
@@ -56,36 +56,39 @@ fn times_fall(src: &[u8]) -> bool
 {
     let count = src.len() / 16;
     let mut last = 0;
-    let mut fall = false;
     let mut i = 0;
     while i < count {
         let time = get_word(src, 16 * i);
-        fall = fall | (time < last);
+        if time < last {
+            return true;
+        }
         last = time;
         i += 1;
     }
-    fall
+    false
 }
 
-// Whether the update refuses a pair. Writes the samples that each pair leaves, where told to.
+// Whether the update refuses a pair. Where told to, which is where it refuses none, writes the
+// samples that each pair leaves.
 fn pass(window: u64, src: &[u8], out: &mut [u8], writes: bool) -> bool
-    requires { ⌜ (writes ≡ true → 24 * pairs (now src) ≤ length (now out)) ⌝ }
+    requires { ⌜ (writes ≡ true → (refuses (windowedNew window) (now src) 0 (pairs (now src)) ≡ false) × (24 * pairs (now src) ≤ length (now out))) ⌝ }
     ensures reply { λ r. ⌜ r ≡ refuses (windowedNew window) (now (src .entry)) 0 (pairs (now (src .entry))) ⌝ }
     ensures written { λ _. ⌜ now (out .exit) ≡ setsWhere writes (now (out .entry)) 0 (samplesOf (windowedNew window) (now (src .entry)) 0 (pairs (now (src .entry)))) ⌝ }
 {
     let count = src.len() / 16;
     let mut filter = WindowedFilter::new(window);
-    let mut refused = false;
     let mut i = 0;
     while i < count {
         let updated = after_pair(filter, src, 16 * i);
         let update = updated.reply;
+        if !update.is_done() {
+            return true;
+        }
         filter = updated.filter;
-        refused = refused | !update.is_done();
         put_samples(out, 24 * i, filter, writes);
         i += 1;
     }
-    refused
+    false
 }
 
 // Writes a filter's samples at an index, where told to.

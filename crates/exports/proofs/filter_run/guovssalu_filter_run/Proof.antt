@@ -3,7 +3,7 @@ use borrow.Author.Needs.{needs}
 use Rattle.filters.specs.WindowedFilter.{windowedNew}
 use Rattle.exports.specs.FilterRun.{pairs, samplesOf, runOut, setsWhere}
 use Rattle.exports.proofs.Rows.{done-row, refused, written}
-use Rattle.exports.proofs.Run.{run-room}
+use Rattle.exports.proofs.Run.{run-done}
 use Rattle.exports.proofs.filter_run.guovssalu_filter_run.Statement.{statement}
 use Rattle.exports.proofs.filter_run.guovssalu_filter_run.Tie as tie
 
@@ -15,7 +15,7 @@ returns c =
     refused (c .before .before .before .run-reply .ensures) (c .before .before .is-done .ensures) (samplesOf (windowedNew (args .window)) src 0 (pairs src)) (args .out .now) (c .row .ensures) (c .before .if1 .taken)
 
 pass-requires : tie.Need-pass-requires
-pass-requires c κs = λ _. run-room _ _ _ (done-row (c .before .before .before .run-reply .ensures) (c .before .before .is-done .ensures) (c .before .if1 .left))
+pass-requires c κs = λ _. run-done _ _ _ (done-row (c .before .before .before .run-reply .ensures) (c .before .before .is-done .ensures) (c .before .if1 .left))
 
 returns-2 : tie.Need-returns-2
 unfolding runOut setsWhere
