@@ -26,8 +26,14 @@ happened p q r = cc
 pub one-event-on-congestion-event-start : OneReply event.on_congestion_event_start.Reads.Learnt
 one-event-on-congestion-event-start κ a x y s t p q = happened (number-injective _ _ (p .0 ∙ sym (q .0))) (p .1 .0 ∙ sym (q .1 .0)) (p .1 .1 ∙ sym (q .1 .1))
 
+pub one-event-start-tested : OneReply event.start_tested.Reads.Learnt
+one-event-start-tested κ a x y s t p q = happened (number-injective _ _ (p .0 ∙ sym (q .0))) (p .1 .0 ∙ sym (q .1 .0)) (p .1 .1 ∙ sym (q .1 .1))
+
 pub one-judge-on-congestion-event-finish : OneReply judge.on_congestion_event_finish.Reads.Learnt
 one-judge-on-congestion-event-finish κ a x y s t p q = changed (number-injective _ _ (p .0 ∙ sym (q .0))) (p .1 ∙ sym (q .1))
+
+pub one-judge-finish-tested : OneReply judge.finish_tested.Reads.Learnt
+one-judge-finish-tested κ a x y s t p q = changed (number-injective _ _ (p .0 ∙ sym (q .0))) (p .1 ∙ sym (q .1))
 
 pub one-judge-maybe-expire-min-rtt : OneReply judge.maybe_expire_min_rtt.Reads.Learnt
 one-judge-maybe-expire-min-rtt κ a x y s t p q = decided (number-injective _ _ (p .0 ∙ sym (q .0))) (p .1 .0 ∙ sym (q .1 .0)) (p .1 .1 ∙ sym (q .1 .1))

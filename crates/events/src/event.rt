@@ -6,6 +6,7 @@ ghost use lib.Dec.{ltb, eqb};
 ghost use Rattle.filters.specs.Reply.{number};
 ghost use Rattle.filters.specs.RoundTripCounter.{roundsFull};
 ghost use Rattle.model.specs.Answers.{settled};
+ghost use Rattle.model.specs.Bounds.{modelOk};
 ghost use Rattle.events.specs.Event.{bytesAcked, bytesLost, limitedAfter, stateAfter, isChanged, mostAfter, bandwidthAfter, leastAfter, rttAfter, deliveredBy, roundAfter, raisedBandwidth, latestRaised, acts, seedOf, startOf, newestOf, lowerReduced, lowerAfter, latestAfter, recordOf, recordNext, mostNext, roundNext, lowerNext, modelOf, modelNext, isLower, isFull, eventNumber};
 use crate::record::MaybeLength;
 use crate::record::Record;
@@ -381,17 +382,19 @@ fn is_full(model: NetworkModel, sample: Sample, acked: &[u64]) -> bool
 
 fn event_reply(
     model: NetworkModel,
+    fine: bool,
     params: Params,
     event: Record,
     sample: Sample,
     acked: &[u64],
 ) -> Reply
+    requires { ⌜ fine ≡ modelOk model ⌝ }
     ensures { λ r. ⌜ number r ≡ eventNumber model params event sample (now (acked .entry)) ⌝ }
 {
     let moment = model.moment;
     let time = event.time;
     refusal(
-        !(model.ok() & params.ok()),
+        !(fine & params.ok()),
         !(event.ok() & sample.ok()),
         time.is_before(moment),
         is_lower(model, sample),
@@ -411,7 +414,24 @@ pub fn on_congestion_event_start(
     ensures model { λ r. ⌜ r .model ≡ settled (eventNumber model params event sample (now (acked .entry))) (modelNext model params event sample (now (acked .entry))) model ⌝ }
     ensures record { λ r. ⌜ r .record ≡ settled (eventNumber model params event sample (now (acked .entry))) (recordNext model event sample (now (acked .entry))) event ⌝ }
 {
-    let reply = event_reply(model, params, event, sample, acked);
+    start_tested(model, model.ok(), params, event, sample, acked)
+}
+
+// The same, where it is known whether the model is within its bounds.
+pub fn start_tested(
+    model: NetworkModel,
+    fine: bool,
+    params: Params,
+    event: Record,
+    sample: Sample,
+    acked: &[u64],
+) -> Event
+    requires { ⌜ fine ≡ modelOk model ⌝ }
+    ensures reply { λ r. ⌜ number (r .reply) ≡ eventNumber model params event sample (now (acked .entry)) ⌝ }
+    ensures model { λ r. ⌜ r .model ≡ settled (eventNumber model params event sample (now (acked .entry))) (modelNext model params event sample (now (acked .entry))) model ⌝ }
+    ensures record { λ r. ⌜ r .record ≡ settled (eventNumber model params event sample (now (acked .entry))) (recordNext model event sample (now (acked .entry))) event ⌝ }
+{
+    let reply = event_reply(model, fine, params, event, sample, acked);
     let mut next = model;
     let mut record = event;
     if reply.is_done() {

@@ -6,6 +6,7 @@ ghost use lib.Dec.{ltb, eqb};
 ghost use Rattle.filters.specs.Reply.{number};
 ghost use Rattle.filters.specs.MaxBandwidthFilter.{maxGet};
 ghost use Rattle.model.specs.Answers.{settled};
+ghost use Rattle.model.specs.Bounds.{modelOk};
 ghost use Rattle.events.specs.Judge.{recordNumber, judgedNumber, finishNext, isGiven, isDue, isExpired, leastExpired, expireNext, isTooHigh, hasGrown, countsFlat, flatAfter, growthFlat, growthAfter, growthFull, growthNext, isQueueing, queueAfter, queueNumber, queueNext};
 use crate::record::MaybeLength;
 use crate::record::Record;
@@ -32,10 +33,11 @@ pub struct Decided {
     pub yes: bool,
 }
 
-fn record_reply(model: NetworkModel, event: Record) -> Reply
+fn record_reply(model: NetworkModel, fine: bool, event: Record) -> Reply
+    requires { ⌜ fine ≡ modelOk model ⌝ }
     ensures { λ r. ⌜ number r ≡ recordNumber model event ⌝ }
 {
-    refusal(!model.ok(), !event.ok(), false, false, false)
+    refusal(!fine, !event.ok(), false, false, false)
 }
 
 fn judged_reply(model: NetworkModel, params: Params, event: Record, full: bool) -> Reply
@@ -49,7 +51,16 @@ pub fn on_congestion_event_finish(model: NetworkModel, event: Record) -> Changed
     ensures reply { λ r. ⌜ number (r .reply) ≡ recordNumber model event ⌝ }
     ensures model { λ r. ⌜ r .model ≡ settled (recordNumber model event) (finishNext model event) model ⌝ }
 {
-    let reply = record_reply(model, event);
+    finish_tested(model, model.ok(), event)
+}
+
+// The same, where it is known whether the model is within its bounds.
+pub fn finish_tested(model: NetworkModel, fine: bool, event: Record) -> Changed
+    requires { ⌜ fine ≡ modelOk model ⌝ }
+    ensures reply { λ r. ⌜ number (r .reply) ≡ recordNumber model event ⌝ }
+    ensures model { λ r. ⌜ r .model ≡ settled (recordNumber model event) (finishNext model event) model ⌝ }
+{
+    let reply = record_reply(model, fine, event);
     let mut next = model;
     if reply.is_done() & event.ended {
         next.round = Round::new();

@@ -1,22 +1,27 @@
 -- One turn of each pass of the model's run, over plain variables: what is still to be done leads to the same end. Assumes nothing.
-use Prim.Native.Nat.{ℕ, zero, suc, _+_, _-_, _*_, _≤_, _<_}
+use Prim.Native.Nat.{ℕ, zero, suc, _+_, _-_, _*_, _%_, _^_, _≤_, _<_}
 use mathlib.Core.Bool.{Bool, true, false, not, cond}
 use mathlib.Core.List.{List, _∷_, _++_}
 use mathlib.Core.Path.{_≡_, refl, sym, ap, _∙_}
 use native.Mathlib.Nat.{add-zero}
 use native.Mathlib.Omega.{arith}
-use lib.Dec.{eqb, ltb, leb}
+use lib.Dec.{T, eqb, ltb, leb}
+use lib.Ieee.{binary32, fits}
+use lib.Ieee.Bits.{ofBits-fits}
 use lib.ListN.{length, getD}
 use lib.Seq.{sets}
 use borrow.Author.Tests.{ltb-false, eqb-true, not-false, ne-eqb}
 use Rattle.model.specs.declared.network_model.NetworkModel.{NetworkModel}
+use Rattle.model.specs.Bounds.{modelOk}
 use Rattle.model.proofs.Rows.{none, or-left}
+use Rattle.laws.proofs.Tested.{sent-same, start-same, finish-same}
 use Rattle.phases.specs.declared.cycle.Cycle.{Cycle}
 use Rattle.words.specs.Words.{word, allBytes}
 use Rattle.words.proofs.Stores.{sets-append}
 use Rattle.words.proofs.Laws.{allBytes-append, length-allBytes, getD-wordsAt}
 use Rattle.encoding.specs.NetworkModel.{modelOf}
 use Rattle.encoding.specs.Cycle.{cycleOf}
+use Rattle.encoding.specs.Params.{paramsOf}
 use Rattle.encoding.specs.Record.{recordWords}
 use Rattle.encoding.specs.RoundTrip.{RoundTrip}
 use Rattle.encoding.proofs.RoundTrip.{round-trip}
@@ -118,32 +123,45 @@ module _ (src : List ℕ) (i count : ℕ) (h : i < count) where
       let step : 144 * (i + 1) ≡ 144 * i + length answer = rw (length-answer m y src (392 * i)) (omega arith) in
       rw (next, step) (sets-append l (144 * i) answer (allBytes more) ∙ ap (sets l (144 * i)) (sym (allBytes-append (answerWords t) more)) ∙ rw left at e)
 
--- ---- one call, by its number: the bytes with its answer, and the state that it leaves
-module _ (m : NetworkModel) (y : Cycle) (src : List ℕ) (at : ℕ) (out : List ℕ) (to : ℕ) (out′ : List ℕ) (m′ : NetworkModel) (y′ : Cycle) where
+-- beta is read from 32 bits, so the format holds it
+beta-fits : (w : List ℕ) → T (fits binary32 (paramsOf w .beta))
+unfolding paramsOf
+beta-fits w = ofBits-fits binary32 (getD w 38 0 % 2 ^ 32)
+
+-- ---- one call, by its number: the bytes with its answer, the state that it leaves, and whether the model is within its bounds
+module _ (m : NetworkModel) (y : Cycle) (src : List ℕ) (at : ℕ) (out : List ℕ) (to : ℕ) (out′ : List ℕ) (m′ : NetworkModel) (y′ : Cycle) (fine′ : Bool) where
   abbrev pub Carried : Type 0
-  Carried = (out′ ≡ sets out to (allBytes (answerWords (turnAt m y src at)))) × (m′ ≡ turnAt m y src at .model) × (y′ ≡ turnAt m y src at .cycle)
+  Carried =
+      (out′ ≡ sets out to (allBytes (answerWords (turnAt m y src at))))
+      × (m′ ≡ turnAt m y src at .model)
+      × (y′ ≡ turnAt m y src at .cycle)
+      × (fine′ ≡ modelOk m′)
 
   number-at : {n : ℕ} → word src at ≡ n → getD (callAt src at) 0 0 ≡ n
   number-at e = getD-wordsAt src at 49 0 (omega arith) ∙ ap (word src) (add-zero at) ∙ e
 
-  pub by-send : word src at ≡ 1 → m′ ≡ sendLeaves (callAt src at) m → y′ ≡ y → out′ ≡ sets out to (allBytes (sendNumber (callAt src at) m ∷ 0 ∷ noRecord)) → Carried
+  -- the test of the model before is one of the model after
+  still : {left : NetworkModel} → m′ ≡ left → modelOk left ≡ modelOk m → fine′ ≡ modelOk m → fine′ ≡ modelOk m′
+  still p same f = f ∙ sym (ap modelOk p ∙ same)
+
+  pub by-send : word src at ≡ 1 → m′ ≡ sendLeaves (callAt src at) m → y′ ≡ y → fine′ ≡ modelOk m → out′ ≡ sets out to (allBytes (sendNumber (callAt src at) m ∷ 0 ∷ noRecord)) → Carried
   unfolding turnAt turnOf sendTurn answerWords
-  by-send e p q r = rw (number-at e) (r, p, q)
+  by-send e p q f r = rw (number-at e) (r, p, q, still p (sent-same m _ _ _ _) f)
 
-  pub by-start : word src at ≡ 3 → m′ ≡ startedLeaves (callAt src at) m → y′ ≡ y → out′ ≡ sets out to (allBytes (startedNumber (callAt src at) m ∷ 0 ∷ recordWords (startedRecord (callAt src at) m))) → Carried
+  pub by-start : word src at ≡ 3 → m′ ≡ startedLeaves (callAt src at) m → y′ ≡ y → fine′ ≡ modelOk m → out′ ≡ sets out to (allBytes (startedNumber (callAt src at) m ∷ 0 ∷ recordWords (startedRecord (callAt src at) m))) → Carried
   unfolding turnAt turnOf eventTurn answerWords
-  by-start e p q r = rw (number-at e) (r, p, q)
+  by-start e p q f r = rw (number-at e) (r, p, q, still p (start-same m _ _ _ _ (beta-fits (callAt src at))) f)
 
-  pub by-end : word src at ≡ 4 → m′ ≡ finishedLeaves (callAt src at) m → y′ ≡ y → out′ ≡ sets out to (allBytes (finishedNumber (callAt src at) m ∷ 0 ∷ noRecord)) → Carried
+  pub by-end : word src at ≡ 4 → m′ ≡ finishedLeaves (callAt src at) m → y′ ≡ y → fine′ ≡ modelOk m → out′ ≡ sets out to (allBytes (finishedNumber (callAt src at) m ∷ 0 ∷ noRecord)) → Carried
   unfolding turnAt turnOf finishTurn answerWords
-  by-end e p q r = rw (number-at e) (r, p, q)
+  by-end e p q f r = rw (number-at e) (r, p, q, still p (finish-same m _) f)
 
   pub by-other :
       {n : ℕ} {t : Turn} → n ≡ word src at → (n ≡ 1 → ⊥) → (n ≡ 3 → ⊥) → (n ≡ 4 → ⊥) →
-      t ≡ otherTurn (callAt src at) m y → m′ ≡ t .model → y′ ≡ t .cycle → out′ ≡ sets out to (allBytes (answerWords (otherTurn (callAt src at) m y))) → Carried
+      t ≡ otherTurn (callAt src at) m y → m′ ≡ t .model → y′ ≡ t .cycle → fine′ ≡ modelOk (t .model) → out′ ≡ sets out to (allBytes (answerWords (otherTurn (callAt src at) m y))) → Carried
   unfolding turnAt turnOf
-  by-other e f g h k p q r =
-      rw (number-at (sym e), ne-eqb _ 1 f, ne-eqb _ 3 g, ne-eqb _ 4 h) (r, p ∙ ap (λ (t : Turn). t .model) k, q ∙ ap (λ (t : Turn). t .cycle) k)
+  by-other e f g h k p q b r =
+      rw (number-at (sym e), ne-eqb _ 1 f, ne-eqb _ 3 g, ne-eqb _ 4 h) (r, p ∙ ap (λ (t : Turn). t .model) k, q ∙ ap (λ (t : Turn). t .cycle) k, b ∙ sym (ap modelOk p))
 
 -- ---- what a run that is done has been lent
 pub run-room : (state src : List ℕ) (room : ℕ) → eqb (modelRow state src room) 0 ≡ true → 144 * callsIn src ≤ room

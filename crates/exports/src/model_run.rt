@@ -126,21 +126,23 @@ fn run_from(model: NetworkModel, cycle: Cycle, calls: &[u8], answers: &mut [u8])
     let count = calls.len() / 392;
     let mut m = model;
     let mut y = cycle;
+    let mut fine = m.ok();
     let mut i = 0;
     while i < count {
         let at = 392 * i;
         let to = 144 * i;
         let call = get_word(calls, at);
         if call == 1 {
-            m = send(m, calls, at, answers, to);
+            m = send(m, fine, calls, at, answers, to);
         } else if call == 3 {
-            m = start(m, calls, at, answers, to);
+            m = start(m, fine, calls, at, answers, to);
         } else if call == 4 {
-            m = end(m, calls, at, answers, to);
+            m = end(m, fine, calls, at, answers, to);
         } else {
             let turn = other(m, y, calls, at, answers, to);
             m = turn.model;
             y = turn.cycle;
+            fine = m.ok();
         }
         i += 1;
     }

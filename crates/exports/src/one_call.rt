@@ -1,10 +1,12 @@
 // One call of a run: carried out, with its answer written. A send and an event's two calls have ways
-// of their own, since nearly all calls are of these.
+// of their own, since nearly all calls are of these, and are told whether the model is within its
+// bounds.
 ghost use mathlib.Core.Path.{_≡_};
 ghost use mathlib.Core.List.{_∷_};
 ghost use Prim.Native.Nat.{_+_, _≤_};
 ghost use lib.ListN.{length};
 ghost use lib.Seq.{sets};
+ghost use Rattle.model.specs.Bounds.{modelOk};
 ghost use Rattle.words.specs.Words.{allBytes};
 ghost use Rattle.encoding.specs.Record.{recordWords};
 ghost use Rattle.turns.specs.Turn.{noRecord, sendNumber, sendLeaves, startedNumber, startedLeaves, startedRecord, finishedNumber, finishedLeaves, otherTurn};
@@ -25,12 +27,13 @@ use words::put_words;
 // Call 1, a send, which reads four words of its record.
 pub(crate) fn send(
     model: NetworkModel,
+    fine: bool,
     calls: &[u8],
     at: usize,
     answers: &mut [u8],
     to: usize,
 ) -> NetworkModel
-    requires { ⌜ (at + 392 ≤ length (now calls)) × (to + 144 ≤ length (now answers)) ⌝ }
+    requires { ⌜ (at + 392 ≤ length (now calls)) × (to + 144 ≤ length (now answers)) × (fine ≡ modelOk model) ⌝ }
     ensures { λ r. ⌜ r ≡ sendLeaves (callAt (now (calls .entry)) at) model ⌝ }
     ensures { λ _. ⌜ now (answers .exit) ≡ sets (now (answers .entry)) to (allBytes (sendNumber (callAt (now (calls .entry)) at) model ∷ 0 ∷ noRecord)) ⌝ }
 {
@@ -38,7 +41,7 @@ pub(crate) fn send(
     let inflight = get_word(calls, at + 16);
     let packet = get_word(calls, at + 24);
     let bytes = get_word(calls, at + 32);
-    let changed = model.on_packet_sent(Moment(time), inflight, packet, bytes);
+    let changed = model.sent_tested(fine, Moment(time), inflight, packet, bytes);
     let reply = changed.reply;
     put_answer(answers, to, reply.row(), 0, &no_record());
     changed.model
@@ -47,17 +50,18 @@ pub(crate) fn send(
 // Call 3, an event's start.
 pub(crate) fn start(
     model: NetworkModel,
+    fine: bool,
     calls: &[u8],
     at: usize,
     answers: &mut [u8],
     to: usize,
 ) -> NetworkModel
-    requires { ⌜ (at + 392 ≤ length (now calls)) × (to + 144 ≤ length (now answers)) ⌝ }
+    requires { ⌜ (at + 392 ≤ length (now calls)) × (to + 144 ≤ length (now answers)) × (fine ≡ modelOk model) ⌝ }
     ensures { λ r. ⌜ r ≡ startedLeaves (callAt (now (calls .entry)) at) model ⌝ }
     ensures { λ _. ⌜ now (answers .exit) ≡ sets (now (answers .entry)) to (allBytes (startedNumber (callAt (now (calls .entry)) at) model ∷ 0 ∷ recordWords (startedRecord (callAt (now (calls .entry)) at) model))) ⌝ }
 {
     let words = call_at(calls, at);
-    let happened = event(model, &words);
+    let happened = event(model, fine, &words);
     let reply = happened.reply;
     let record = happened.record;
     put_answer(answers, to, reply.row(), 0, &record_words(record));
@@ -67,17 +71,18 @@ pub(crate) fn start(
 // Call 4, an event's finish.
 pub(crate) fn end(
     model: NetworkModel,
+    fine: bool,
     calls: &[u8],
     at: usize,
     answers: &mut [u8],
     to: usize,
 ) -> NetworkModel
-    requires { ⌜ (at + 392 ≤ length (now calls)) × (to + 144 ≤ length (now answers)) ⌝ }
+    requires { ⌜ (at + 392 ≤ length (now calls)) × (to + 144 ≤ length (now answers)) × (fine ≡ modelOk model) ⌝ }
     ensures { λ r. ⌜ r ≡ finishedLeaves (callAt (now (calls .entry)) at) model ⌝ }
     ensures { λ _. ⌜ now (answers .exit) ≡ sets (now (answers .entry)) to (allBytes (finishedNumber (callAt (now (calls .entry)) at) model ∷ 0 ∷ noRecord)) ⌝ }
 {
     let words = call_at(calls, at);
-    let changed = finish(model, &words);
+    let changed = finish(model, fine, &words);
     let reply = changed.reply;
     put_answer(answers, to, reply.row(), 0, &no_record());
     changed.model

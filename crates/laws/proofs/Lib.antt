@@ -1,5 +1,6 @@
 -- Proofs of the laws, call by call.
 pub mod Model
 pub mod Events
+pub mod Tested
 pub mod Phases
 pub mod Contracts

@@ -115,6 +115,9 @@ one-network-model-networkmodel-settle κ a x y s t p q = changed (p .0 ∙ sym (
 pub one-network-model-networkmodel-on-packet-sent : OneReply network-model-networkmodel.on_packet_sent.Reads.Learnt
 one-network-model-networkmodel-on-packet-sent κ a x y s t p q = changed (number-injective _ _ (p .0 ∙ sym (q .0))) (p .1 ∙ sym (q .1))
 
+pub one-network-model-networkmodel-sent-tested : OneReply network-model-networkmodel.sent_tested.Reads.Learnt
+one-network-model-networkmodel-sent-tested κ a x y s t p q = changed (number-injective _ _ (p .0 ∙ sym (q .0))) (p .1 ∙ sym (q .1))
+
 pub one-network-model-networkmodel-restart-round-early : OneReply network-model-networkmodel.restart_round_early.Reads.Learnt
 one-network-model-networkmodel-restart-round-early κ a x y s t p q = changed (number-injective _ _ (p .0 ∙ sym (q .0))) (p .1 ∙ sym (q .1))
 

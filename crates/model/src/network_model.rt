@@ -226,7 +226,23 @@ impl NetworkModel {
         ensures reply { λ r. ⌜ number (r .reply) ≡ sentNumber self now inflight bytes ⌝ }
         ensures model { λ r. ⌜ r .model ≡ settled (sentNumber self now inflight bytes) (sentNext self now inflight packet bytes) self ⌝ }
     {
-        let reply = self.sent_reply(now, inflight, bytes);
+        self.sent_tested(self.ok(), now, inflight, packet, bytes)
+    }
+
+    // The same, where it is known whether the model is within its bounds.
+    pub fn sent_tested(
+        self,
+        fine: bool,
+        now: Moment,
+        inflight: u64,
+        packet: u64,
+        bytes: u64,
+    ) -> Changed
+        requires { ⌜ fine ≡ modelOk self ⌝ }
+        ensures reply { λ r. ⌜ number (r .reply) ≡ sentNumber self now inflight bytes ⌝ }
+        ensures model { λ r. ⌜ r .model ≡ settled (sentNumber self now inflight bytes) (sentNext self now inflight packet bytes) self ⌝ }
+    {
+        let reply = self.sent_reply(fine, now, inflight, bytes);
         let round = self.round;
         let rounds = self.rounds;
         let mut next = self;
@@ -238,12 +254,13 @@ impl NetworkModel {
         Changed { reply, model: next }
     }
 
-    fn sent_reply(self, now: Moment, inflight: u64, bytes: u64) -> Reply
+    fn sent_reply(self, fine: bool, now: Moment, inflight: u64, bytes: u64) -> Reply
+        requires { ⌜ fine ≡ modelOk self ⌝ }
         ensures { λ r. ⌜ number r ≡ sentNumber self now inflight bytes ⌝ }
     {
         let moment = self.moment;
-        let fine = moment_ok(now) & bytes_ok(inflight) & bytes_ok(bytes);
-        refusal(!self.ok(), !fine, now.is_before(moment), false, false)
+        let given = moment_ok(now) & bytes_ok(inflight) & bytes_ok(bytes);
+        refusal(!fine, !given, now.is_before(moment), false, false)
     }
 
     // The round begins anew before its end, uncounted.

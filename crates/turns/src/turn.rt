@@ -2,6 +2,7 @@
 ghost use mathlib.Core.Path.{_≡_};
 ghost use Rattle.filters.specs.Reply.{number};
 ghost use Rattle.model.specs.Answers.{settled, noMoment};
+ghost use Rattle.model.specs.Bounds.{modelOk};
 ghost use Rattle.turns.specs.Turn.{isCall, isJudged, isAsked, noRecord, startTurn, startedNumber, startedLeaves, startedRecord, finishedNumber, finishedLeaves, judgeTurn, askTurn, enterTurn, changeTurn, otherTurn};
 use calls::ask::ask;
 use calls::change::change;
@@ -105,17 +106,19 @@ fn moment_of(reply: Reply, now: Moment) -> Moment
     if reply.is_done() { now } else { Moment(0) }
 }
 
-// ---- call 3
+// ---- call 3, where it is known whether the model is within its bounds
 
-pub fn event(model: NetworkModel, n: &[u64; 49]) -> Event
+pub fn event(model: NetworkModel, fine: bool, n: &[u64; 49]) -> Event
+    requires { ⌜ fine ≡ modelOk model ⌝ }
     ensures reply { λ r. ⌜ number (r .reply) ≡ startedNumber (now (n .entry)) model ⌝ }
     ensures model { λ r. ⌜ r .model ≡ startedLeaves (now (n .entry)) model ⌝ }
     ensures record { λ r. ⌜ r .record ≡ startedRecord (now (n .entry)) model ⌝ }
 {
     let acked = acked_numbers(n);
     let few = acked_count(n);
-    events::on_congestion_event_start(
+    events::start_tested(
         model,
+        fine,
         params_of(n),
         record_of(n),
         sample_of(n),
@@ -123,13 +126,14 @@ pub fn event(model: NetworkModel, n: &[u64; 49]) -> Event
     )
 }
 
-// ---- call 4
+// ---- call 4, in the same way
 
-pub fn finish(model: NetworkModel, n: &[u64; 49]) -> Changed
+pub fn finish(model: NetworkModel, fine: bool, n: &[u64; 49]) -> Changed
+    requires { ⌜ fine ≡ modelOk model ⌝ }
     ensures reply { λ r. ⌜ number (r .reply) ≡ finishedNumber (now (n .entry)) model ⌝ }
     ensures model { λ r. ⌜ r .model ≡ finishedLeaves (now (n .entry)) model ⌝ }
 {
-    events::on_congestion_event_finish(model, record_of(n))
+    events::finish_tested(model, fine, record_of(n))
 }
 
 // ---- the other calls

@@ -1,27 +1,10 @@
--- `on_congestion_event_start` meets its contract: by whether the event is refused.
+-- `on_congestion_event_start` meets its contract: that of its part, given the test.
 use borrow.Author.Needs.{needs}
-use mathlib.Core.Path.{_≡_, refl, sym, ap, ap₂, _∙_, subst}
-use mathlib.Core.Bool.{Bool, true, false}
-use Prim.Native.Nat.{ℕ, _+_, _-_, _^_, _<_}
-use lib.Dec.{ltb, eqb}
-use Rattle.filters.specs.declared.round_trip_counter.RoundTripCounter.{RoundTripCounter}
-use Rattle.events.specs.declared.record.Record.{Record}
-use Rattle.events.specs.Event.{recordOf, recordNext, modelOf, modelNext}
-use Rattle.model.proofs.Settling.{done-as, refused-as}
-use Rattle.events.proofs.Room.{room}
 use Rattle.events.proofs.event.on_congestion_event_start.Statement.{statement}
 use Rattle.events.proofs.event.on_congestion_event_start.Tie as tie
 
-model-of-requires : tie.Need-model-of-requires
-unfolding recordOf
-model-of-requires c κs = let a = c .before .before .before .before .before .before .before .before .args in subst (λ (r : Record). (a .model .round .lost + r .lost < 2 ^ 64) × (ltb 0 (r .lost) ≡ true → eqb (a .model .round .losses) (2 ^ 64 - 1) ≡ false)) (sym (c .record-of .ensures)) (room (a .model) (a .params) (a .event) (a .sample) (a .acked .now) _ (c .before .before .before .before .before .before .event-reply .ensures) (sym (c .before .before .before .before .before .is-done .ensures) ∙ c .before .before .before .before .if1 .taken))
-
 returns : tie.Need-returns
-unfolding recordNext modelNext
-returns c = let a = c .before .before .before .before .before .before .before .before .before .args in let r = c .before .record-of .ensures ∙ ap (recordOf (a .model) (a .event) (a .sample)) (c .before .before .before .on-packets-acked .ensures .1 .1) in (c .before .before .before .before .before .before .before .event-reply .ensures, (done-as _ _ _ _ _ _ (c .before .before .before .before .before .before .before .event-reply .ensures) (c .before .before .before .before .before .before .is-done .ensures) (c .before .before .before .before .before .if1 .taken) (c .model-of .ensures ∙ ap₂ (λ (x : Record) (y : RoundTripCounter). modelOf (a .model) (a .params) x (a .sample) y) r (c .before .before .before .on-packets-acked .ensures .1 .0)), done-as _ _ _ _ _ _ (c .before .before .before .before .before .before .before .event-reply .ensures) (c .before .before .before .before .before .before .is-done .ensures) (c .before .before .before .before .before .if1 .taken) r))
-
-returns-2 : tie.Need-returns-2
-returns-2 c = (c .before .before .event-reply .ensures, (refused-as _ _ _ _ _ _ (c .before .before .event-reply .ensures) (c .before .is-done .ensures) (c .if1 .left) refl, refused-as _ _ _ _ _ _ (c .before .before .event-reply .ensures) (c .before .is-done .ensures) (c .if1 .left) refl))
+returns c = (c .start-tested .ensures .0, (c .start-tested .ensures .1 .0, c .start-tested .ensures .1 .1))
 
 pub on-congestion-event-start-spec : {M : Type 1} → statement M
-on-congestion-event-start-spec = tie.close (tie.spec (λ c κs. search needs) (λ c κs. search needs) (λ c κs. search needs) (λ c κs. search needs) model-of-requires returns returns-2)
+on-congestion-event-start-spec = tie.close (tie.spec (λ c κs. search needs) (λ c κs. c .ok .ensures) returns)

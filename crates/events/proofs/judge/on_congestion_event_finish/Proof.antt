@@ -1,45 +1,10 @@
--- `on_congestion_event_finish` meets its contract: by its one test.
+-- `on_congestion_event_finish` meets its contract: that of its part, given the test.
 use borrow.Author.Needs.{needs}
-use Prim.Native.Nat.{ℕ}
-use mathlib.Core.Bool.{Bool, true, false, cond, _&&_, true≢false}
-use mathlib.Core.Path.{_≡_, refl, sym, _∙_}
-use lib.Dec.{eqb}
-use Rattle.model.specs.declared.network_model.NetworkModel.{NetworkModel}
-use Rattle.model.specs.Answers.{settled}
-use Rattle.model.specs.Calls.{withRound}
-use Rattle.model.proofs.Rows.{and-left, and-right}
-use Rattle.events.specs.Judge.{finishNext}
 use Rattle.events.proofs.judge.on_congestion_event_finish.Statement.{statement}
 use Rattle.events.proofs.judge.on_congestion_event_finish.Tie as tie
 
--- n is the reply's number, d whether it is done, t whether the round ended
-module _ (n : ℕ) (d t : Bool) (next old : NetworkModel) (is : d ≡ eqb n 0) where
-  cleared : (d && t) ≡ true → next ≡ settled n (cond t next old) old
-  unfolding settled
-  cleared h = simp (sym is ∙ and-left d t h, and-right d t h)
-
-  kept : (d && t) ≡ false → old ≡ settled n (cond t next old) old
-  unfolding settled
-  kept h = rw (← is) (go d t h)
-    where
-      go : (d t : Bool) → (d && t) ≡ false → old ≡ cond d (cond t next old) old
-      go true true h = absurd (true≢false h)
-      go true false h = refl
-      go false t h = refl
-
 returns : tie.Need-returns
-unfolding finishNext withRound
-returns c =
-    let args = c .before .before .before .before .before .args in
-    let reply = c .before .before .before .before .record-reply .ensures in
-    (reply, rw (← reply, ← c .new .ensures) (cleared _ _ _ _ (args .model) (c .before .before .before .is-done .ensures) (c .before .if1 .taken)))
-
-returns-2 : tie.Need-returns-2
-unfolding finishNext
-returns-2 c =
-    let args = c .before .before .before .before .args in
-    let reply = c .before .before .before .record-reply .ensures in
-    (reply, rw (← reply) (kept _ _ (args .event .ended) _ (args .model) (c .before .before .is-done .ensures) (c .if1 .left)))
+returns c = (c .finish-tested .ensures .0, c .finish-tested .ensures .1)
 
 pub on-congestion-event-finish-spec : {M : Type 1} → statement M
-on-congestion-event-finish-spec = tie.close (tie.spec (λ c κs. search needs) (λ c κs. search needs) (λ c κs. search needs) returns returns-2)
+on-congestion-event-finish-spec = tie.close (tie.spec (λ c κs. search needs) (λ c κs. c .ok .ensures) returns)

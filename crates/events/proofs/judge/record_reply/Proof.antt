@@ -7,7 +7,7 @@ use Rattle.events.proofs.judge.record_reply.Tie as tie
 
 returns : tie.Need-returns
 unfolding recordNumber
-returns c = c .refusal .ensures ∙ simp (c .before .before .ok .ensures, c .before .ok2 .ensures)
+returns c = c .refusal .ensures ∙ simp (c .before .before .pre, c .before .ok .ensures)
 
 pub record-reply-spec : {M : Type 1} → statement M
-record-reply-spec = tie.close (tie.spec (λ c κs. search needs) (λ c κs. search needs) (λ c κs. search needs) returns)
+record-reply-spec = tie.close (tie.spec (λ c κs. search needs) (λ c κs. search needs) returns)

@@ -18,4 +18,4 @@ returns c =
     )
 
 pub end-spec : {M : Type 1} → statement M
-end-spec = tie.close (tie.spec (λ c κs. search needs) (λ c κs. search needs) (λ c κs. search needs) (λ c κs. search needs) (λ c κs. search needs) (λ c. search needs) returns)
+end-spec = tie.close (tie.spec (λ c κs. search needs) (λ c κs. c .before .before .before .before .pre .2) (λ c κs. search needs) (λ c κs. search needs) (λ c κs. search needs) (λ c. search needs) returns)

@@ -18,7 +18,7 @@ returns c =
     let inflight = c .before .before .before .before .before .before .before .before .before .before .before .get-word2 .ensures ∙ sym (getD-wordsAt calls (args .at) 49 2 (omega arith)) in
     let packet = c .before .before .before .before .before .before .before .before .before .before .get-word3 .ensures ∙ sym (getD-wordsAt calls (args .at) 49 3 (omega arith)) in
     let bytes = c .before .before .before .before .before .before .before .before .before .get-word4 .ensures ∙ sym (getD-wordsAt calls (args .at) 49 4 (omega arith)) in
-    let sent = c .before .before .before .before .before .before .before .before .on-packet-sent .ensures in (
+    let sent = c .before .before .before .before .before .before .before .before .sent-tested .ensures in (
       rw (← time, ← inflight, ← packet, ← bytes) (sent .1),
       rw (← time, ← inflight, ← bytes) (c .before .before .before .put-answer .ensures ∙ ap₂ (λ (n : ℕ) (event : List ℕ). sets (args .answers .now) (args .to) (allBytes (n ∷ 0 ∷ event))) (c .before .before .before .before .before .before .row .ensures ∙ sent .0) (c .before .before .before .before .before .no-record .ensures)),
     )
@@ -35,7 +35,7 @@ send-spec =
     (λ c κs. search needs)
     (λ c. search needs)
     (λ c κs. search needs)
-    (λ c κs. search needs)
+    (λ c κs. c .before .before .before .before .before .before .pre .2)
     (λ c κs. search needs)
     (λ c κs. search needs)
     (λ c κs. search needs)

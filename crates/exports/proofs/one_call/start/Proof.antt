@@ -20,4 +20,4 @@ returns c =
     )
 
 pub start-spec : {M : Type 1} → statement M
-start-spec = tie.close (tie.spec (λ c κs. search needs) (λ c κs. search needs) (λ c κs. search needs) (λ c κs. search needs) (λ c κs. search needs) (λ c. search needs) returns)
+start-spec = tie.close (tie.spec (λ c κs. search needs) (λ c κs. c .before .before .before .before .pre .2) (λ c κs. search needs) (λ c κs. search needs) (λ c κs. search needs) (λ c. search needs) returns)

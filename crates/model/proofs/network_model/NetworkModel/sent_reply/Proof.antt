@@ -7,13 +7,12 @@ use Rattle.model.proofs.network_model.NetworkModel.sent_reply.Tie as ti
 
 returns : tie.Need-returns
 unfolding sentNumber
-returns c = c .refusal .ensures ∙ simp (c .before .is-before .ensures, c .before .before .ok .ensures, c .before .before .before .bytes-ok2 .ensures, c .before .before .before .before .bytes-ok .ensures, c .before .before .before .before .before .moment-ok .ensures)
+returns c = c .refusal .ensures ∙ simp (c .before .is-before .ensures, c .before .before .before .before .before .before .pre, c .before .before .bytes-ok2 .ensures, c .before .before .before .bytes-ok .ensures, c .before .before .before .before .moment-ok .ensures)
 
 pub sent-reply-spec : {M : Type 1} → statement M
 sent-reply-spec =
     tie.close
     (tie.spec
-    (λ c κs. search needs)
     (λ c κs. search needs)
     (λ c κs. search needs)
     (λ c κs. search needs)
