@@ -1,5 +1,5 @@
 # make run: proves, builds and runs the demonstration. make test: the whole gate.
-.PHONY: run test drift picture lists rust bench clean
+.PHONY: run test diff patterns changes drift picture lists rust bench clean
 
 run:
 	rt check show
@@ -11,10 +11,28 @@ run:
 test:
 	rt fmt --check
 	sh tests/lists.sh
+	sh tests/diff.sh gate
 	rt ci
 
-# Random runs of the port beside exact fractions, and their picture (docs/DRIFT.md).
 SEED = 7
+
+# The port beside the original, call by call, from SEED: CALLS calls of the model, and a tenth as many on filters and on
+# numbers (oracle/README.md).
+CALLS = 5000000
+diff:
+	@sh tests/diff.sh $(SEED) $(CALLS)
+
+# The same for every f32: to_u64, and scale with each of NUMBERS.
+NUMBERS = 1300 16777216 16777217 1099511627776 18446744073709551615
+patterns:
+	@sh tests/diff.sh patterns $(NUMBERS)
+
+# Small changes to the original, each of which the comparison with the port must notice.
+changes:
+	rt check serve
+	PORT="$$(sh tests/program.sh serve)" python3 tests/changes.py
+
+# Random runs of the port beside exact fractions, and their picture (docs/DRIFT.md).
 RUNS = 4000
 drift:
 	rt check follow

@@ -203,14 +203,9 @@ def between(rng):
 
 
 def program():
-    """The command that runs `follow`: the program itself on x86-64, by way of the kit's emulator elsewhere."""
-    path = os.path.join(ROOT, "target", "bin", "follow")
-    if os.uname().machine == "x86_64":
-        return [path]
-    guide = subprocess.run(["rt", "doc"], capture_output=True, text=True, check=True).stdout.strip()
-    kit = os.path.dirname(os.path.dirname(guide))
-    tools = os.path.join(kit, "on", os.uname().machine, "toolchain")
-    return [os.path.join(tools, "bin", "qemu-x86_64"), os.path.join(tools, "lib", "ld-linux-x86-64.so.2"), "--library-path", os.path.join(tools, "lib"), path]
+    """The words of the command that runs `follow`."""
+    script = os.path.join(ROOT, "tests", "program.sh")
+    return subprocess.run(["sh", script, "follow"], capture_output=True, text=True, check=True).stdout.split()
 
 
 def text_of(calls):
@@ -219,7 +214,7 @@ def text_of(calls):
 
 def followed(command, calls):
     """What the port has after each call: the reply's number, inflight_lo and bandwidth_lo."""
-    out = subprocess.run(command, input=text_of(calls), capture_output=True, text=True, check=True).stdout
+    out = subprocess.run(command, cwd=ROOT, input=text_of(calls), capture_output=True, text=True, check=True).stdout
     rows = [tuple(map(int, line.split())) for line in out.splitlines()]
     if len(rows) != len(calls):
         raise SystemExit(f"{len(calls)} calls were given, {len(rows)} answered")

@@ -2,6 +2,7 @@
 //! choice of such runs.
 
 use std::time::Duration;
+use std::vec::IntoIter;
 
 use crate::recovery::bandwidth::Bandwidth;
 use crate::values::whole;
@@ -59,29 +60,32 @@ pub fn patterns(function: u64, other: u64) -> impl FnMut() -> Step {
     }
 }
 
-/// An endless choice of runs around the numbers where a function turns.
+/// An endless choice of runs around the numbers where a function turns: first
+/// around each of them once.
 pub struct Runs {
     random: Random,
     /// Whole numbers, at the ties of f32 and of f64.
     turns: [Vec<u64>; 2],
+    /// Functions and numbers that are still to come.
+    each: IntoIter<(u64, u64)>,
 }
 
 impl Runs {
     pub fn new(seed: u64) -> Self {
+        let turns = [whole(24).all, whole(53).all];
+        let each = each(&turns.concat()).into_iter();
         Runs {
             random: Random::new(seed ^ (3 << 62)),
-            turns: [whole(24).all, whole(53).all],
+            turns,
+            each,
         }
     }
 
     pub fn next(&mut self) -> Step {
-        let function = self.random.below(NAMES.len() as u64);
-        let number = match function {
-            0 | 1 | 6 => self.whole(),
-            2 | 4 | 5 => self.pattern(),
-            _ => self.double(),
+        let (function, number, before) = match self.each.next() {
+            Some((function, number)) => (function, number, RUN / 2),
+            None => self.any(),
         };
-        let before = self.random.below(RUN);
         let first = match function {
             2 | 4 | 5 => number.saturating_sub(before).min((1 << 32) - RUN),
             _ => number.saturating_sub(before).min(u64::MAX - (RUN - 1)),
@@ -95,6 +99,17 @@ impl Runs {
             first,
             other,
         }
+    }
+
+    /// A function, a number, and how many of its run are before it.
+    fn any(&mut self) -> (u64, u64, u64) {
+        let function = self.random.below(NAMES.len() as u64);
+        let number = match function {
+            0 | 1 | 6 => self.whole(),
+            2 | 4 | 5 => self.pattern(),
+            _ => self.double(),
+        };
+        (function, number, self.random.below(RUN))
     }
 
     fn whole(&mut self) -> u64 {
@@ -123,4 +138,21 @@ impl Runs {
             _ => at.to_bits(),
         }
     }
+}
+
+/// Each function with each number where it turns: these whole numbers; every
+/// power of two as an f32, of both signs; powers of two and halves as an f64.
+fn each(whole: &[u64]) -> Vec<(u64, u64)> {
+    let mut all = Vec::new();
+    for function in [0, 1, 6] {
+        all.extend(whole.iter().map(|&n| (function, n)));
+    }
+    for function in [2, 4, 5] {
+        all.extend((0..1 << 9).map(|power| (function, power << 23)));
+    }
+    let powers = (1023 - 2)..(1023 + 66);
+    all.extend(powers.map(|power| (3, power << 52)));
+    let halves = (0..53).map(|power| (1u64 << power) as f64 + 0.5);
+    all.extend(halves.map(|half| (3, half.to_bits())));
+    all
 }

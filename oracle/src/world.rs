@@ -5,6 +5,8 @@ use crate::frame;
 use crate::frame::Answer;
 use crate::frame::CallWords;
 use crate::frame::CARRIED;
+use crate::model::field::CWND_GAIN;
+use crate::model::field::PACING_GAIN;
 use crate::model::Call;
 use crate::model::Host;
 use crate::model::Record;
@@ -138,7 +140,7 @@ impl World {
         let mut parameters = self.start.parameters();
         for &(index, number) in numbers {
             match index {
-                0..66 => self.state[index] = number,
+                0..66 => self.state[index] = written(index, number),
                 _ => parameters[index - 66] = number,
             }
         }
@@ -200,5 +202,15 @@ impl World {
         words[2..][..record.len()].copy_from_slice(record);
         words[2 + frame::RECORD..].copy_from_slice(&self.state[..CARRIED]);
         words
+    }
+}
+
+/// What stands in the state where this number is put: a NaN has one pattern
+/// there.
+fn written(index: usize, number: u64) -> u64 {
+    let is_gain = [CWND_GAIN, PACING_GAIN].contains(&index);
+    match is_gain && f32::from_bits(number as u32).is_nan() {
+        true => 0x7fc0_0000,
+        false => number,
     }
 }

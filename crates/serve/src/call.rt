@@ -1,0 +1,41 @@
+// One call of a frame, from its bytes.
+ghost use mathlib.Core.Path.{_≡_};
+ghost use lib.ListN.{length};
+use crate::copy::copy;
+use crate::filter;
+use crate::neighbours;
+use exports::model_run::guovssalu_run;
+use words::get_word;
+use words::put_words;
+
+// Makes the call, 392 bytes, in the state. Its answer is 144 bytes, and after them stands the state that it left.
+pub fn answer_call(state: &mut [u8; 400], call: &[u8], answer: &mut [u8])
+    requires { ⌜ (length (now call) ≡ 392) × (length (now answer) ≡ 544) ⌝ }
+{
+    let number = get_word(call, 0);
+    if number == 47 {
+        neighbours::answer(call, answer);
+        return;
+    }
+    if number == 46 {
+        filter::answer(call, answer);
+        copy(state, answer, 144);
+        return;
+    }
+    model_call(state, call, answer);
+    copy(state, answer, 144);
+}
+
+// A call of the model, by the exported run. What the run itself refuses, as an unknown call, is answered by its reply
+// alone.
+fn model_call(state: &mut [u8], call: &[u8], answer: &mut [u8])
+    requires { ⌜ length (now answer) ≡ 544 ⌝ }
+{
+    let reply = guovssalu_run(state, call, answer);
+    if reply == 0 {
+        return;
+    }
+    let mut words = [0u64; 18];
+    words[0] = reply;
+    put_words(answer, 0, &words);
+}

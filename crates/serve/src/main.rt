@@ -1,0 +1,30 @@
+// Answers frames of calls from standard input on standard output, until the input ends (oracle/README.md, "The frames").
+// The comparison with the original asks this program.
+mod call;
+mod copy;
+mod filter;
+mod frame;
+mod neighbours;
+
+use libc::STDIN_FILENO;
+use libc::STDOUT_FILENO;
+
+// Reads a frame and writes its answer; whether there was one.
+fn serve_frame(request: &mut [u8; 39_600], answers: &mut [u8; 54_400]) -> bool {
+    if io::read_full(STDIN_FILENO, request) < 39_600 {
+        return false;
+    }
+    frame::answer(request, answers);
+    io::write_all(STDOUT_FILENO, answers)
+}
+
+// A proved loop has to end, and nothing says that the input does: it stops after 2^40 frames, which no run reaches.
+fn main() {
+    let mut request = [0u8; 39_600];
+    let mut answers = [0u8; 54_400];
+    for _ in 0u64..1_099_511_627_776 {
+        if !serve_frame(&mut request, &mut answers) {
+            return;
+        }
+    }
+}
