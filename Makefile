@@ -12,6 +12,7 @@ test:
 	rt fmt --check
 	sh tests/lists.sh
 	sh tests/diff.sh gate
+	sh tests/rust.sh
 	rt ci
 
 SEED = 7
@@ -51,18 +52,9 @@ lists:
 		mv target/lists/$$program/* crates/$$program/data/; \
 	done
 
-# The archive of the exported calls, and the Rust package over it: its tests and its example. The archive is for
-# x86-64; another machine can only check the package.
-CARGO = CARGO_TARGET_DIR=$(CURDIR)/target/cargo cargo
+# The archive of the exported calls, and the Rust package over it: its tests and its example, on x86-64.
 rust:
-	rt staticlib exports
-	@if [ "$$(uname -m)" = x86_64 ]; then \
-		$(CARGO) test --manifest-path rust/Cargo.toml && \
-		$(CARGO) run --quiet --manifest-path rust/Cargo.toml --example loss_episode; \
-	else \
-		echo "The archive is for x86-64, and this machine is $$(uname -m): the package is checked, not run."; \
-		$(CARGO) check --all-targets --manifest-path rust/Cargo.toml; \
-	fi
+	sh tests/rust.sh
 
 # The port beside the original, in one process (docs/BENCHMARKS.md).
 bench:
@@ -71,7 +63,7 @@ bench:
 		exit 1; \
 	}
 	rt staticlib exports
-	$(CARGO) run --release --quiet --manifest-path bench/Cargo.toml
+	CARGO_TARGET_DIR=$(CURDIR)/target/cargo cargo run --release --quiet --manifest-path bench/Cargo.toml
 
 clean:
 	rm -rf target oracle/target rust/target bench/target
