@@ -44,12 +44,16 @@ impl Bandwidth {
         Bandwidth(scale_f64(self.0, std::num::f32_to_f64_with_nan(factor)))
     }
 
-    // The whole bytes that this bandwidth carries in a period.
+    // The whole bytes that this bandwidth carries in a period. Below 4 gigabits and 4 seconds the
+    // product has 64 bits.
     pub fn to_bytes_per_period(self, period: Duration) -> u64
         ensures { λ r. ⌜ r ≡ bytesPerPeriod self period ⌝ }
     {
         let bits = self.0;
         let nanos = period.0;
+        if (bits <= 0xffff_ffff) & (nanos <= 0xffff_ffff) {
+            return bits * nanos / NANOS_PER_BYTE;
+        }
         if bits == Bandwidth::INFINITE.0 {
             return if nanos == 0 { 0 } else { saturating::MOST };
         }

@@ -1,8 +1,11 @@
 -- A product divided, by parts: laws over any divisor.
-use Prim.Native.Nat.{ℕ, min, _+_, _*_, _/_, _%_, _^_, _≤_, _<_}
-use mathlib.Core.Path.{_≡_, ap, sym, _∙_}
-use native.Mathlib.Nat.{add-assoc, add-mul, div-add-mod', div-le-of-le-mul, le-of-eq, le-of-lt, le-trans, lt-of-le-of-lt, mod-lt, mul-add-div-right, mul-comm, mul-le-mul-left, mul-lt-mul-of-pos-right, mul-right-comm}
+use Prim.Native.Nat.{ℕ, min, _+_, _-_, _*_, _/_, _%_, _^_, _≤_, _<_}
+use mathlib.Core.Bool.{Bool, true, false, _&&_, true≢false}
+use mathlib.Core.Path.{_≡_, refl, ap, sym, _∙_}
+use native.Mathlib.Nat.{min-eq-left, add-assoc, add-mul, div-add-mod', div-le-of-le-mul, le-of-eq, le-of-lt, le-trans, lt-of-le-of-lt, mod-lt, mul-add-div-right, mul-comm, mul-le-mul-left, mul-lt-mul-of-pos-right, mul-right-comm}
 use native.Mathlib.Omega.{arith}
+use lib.Dec.{leb}
+use borrow.Author.Tests.{leb-true}
 
 -- a product, with one factor split at k
 split : (k a b : ℕ) → a * b ≡ a / k * b * k + a % k * b
@@ -44,3 +47,25 @@ pub saturated :
 saturated d m b t {w} {f} {r} p ew ef er =
     er
     ∙ rw (ew, ef, ← whole-out d t (b % d) p, mul-comm t (b % d), cut m (b / d * t) (b % d * t / d), ← whole-out d b t p)
+
+-- ---- two numbers of 32 binary digits, as the code tests them
+module _ (a b : ℕ) (h : (leb a 4_294_967_295 && leb b 4_294_967_295) ≡ true) where
+  both : (s t : Bool) → (s && t) ≡ true → (s ≡ true) × (t ≡ true)
+  both true t e = (refl, e)
+  both false t e = absurd (true≢false (sym e))
+
+  small : (a ≤ 4_294_967_295) × (b ≤ 4_294_967_295)
+  small =
+      let tests = both (leb a 4_294_967_295) (leb b 4_294_967_295) h in
+      (leb-true a 4_294_967_295 (tests .0), leb-true b 4_294_967_295 (tests .1))
+
+  -- their product has at most 64
+  pub fits-64 : a * b < 2 ^ 64
+  fits-64 = lt-of-le-of-lt (mul-le-mul-left a (small .1)) (omega (arith, small .0))
+
+  pub not-most : a ≡ 2 ^ 64 - 1 → ⊥
+  not-most e = omega (arith, e, small .0)
+
+-- divided, it needs no limit
+pub no-limit : (n : ℕ) → n < 2 ^ 64 → n / 8_000_000_000 ≡ min (n / 8_000_000_000) (2 ^ 64 - 1)
+no-limit n h = sym (min-eq-left (omega arith))
