@@ -1,0 +1,231 @@
+#!/usr/bin/env python3
+"""Small changes to the source, or to the definitions, each of which the prover must refuse.
+
+    tests/mutants.py [--specs] [--crate NAME].. SEED COUNT
+
+Takes COUNT changes at random places of crates/*/src (with --specs, of crates/*/specs), one at a time: an operator, a
+constant, a comparison, a swapped argument or field, a dropped step, a wrong variant. Each is made in a copy of the
+repository, and the prover is run on its crate. What is still proved is a survivor: harmless, and then it stands with its
+reason in tests/mutants.txt, or a hole in a contract. What the language itself refuses, as a wrong type, is not counted.
+Ends with 1 where a survivor isn't explained."""
+
+import argparse
+import os
+import random
+import re
+import shutil
+import subprocess
+import sys
+import tempfile
+
+ROOT = os.path.dirname(os.path.dirname(os.path.abspath(__file__)))
+KNOWN = os.path.join(ROOT, "tests", "mutants.txt")
+
+# What is found, as a pattern, and what is put in its place.
+CODE = [
+    (r" < ", " <= "),
+    (r" <= ", " < "),
+    (r" > ", " >= "),
+    (r" >= ", " > "),
+    (r" == ", " != "),
+    (r" != ", " == "),
+    (r" \+ ", " - "),
+    (r" - ", " + "),
+    (r" \* ", " + "),
+    (r" / ", " * "),
+    (r" % ", " / "),
+    (r" & ", " | "),
+    (r" \| ", " & "),
+    (r" << ", " >> "),
+    (r" >> ", " << "),
+    (r"!(?=[a-z(])", ""),
+    (r"\btrue\b", "false"),
+    (r"\bfalse\b", "true"),
+    (r"\bmax\(", "min("),
+    (r"\bmin\(", "max("),
+]
+SPECS = [
+    (r"\bltb\b", "leb"),
+    (r"\bleb\b", "ltb"),
+    (r" \+ ", " - "),
+    (r" - ", " + "),
+    (r" \* ", " + "),
+    (r" / ", " * "),
+    (r" && ", " || "),
+    (r" \|\| ", " && "),
+    (r"\bnot ", ""),
+    (r"\btrue\b", "false"),
+    (r"\bfalse\b", "true"),
+    (r"\bmax\b", "min"),
+    (r"\bmin\b", "max"),
+]
+NUMBER = re.compile(r"(?<![\w.])(0x[0-9a-f_]+|\d[\d_]*)(?![\w.])")
+ARGUMENTS = re.compile(r"\((\w+), (\w+)")
+FIELD = re.compile(r"\b(\w+)\.([a-z]\w*)\b(?!\()")
+STEP = re.compile(r"^\s+[\w.\[\]]+ [+*-]?= .*;$")
+VARIANT = re.compile(r"\b([A-Z]\w+)::([A-Z]\w+)\b")
+NAMES = re.compile(r"(?<=[( ])([a-z]\w*) ([a-z]\w*)(?=[) ])")
+SKIPPED = ("//", "use ", "pub use ", "ghost ", "pub mod ", "mod ", "#", "pub struct ", "struct ", "pub enum ", "enum ", "impl ")
+
+
+class Change:
+    def __init__(self, path, line, old, new):
+        self.path, self.line, self.old, self.new = path, line, old, new
+
+    def __str__(self):
+        return f"{self.path}:{self.line + 1}: {self.old.strip()}  =>  {self.new.strip() or '(nothing)'}"
+
+    def key(self):
+        return (self.path, self.old.strip(), self.new.strip())
+
+
+def files(crate, specs):
+    folder = os.path.join(ROOT, "crates", crate, "specs" if specs else "src")
+    for at, _, names in sorted(os.walk(folder)):
+        for name in sorted(names):
+            if name.endswith(".antt" if specs else ".rt") and name != "Lib.antt":
+                yield os.path.relpath(os.path.join(at, name), ROOT)
+
+
+def code_lines(text):
+    """The lines of function bodies and constants: no comment, no import, no signature, no clause, no declared field."""
+    declared = False
+    for index, line in enumerate(text):
+        bare = line.strip()
+        if bare.startswith(("pub struct", "struct", "pub enum", "enum")):
+            declared = bare.endswith("{")
+            continue
+        if declared:
+            declared = bare != "}"
+            continue
+        if not bare or bare.startswith(SKIPPED) or "λ" in bare or "⌜" in bare or re.search(r"\bfn \w+", bare):
+            continue
+        yield index, line
+
+
+def definition_lines(text):
+    for index, line in enumerate(text):
+        bare = line.strip()
+        if bare and not bare.startswith(("--", "use ", "pub mod", "pub record", "module", "unfolding", "abbrev pub", "unfoldable pub")) and " : " not in bare:
+            yield index, line
+
+
+def replaced(line, match, new):
+    return line[: match.start()] + new + line[match.end() :]
+
+
+def changes(path, specs, variants, fields):
+    text = open(os.path.join(ROOT, path), encoding="utf-8").read().split("\n")
+    for index, line in (definition_lines if specs else code_lines)(text):
+        for pattern, new in SPECS if specs else CODE:
+            for match in re.finditer(pattern, line):
+                yield Change(path, index, line, replaced(line, match, new))
+        for match in NUMBER.finditer(line):
+            word = match.group(1)
+            value = int(word.replace("_", ""), 16 if word.startswith("0x") else 10)
+            for other in {value + 1, max(value - 1, 0)} - {value}:
+                yield Change(path, index, line, replaced(line, match, str(other)))
+        if specs:
+            for match in NAMES.finditer(line):
+                yield Change(path, index, line, replaced(line, match, f"{match.group(2)} {match.group(1)}"))
+            continue
+        for match in ARGUMENTS.finditer(line):
+            if match.group(1) != match.group(2):
+                yield Change(path, index, line, replaced(line, match, f"({match.group(2)}, {match.group(1)}"))
+        for match in FIELD.finditer(line):
+            for other in sorted(fields.get(match.group(2), ())):
+                yield Change(path, index, line, replaced(line, match, f"{match.group(1)}.{other}"))
+        for match in VARIANT.finditer(line):
+            for other in sorted(variants.get(match.group(1), set()) - {match.group(2)}):
+                yield Change(path, index, line, replaced(line, match, f"{match.group(1)}::{other}"))
+        if STEP.match(line) and not line.strip().startswith("let "):
+            yield Change(path, index, line, "")
+
+
+def declared():
+    """The variants of every enum; for every field the other fields of the same type in the same struct."""
+    variants, fields = {}, {}
+    for crate in crates():
+        for path in files(crate, False):
+            text = open(os.path.join(ROOT, path), encoding="utf-8").read()
+            for kind, name, body in re.findall(r"^pub (struct|enum) (\w+) \{\n(.*?)^\}", text, re.M | re.S):
+                if kind == "enum":
+                    variants.setdefault(name, set()).update(re.findall(r"^    ([A-Z]\w*),", body, re.M))
+                    continue
+                typed = re.findall(r"^    pub (\w+): ([\w:]+),", body, re.M)
+                for field, of in typed:
+                    fields.setdefault(field, set()).update(f for f, t in typed if t == of and f != field)
+    return variants, fields
+
+
+def crates():
+    for line in open(os.path.join(ROOT, "crates.txt"), encoding="utf-8"):
+        if ":" in line and not line.startswith("#"):
+            yield line.split(":")[0]
+
+
+def known():
+    explained = set()
+    if os.path.exists(KNOWN):
+        for line in open(KNOWN, encoding="utf-8"):
+            parts = [part.strip() for part in line.split(" | ")]
+            if len(parts) == 4:
+                explained.add(tuple(parts[:3]))
+    return explained
+
+
+def outcome(copy, crate):
+    """`proved`, `refused`, `no program` (the language refuses it), or `not told`."""
+    ran = subprocess.run(["rt", "dev", crate], cwd=copy, stdout=subprocess.PIPE, stderr=subprocess.STDOUT, timeout=900)
+    said = ran.stdout.decode("utf-8", "replace")
+    if ran.returncode == 0:
+        return "proved"
+    if re.search(r"src/\S+\.rt:\d+:\d+: error|^error", said, re.M):
+        return "no program"
+    return "refused" if ran.returncode == 1 else "not told"
+
+
+def main():
+    reader = argparse.ArgumentParser(description=__doc__, formatter_class=argparse.RawDescriptionHelpFormatter)
+    reader.add_argument("--specs", action="store_true")
+    reader.add_argument("--crate", action="append")
+    reader.add_argument("seed", type=int)
+    reader.add_argument("count", type=int)
+    asked = reader.parse_args()
+    variants, fields = declared()
+    explained = known()
+    chosen = random.Random(asked.seed)
+    names = asked.crate or [c for c in crates() if os.path.isdir(os.path.join(ROOT, "crates", c, "proofs"))]
+    all_changes = {c: [x for p in files(c, asked.specs) for x in changes(p, asked.specs, variants, fields)] for c in names}
+    names = [c for c in names if all_changes[c]]
+    copy = tempfile.mkdtemp()
+    shutil.copytree(ROOT, os.path.join(copy, "repository"), symlinks=True, ignore=shutil.ignore_patterns(".git"))
+    copy = os.path.join(copy, "repository")
+    counted, unexplained, tally = 0, [], {}
+    while counted < asked.count and any(all_changes.values()):
+        crate = chosen.choice([c for c in names if all_changes[c]])
+        change = all_changes[crate].pop(chosen.randrange(len(all_changes[crate])))
+        place = os.path.join(copy, change.path)
+        before = open(place, encoding="utf-8").read()
+        text = before.split("\n")
+        text[change.line] = change.new
+        open(place, "w", encoding="utf-8").write("\n".join(text))
+        found = outcome(copy, crate)
+        open(place, "w", encoding="utf-8").write(before)
+        tally[found] = tally.get(found, 0) + 1
+        if found == "no program":
+            continue
+        counted += 1
+        if found == "proved":
+            reason = "explained" if change.key() in explained else "NOT EXPLAINED"
+            if change.key() not in explained:
+                unexplained.append(change)
+            print(f"survived, {reason}: {change}", flush=True)
+        print(f"{counted} of {asked.count}: {found}: {change}", file=sys.stderr, flush=True)
+    shutil.rmtree(os.path.dirname(copy))
+    print(", ".join(f"{n} {what}" for what, n in sorted(tally.items())) + f"; {len(unexplained)} survivors not explained")
+    return 1 if unexplained else 0
+
+
+if __name__ == "__main__":
+    sys.exit(main())
