@@ -36,11 +36,11 @@ changes:
 # Random runs of the port beside exact fractions, and their picture (docs/DRIFT.md).
 RUNS = 4000
 drift:
-	rt check follow
+	rt check serve
 	python3 tests/drift.py $(SEED) $(RUNS)
 
 picture:
-	rt check follow
+	rt check serve
 	python3 tests/drift.py --picture docs/drift.svg
 
 # Makes the lists of the original's answers again (oracle/README.md).

@@ -4,8 +4,9 @@
     tests/drift.py [SEED [RUNS]]        compares, and prints the worst cases beside their bounds
     tests/drift.py --picture FILE.svg   draws runs of the port against the exact run
 
-The port is the program `follow` (crates/follow), which carries out the calls; nothing of its lower bounds is taken
-from it but what it prints. The exact run here is written from network_model.rs, with Python's fractions."""
+The port is the program `serve` (crates/serve), which carries out frames of calls (oracle/README.md); nothing is taken
+from it but the replies and the two lower bounds. The exact run here is written from network_model.rs, with Python's
+fractions."""
 
 import os
 import random
@@ -17,8 +18,12 @@ from fractions import Fraction
 ROOT = os.path.dirname(os.path.dirname(os.path.abspath(__file__)))
 UNSET = 2**64 - 1
 PARTS = 2**24
-# the numbers of the calls in a line for `follow` (crates/follow/src/calls.rt)
-START, SENT, EVENT, FINISH, HIGH, CAP, CLEAR_INFLIGHT, CLEAR_BANDWIDTH, ADVANCE, CRUISE, REFILL, RESTART = range(12)
+# The numbers of the calls (docs/LAYOUT.md).
+START, SENT, EVENT, FINISH, RESTART, HIGH, CAP, CLEAR_INFLIGHT, CLEAR_BANDWIDTH, ADVANCE, CRUISE, REFILL = (
+    0, 1, 3, 4, 8, 17, 18, 19, 20, 21, 41, 42
+)
+NOTHING = 12  # bdp0, which fills a frame up
+FRAME = 100
 
 
 def f32(bits):
@@ -203,22 +208,64 @@ def between(rng):
 
 
 def program():
-    """The words of the command that runs `follow`."""
+    """The words of the command that runs `serve`."""
     script = os.path.join(ROOT, "tests", "program.sh")
-    return subprocess.run(["sh", script, "follow"], capture_output=True, text=True, check=True).stdout.split()
+    return subprocess.run(["sh", script, "serve"], capture_output=True, text=True, check=True).stdout.split()
 
 
 def text_of(calls):
     return "".join(" ".join(map(str, [op] + a)) + "\n" for op, a in calls)
 
 
+def words_of(op, a, beta, told):
+    """The 49 words of a call. The parameters but beta are the original's own, the clock stands still, the rest is 0."""
+    words = [0] * 49
+    words[0] = op
+    words[38:] = [beta, *(bits_of(x) for x in (0.015, 0.15, 1.25, 2.0, 2.773)), 3, 0, 10_000_000_000, 2_000_000_000, 1]
+    if op == SENT:
+        words[3] = a[0]
+    elif op == EVENT:
+        window, probing, acked, lost, packet, bandwidth, limited, inflight = a
+        words[1:3] = [0, 0] if bandwidth == UNSET else [1, bandwidth]
+        words[7], words[10], words[16], words[17] = limited, inflight, acked, lost
+        words[18:20] = [0, 0] if packet == 0 else [1, packet]
+        words[23], words[29] = window, probing
+    elif op == FINISH:
+        words[28] = int(told.ended)
+    elif op in (HIGH, CAP):
+        words[1] = a[0]
+    return words
+
+
+def encoded(calls):
+    """The words of all calls. Whether the record handed to a finish says that a round ended is worked out here."""
+    out, beta, told = [], 0, None
+    for op, a in calls:
+        if op == START:
+            beta, told = a[0], Exact(a[0])
+        else:
+            told.call(op, a)
+        out.append(words_of(op, a, beta, told))
+    return out
+
+
 def followed(command, calls):
     """What the port has after each call: the reply's number, inflight_lo and bandwidth_lo."""
-    out = subprocess.run(command, cwd=ROOT, input=text_of(calls), capture_output=True, text=True, check=True).stdout
-    rows = [tuple(map(int, line.split())) for line in out.splitlines()]
-    if len(rows) != len(calls):
-        raise SystemExit(f"{len(calls)} calls were given, {len(rows)} answered")
-    return rows
+    words = encoded(calls)
+    words += [words_of(NOTHING, [], 0, None)] * (-len(words) % FRAME)
+    rows, state = [], [0] * 50
+    with subprocess.Popen(command, cwd=ROOT, stdin=subprocess.PIPE, stdout=subprocess.PIPE) as port:
+        for at in range(0, len(words), FRAME):
+            frame = state + [word for call in words[at : at + FRAME] for word in call]
+            port.stdin.write(struct.pack(f"<{len(frame)}Q", *frame))
+            port.stdin.flush()
+            answers = struct.unpack(f"<{68 * FRAME}Q", port.stdout.read(8 * 68 * FRAME))
+            state = list(answers[-50:])
+            for start in range(0, len(answers), 68):
+                after = answers[start + 18 : start + 68]
+                rows.append((answers[start], after[17], after[16] if after[15] else UNSET))
+        port.stdin.close()
+    return rows[: len(calls)]
 
 
 # ---- the comparison
@@ -271,33 +318,19 @@ def checked(calls, rows, worst, counts):
     return None
 
 
-def batches(seed, runs):
-    """Runs, put together to inputs that `follow` can hold, 65,536 bytes."""
-    rng = random.Random(seed)
-    batch, size = [], 0
-    for _ in range(runs):
-        calls = run_of(rng, rng.choice([3, 10, 25, 60]))
-        length = len(text_of(calls))
-        if size + length > 65000:
-            yield batch
-            batch, size = [], 0
-        batch += [calls]
-        size += length
-    yield batch
-
-
 def compare(seed, runs):
     command = program()
     worst, counts = {}, {"calls": 0, "events": 0}
-    for batch in batches(seed, runs):
-        rows = followed(command, [call for calls in batch for call in calls])
-        at = 0
-        for calls in batch:
-            fault = checked(calls, rows[at : at + len(calls)], worst, counts)
-            at += len(calls)
-            if fault:
-                print(text_of(calls), end="")
-                raise SystemExit(f"outside the bounds: {fault}")
+    rng = random.Random(seed)
+    chosen = [run_of(rng, rng.choice([3, 10, 25, 60])) for _ in range(runs)]
+    rows = followed(command, [call for calls in chosen for call in calls])
+    at = 0
+    for calls in chosen:
+        fault = checked(calls, rows[at : at + len(calls)], worst, counts)
+        at += len(calls)
+        if fault:
+            print(text_of(calls), end="")
+            raise SystemExit(f"outside the bounds: {fault}")
     calls = losses(0x3E99999A, 16777223, 1)
     if not checked(calls, followed(command, calls), {}, {"calls": 0, "events": 0}):
         raise SystemExit("a window of 16,777,223 bytes is within the bounds: this check notices nothing")

@@ -5,9 +5,17 @@
 
 Takes COUNT changes at random places of crates/*/src (with --specs, of crates/*/specs), one at a time: an operator, a
 constant, a comparison, a swapped argument or field, a dropped step, a wrong variant. Each is made in a copy of the
-repository, and the prover is run on its crate. What is still proved is a survivor: harmless, and then it stands with its
-reason in tests/mutants.txt, or a hole in a contract. What the language itself refuses, as a wrong type, is not counted.
-Ends with 1 where a survivor isn't explained."""
+repository, and the prover is run on its crate. What the language itself refuses, as a wrong type, is not counted. Of the
+others it says:
+
+    a fact fails       the contract rules the change out
+    a proof misfits    refused, but only since a proof file no longer has the shape of the code; then the programs are
+                       run with the change, and must write something else than they should
+    a run differs      a change to a program, or to a part of programs, that is proved: its run must differ
+    a floor above      a changed definition, with which its own crate is proved: a crate above must not be
+    survived           none of these: harmless, and then it stands with its reason in tests/mutants.txt, or a hole
+
+Ends with 1 where a survivor isn't explained. `rt check` has to have proved everything before."""
 
 import argparse
 import os
@@ -174,15 +182,64 @@ def known():
     return explained
 
 
-def outcome(copy, crate):
-    """`proved`, `refused`, `no program` (the language refuses it), or `not told`."""
-    ran = subprocess.run(["rt", "dev", crate], cwd=copy, stdout=subprocess.PIPE, stderr=subprocess.STDOUT, timeout=900)
-    said = ran.stdout.decode("utf-8", "replace")
-    if ran.returncode == 0:
-        return "proved"
-    if re.search(r"src/\S+\.rt:\d+:\d+: error|^error", said, re.M):
+# What the prover says where a proof file no longer has the shape of the code.
+MISFIT = re.compile(
+    r"error: .*(has no field|expected type .tie\.Need-|unexpected argument|no .* that can be named|is not in scope|takes .* argument|Inv-loop|μ-loop)"
+)
+# The programs that reach every floor.
+RUNS = ("serve", "answers")
+
+
+def said_by(copy, *words):
+    """What `rt` ends with and prints."""
+    ran = subprocess.run(["rt", *words], cwd=copy, stdout=subprocess.PIPE, stderr=subprocess.STDOUT, timeout=1800)
+    return ran.returncode, ran.stdout.decode("utf-8", "replace")
+
+
+def run_differs(copy, program):
+    """Whether a program, built without proof, writes something else than its file `stdout`, or doesn't end well."""
+    return said_by(copy, "try", program)[1].count("\nok: the native program") < 3
+
+
+def outcome(copy, crate, specs):
+    """What became of the change that stands in the copy."""
+    status, said = said_by(copy, "dev", crate)
+    if status == 0:
+        return survivor(copy, crate, specs)
+    if re.search(r"src/\S+\.rt:\d+:\d+: error|^error|/specs/\S+\.antt:\d+:\d+: error", said, re.M):
         return "no program"
-    return "refused" if ran.returncode == 1 else "not told"
+    if status != 1:
+        return "not told"
+    if specs or not MISFIT.search(said):
+        return "a fact fails"
+    return "a proof misfits" if any(run_differs(copy, p) for p in reaching(crate)) else "survived"
+
+
+def survivor(copy, crate, specs):
+    """Of a change with which its own crate is proved: what else notices it."""
+    if specs:
+        return "a floor above" if said_by(copy, "check", *above(crate))[0] == 1 else "survived"
+    if os.path.exists(os.path.join(copy, "crates", crate, "specs")):
+        return "survived"
+    return "a run differs" if any(run_differs(copy, p) for p in reaching(crate)) else "survived"
+
+
+def needs():
+    """The crates that each crate names in crates.txt."""
+    lines = (line.split("#")[0] for line in open(os.path.join(ROOT, "crates.txt"), encoding="utf-8"))
+    return {line.split(":")[0].strip(): line.split(":")[1].split() for line in lines if ":" in line}
+
+
+def above(crate):
+    return [name for name, below in needs().items() if crate in below]
+
+
+def reaching(crate):
+    """The programs whose run a change in the crate can show in: itself, or those that reach it."""
+    programs = [p for p in needs() if os.path.exists(os.path.join(ROOT, "crates", p, "src", "main.rt"))]
+    if crate in programs:
+        return [crate]
+    return [p for p in RUNS if crate in needs()[p]] or [p for p in programs if crate in needs()[p]]
 
 
 def main():
@@ -195,13 +252,13 @@ def main():
     variants, fields = declared()
     explained = known()
     chosen = random.Random(asked.seed)
-    names = asked.crate or [c for c in crates() if os.path.isdir(os.path.join(ROOT, "crates", c, "proofs"))]
+    names = asked.crate or list(crates())
     all_changes = {c: [x for p in files(c, asked.specs) for x in changes(p, asked.specs, variants, fields)] for c in names}
     names = [c for c in names if all_changes[c]]
     copy = tempfile.mkdtemp()
     shutil.copytree(ROOT, os.path.join(copy, "repository"), symlinks=True, ignore=shutil.ignore_patterns(".git"))
     copy = os.path.join(copy, "repository")
-    counted, unexplained, tally = 0, [], {}
+    counted, unexplained, tally = 0, [], {c: {} for c in names}
     while counted < asked.count and any(all_changes.values()):
         crate = chosen.choice([c for c in names if all_changes[c]])
         change = all_changes[crate].pop(chosen.randrange(len(all_changes[crate])))
@@ -210,20 +267,22 @@ def main():
         text = before.split("\n")
         text[change.line] = change.new
         open(place, "w", encoding="utf-8").write("\n".join(text))
-        found = outcome(copy, crate)
+        found = outcome(copy, crate, asked.specs)
         open(place, "w", encoding="utf-8").write(before)
-        tally[found] = tally.get(found, 0) + 1
+        tally[crate][found] = tally[crate].get(found, 0) + 1
         if found == "no program":
             continue
         counted += 1
-        if found == "proved":
+        if found == "survived":
             reason = "explained" if change.key() in explained else "NOT EXPLAINED"
             if change.key() not in explained:
                 unexplained.append(change)
             print(f"survived, {reason}: {change}", flush=True)
         print(f"{counted} of {asked.count}: {found}: {change}", file=sys.stderr, flush=True)
     shutil.rmtree(os.path.dirname(copy))
-    print(", ".join(f"{n} {what}" for what, n in sorted(tally.items())) + f"; {len(unexplained)} survivors not explained")
+    for crate in names:
+        print(f"{crate}: " + ", ".join(f"{n} {what}" for what, n in sorted(tally[crate].items())))
+    print(f"{counted} changes, {len(unexplained)} survivors not explained")
     return 1 if unexplained else 0
 
 
