@@ -2,17 +2,19 @@
 """Small changes to the source, or to the definitions, each of which the prover must refuse.
 
     tests/mutants.py [--specs] [--crate NAME].. SEED COUNT
+    tests/mutants.py --named [--crate NAME]..
 
-Takes COUNT changes at random places of crates/*/src (with --specs, of crates/*/specs), one at a time: an operator, a
-constant, a comparison, a swapped argument or field, a dropped step, a wrong variant. Each is made in a copy of the
-repository, and the prover is run on its crate. What the language itself refuses, as a wrong type, is not counted. Of the
-others it says:
+The first takes COUNT changes at random places of crates/*/src (with --specs, of crates/*/specs), one at a time: an
+operator, a constant, a comparison, a swapped argument or field, a dropped step, a wrong variant. The second takes the
+edits in tests/wrong, chosen by hand and written as those in crates/*/must-fail. Each is made in a copy of the repository,
+and the prover is run on its crate. What the language itself refuses, as a wrong type, is not counted. Of the others it
+says:
 
-    a fact fails       the contract rules the change out
+    a fact fails       the contract, or a law, rules the change out
     a proof misfits    refused, but only since a proof file no longer has the shape of the code; then the programs are
                        run with the change, and must write something else than they should
     a run differs      a change to a program, or to a part of programs, that is proved: its run must differ
-    a floor above      a changed definition, with which its own crate is proved: a crate above must not be
+    a floor above      a changed definition with which its own crate is proved: a crate above must not be
     survived           none of these: harmless, and then it stands with its reason in tests/mutants.txt, or a hole
 
 Ends with 1 where a survivor isn't explained. `rt check` has to have proved everything before."""
@@ -77,6 +79,8 @@ SKIPPED = ("//", "use ", "pub use ", "ghost ", "pub mod ", "mod ", "#", "pub str
 
 
 class Change:
+    """A line of a file, and what is put in its place."""
+
     def __init__(self, path, line, old, new):
         self.path, self.line, self.old, self.new = path, line, old, new
 
@@ -85,6 +89,44 @@ class Change:
 
     def key(self):
         return (self.path, self.old.strip(), self.new.strip())
+
+    def files(self):
+        text = read(self.path).split("\n")
+        text[self.line] = self.new
+        return {self.path: "\n".join(text)}
+
+
+class Edit:
+    """An edit written by hand."""
+
+    def __init__(self, crate, path):
+        self.crate, self.path = crate, path
+
+    def __str__(self):
+        return self.path
+
+    def key(self):
+        return (self.path, "", "")
+
+    def files(self):
+        """The files that it changes, as they are then. An `old:` text stands in its file once."""
+        changed, old = {}, None
+        for line in read(self.path).split("\n"):
+            word, _, rest = line.partition(": ")
+            if word == "file":
+                path = os.path.join("crates", self.crate, rest)
+            elif word == "old":
+                old = rest
+            elif word in ("new", "new:"):
+                text = changed.get(path) or read(path)
+                if text.count(old) != 1:
+                    raise SystemExit(f"{self.path}: an `old:` text stands {text.count(old)} times in {path}")
+                changed[path] = text.replace(old, rest)
+        return changed
+
+
+def read(path):
+    return open(os.path.join(ROOT, path), encoding="utf-8").read()
 
 
 def files(crate, specs):
@@ -123,7 +165,7 @@ def replaced(line, match, new):
 
 
 def changes(path, specs, variants, fields):
-    text = open(os.path.join(ROOT, path), encoding="utf-8").read().split("\n")
+    text = read(path).split("\n")
     for index, line in (definition_lines if specs else code_lines)(text):
         for pattern, new in SPECS if specs else CODE:
             for match in re.finditer(pattern, line):
@@ -153,9 +195,9 @@ def changes(path, specs, variants, fields):
 def declared():
     """The variants of every enum; for every field the other fields of the same type in the same struct."""
     variants, fields = {}, {}
-    for crate in crates():
+    for crate in needs():
         for path in files(crate, False):
-            text = open(os.path.join(ROOT, path), encoding="utf-8").read()
+            text = read(path)
             for kind, name, body in re.findall(r"^pub (struct|enum) (\w+) \{\n(.*?)^\}", text, re.M | re.S):
                 if kind == "enum":
                     variants.setdefault(name, set()).update(re.findall(r"^    ([A-Z]\w*),", body, re.M))
@@ -164,12 +206,6 @@ def declared():
                 for field, of in typed:
                     fields.setdefault(field, set()).update(f for f, t in typed if t == of and f != field)
     return variants, fields
-
-
-def crates():
-    for line in open(os.path.join(ROOT, "crates.txt"), encoding="utf-8"):
-        if ":" in line and not line.startswith("#"):
-            yield line.split(":")[0]
 
 
 def known():
@@ -242,47 +278,75 @@ def reaching(crate):
     return [p for p in RUNS if crate in needs()[p]] or [p for p in programs if crate in needs()[p]]
 
 
+def named(crates):
+    """The edits of tests/wrong, by crate."""
+    found = {}
+    for crate in crates:
+        folder = os.path.join("tests", "wrong", crate)
+        if os.path.isdir(os.path.join(ROOT, folder)):
+            names = sorted(os.listdir(os.path.join(ROOT, folder)))
+            found[crate] = [Edit(crate, os.path.join(folder, name)) for name in names]
+    return found
+
+
+def places(crates, specs):
+    """Every change at every place, by crate."""
+    variants, fields = declared()
+    found = {c: [x for p in files(c, specs) for x in changes(p, specs, variants, fields)] for c in crates}
+    return {c: all_of_it for c, all_of_it in found.items() if all_of_it}
+
+
+def in_order(found, seed):
+    """The changes, at random: a crate, then a place in it."""
+    chosen = random.Random(seed)
+    while any(found.values()):
+        crate = chosen.choice([c for c in found if found[c]])
+        yield crate, found[crate].pop(chosen.randrange(len(found[crate])))
+
+
+def tried(copy, crate, change, specs):
+    """What becomes of one change, made in the copy and taken back."""
+    after = change.files()
+    for path, text in after.items():
+        open(os.path.join(copy, path), "w", encoding="utf-8").write(text)
+    found = outcome(copy, crate, specs)
+    for path in after:
+        open(os.path.join(copy, path), "w", encoding="utf-8").write(read(path))
+    return found
+
+
 def main():
     reader = argparse.ArgumentParser(description=__doc__, formatter_class=argparse.RawDescriptionHelpFormatter)
     reader.add_argument("--specs", action="store_true")
+    reader.add_argument("--named", action="store_true")
     reader.add_argument("--crate", action="append")
-    reader.add_argument("seed", type=int)
-    reader.add_argument("count", type=int)
+    reader.add_argument("seed", type=int, nargs="?", default=1)
+    reader.add_argument("count", type=int, nargs="?", default=300)
     asked = reader.parse_args()
-    variants, fields = declared()
-    explained = known()
-    chosen = random.Random(asked.seed)
-    names = asked.crate or list(crates())
-    all_changes = {c: [x for p in files(c, asked.specs) for x in changes(p, asked.specs, variants, fields)] for c in names}
-    names = [c for c in names if all_changes[c]]
-    copy = tempfile.mkdtemp()
-    shutil.copytree(ROOT, os.path.join(copy, "repository"), symlinks=True, ignore=shutil.ignore_patterns(".git"))
-    copy = os.path.join(copy, "repository")
-    counted, unexplained, tally = 0, [], {c: {} for c in names}
-    while counted < asked.count and any(all_changes.values()):
-        crate = chosen.choice([c for c in names if all_changes[c]])
-        change = all_changes[crate].pop(chosen.randrange(len(all_changes[crate])))
-        place = os.path.join(copy, change.path)
-        before = open(place, encoding="utf-8").read()
-        text = before.split("\n")
-        text[change.line] = change.new
-        open(place, "w", encoding="utf-8").write("\n".join(text))
-        found = outcome(copy, crate, asked.specs)
-        open(place, "w", encoding="utf-8").write(before)
-        tally[crate][found] = tally[crate].get(found, 0) + 1
-        if found == "no program":
-            continue
-        counted += 1
-        if found == "survived":
-            reason = "explained" if change.key() in explained else "NOT EXPLAINED"
-            if change.key() not in explained:
-                unexplained.append(change)
-            print(f"survived, {reason}: {change}", flush=True)
-        print(f"{counted} of {asked.count}: {found}: {change}", file=sys.stderr, flush=True)
-    shutil.rmtree(os.path.dirname(copy))
-    for crate in names:
-        print(f"{crate}: " + ", ".join(f"{n} {what}" for what, n in sorted(tally[crate].items())))
-    print(f"{counted} changes, {len(unexplained)} survivors not explained")
+    names = asked.crate or list(needs())
+    found = named(names) if asked.named else places(names, asked.specs)
+    most = sum(map(len, found.values())) if asked.named else asked.count
+    tally = {c: {} for c in found}
+    counted, unexplained = 0, 0
+    with tempfile.TemporaryDirectory() as folder:
+        copy = os.path.join(folder, "repository")
+        shutil.copytree(ROOT, copy, symlinks=True, ignore=shutil.ignore_patterns(".git"))
+        for crate, change in in_order(found, asked.seed):
+            if counted == most:
+                break
+            end = tried(copy, crate, change, asked.specs)
+            tally[crate][end] = tally[crate].get(end, 0) + 1
+            if end == "no program":
+                continue
+            counted += 1
+            print(f"{counted} of {most}: {end}: {change}", file=sys.stderr, flush=True)
+            if end == "survived":
+                harmless = change.key() in known()
+                unexplained += not harmless
+                print(f"survived, {'explained' if harmless else 'NOT EXPLAINED'}: {change}", flush=True)
+    for crate, ends in tally.items():
+        print(f"{crate}: " + ", ".join(f"{n} {end}" for end, n in sorted(ends.items())))
+    print(f"{counted} changes, {unexplained} survivors not explained")
     return 1 if unexplained else 0
 
 
