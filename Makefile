@@ -1,5 +1,5 @@
 # make run: proves, builds and runs the demonstration. make test: the whole gate.
-.PHONY: run test diff patterns changes drift picture lists rust bench clean
+.PHONY: run test diff patterns changes drift picture lists rust year bench clean
 
 run:
 	rt check show
@@ -55,6 +55,17 @@ lists:
 # The archive of the exported calls, and the Rust package over it: its tests and its example, on x86-64.
 rust:
 	sh tests/rust.sh
+
+# A year of one connection from SEED, in EVENTS events: inflight_lo beside its exact value (rust/examples/year). About
+# two minutes of one core after the archive; it shows each week, and ends with a report.
+EVENTS = 300000000
+year:
+	@[ "$$(uname -m)" = x86_64 ] || { \
+		echo "The archive is for x86-64, and this machine is $$(uname -m): the year can't be run here."; \
+		exit 1; \
+	}
+	rt staticlib exports
+	CARGO_TARGET_DIR=$(CURDIR)/target/cargo cargo run --release --quiet --manifest-path rust/Cargo.toml --example year -- $(SEED) $(EVENTS)
 
 # The port beside the original, in one process (docs/BENCHMARKS.md).
 bench:
