@@ -24,20 +24,6 @@ pub struct Params {
 }
 
 impl Params {
-    pub const DEFAULT: Params = Params {
-        beta: 0.3,
-        loss: 0.015,
-        headroom: 0.15,
-        growth: 1.25,
-        cwnd: 2.0,
-        pacing: 2.773,
-        rounds: 3,
-        queueing: 0,
-        period: Duration(10_000_000_000),
-        base: Duration(2_000_000_000),
-        ignore: true,
-    };
-
     // Whether every setting is within its bounds.
     pub fn ok(self) -> bool
         ensures { λ r. ⌜ r ≡ paramsOk self ⌝ }
