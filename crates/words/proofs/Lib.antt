@@ -1,4 +1,5 @@
 -- Laws of stores and words, for the proofs of this crate and of those above it.
+pub mod Determined
 pub mod Stores
 pub mod Laws
 pub mod Turns
