@@ -1,5 +1,5 @@
 # make run: proves, builds and runs the demonstration. make test: the whole gate.
-.PHONY: run test diff patterns changes drift picture lists rust year bench clean
+.PHONY: run test contracts diff patterns changes mutants drift picture lists rust year bench clean
 
 run:
 	rt check show
@@ -9,11 +9,16 @@ run:
 # Its last line is the verdict of `rt ci`: every crate proved from nothing, every must-fail edit
 # refused, every program run.
 test:
+	@python3 tests/contracts.py
 	rt fmt --check
 	sh tests/lists.sh
 	sh tests/diff.sh gate
 	sh tests/rust.sh
 	rt ci
+
+# The list of public functions in docs/CONTRACTS.md, and the paths that the pages name, against the source.
+contracts:
+	@python3 tests/contracts.py
 
 SEED = 7
 
@@ -32,6 +37,15 @@ patterns:
 changes:
 	rt check serve
 	PORT="$$(sh tests/program.sh serve)" python3 tests/changes.py
+
+# Small changes to the source and to the definitions, each of which the prover must refuse, or a run show: those in
+# tests/wrong, then MUTANTS at random places of each (docs/EVIDENCE.md). Hours, on two cores.
+MUTANTS = 300
+mutants:
+	rt check
+	python3 tests/mutants.py --named
+	python3 tests/mutants.py $(SEED) $(MUTANTS)
+	python3 tests/mutants.py --specs $(SEED) $(MUTANTS)
 
 # Random runs of the port beside exact fractions, and their picture (docs/DRIFT.md).
 RUNS = 4000
