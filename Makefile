@@ -13,7 +13,7 @@ test:
 	rt fmt --check
 	sh tests/lists.sh
 	sh tests/diff.sh gate
-	sh tests/rust.sh
+	sh tests/rust.sh check
 	rt ci
 
 # The list of public functions in docs/CONTRACTS.md, and the paths that the pages name, against the source.
@@ -22,8 +22,8 @@ contracts:
 
 SEED = 7
 
-# The port beside the original, call by call, from SEED: CALLS calls of the model, and a tenth as many on filters and on
-# numbers (oracle/README.md).
+# The port beside the original, call by call, from SEED: CALLS calls of the model, and a tenth as many on filters, on
+# numbers and of the exported filter run and slope (oracle/README.md).
 CALLS = 5000000
 diff:
 	@sh tests/diff.sh $(SEED) $(CALLS)
@@ -57,14 +57,12 @@ picture:
 	rt check serve
 	python3 tests/drift.py --picture docs/drift.svg
 
-# Makes the lists of the original's answers again (oracle/README.md).
+# Makes the lists and the frames of the original's answers again (oracle/README.md).
+ORACLE = cargo run --release --quiet --manifest-path oracle/Cargo.toml --
 lists:
-	rm -rf target/lists
-	cargo run --release --quiet --manifest-path oracle/Cargo.toml -- target/lists
-	for program in $$(ls target/lists); do \
-		rm -f crates/$$program/data/*; \
-		mv target/lists/$$program/* crates/$$program/data/; \
-	done
+	rm -f crates/answers/data/* crates/serve/stdin crates/serve/stdout
+	$(ORACLE) crates/answers/data
+	$(ORACLE) frames crates/serve
 
 # The archive of the exported calls, and the Rust package over it: its tests and its example, on x86-64.
 rust:

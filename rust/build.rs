@@ -13,6 +13,8 @@ fn main() {
     let target = env::var("CARGO_CFG_TARGET_ARCH").unwrap_or_default();
     let package = PathBuf::from(env::var_os("CARGO_MANIFEST_DIR").unwrap_or_default());
     match env::var_os("GUOVSSALU_ARCHIVE") {
+        // Enough for `cargo check`.
+        Some(given) if given.is_empty() => (),
         Some(given) => link(&package.join(given)),
         None if target == "x86_64" => link(&package.join(ARCHIVE)),
         None => println!(

@@ -1,11 +1,14 @@
 #!/bin/sh
 # Compares the port, the program `serve`, with the original, call by call (oracle/README.md, "Comparing with a port").
 #
-#     tests/diff.sh SEED CALLS          so many calls of the model, a tenth as many on filters and a tenth on numbers
-#     tests/diff.sh gate                200,000 calls in all; goes on without the original, but not where CI is true
+#     tests/diff.sh SEED CALLS          so many calls of the model, and a tenth as many on filters, on numbers and of the
+#                                       exported filter run and slope
+#     tests/diff.sh gate                205,095 calls in all, of `serve` built without proof; goes on without the
+#                                       original, but not where CI is true
 #     tests/diff.sh patterns NUMBER..   every f32, as the bits of to_u64 and as the gain of scale with each number
 #
-# The last line is `N calls, 0 differences`. At a difference it shows the shortest run of calls found, and ends with 1.
+# The last line is `N calls, 0 differences`. At a difference it ends with 1; all but the gate show the shortest run of
+# calls found.
 set -eu
 cd "$(dirname "$0")/.."
 . tests/oracle.sh
@@ -17,12 +20,32 @@ if [ -n "$missing" ]; then
     fi
     exit 1
 fi
-rt check serve
 build_oracle
-PORT=$(sh tests/program.sh serve)
-export PORT
 total=0
 
+# Fresh frames from a seed, so many calls, answered by the original alone, are held to what `serve` writes on them:
+# `rt try` builds it without proof, since `rt ci` proves it after this. What counts are the ways of building it that are
+# named: `rt try` itself ends with 1 where the interpreter stops before so many calls are made.
+tried() {
+    seed=$1 calls=$2
+    shift 2
+    "$oracle" frames-of "$seed" "$calls" "$copy/crates/serve" 2>"$copy/made" || {
+        cat "$copy/made"
+        exit 1
+    }
+    (cd "$copy" && rt try serve) >"$copy/tried" 2>&1 || true
+    for way; do
+        grep -q "^ok: $way ended" "$copy/tried" || {
+            cut -c 1-500 "$copy/tried"
+            echo "diff: serve, by $way, doesn't answer as the original; \`make diff\` shows the shortest run of calls"
+            exit 1
+        }
+        echo "serve by $way: $calls calls, 0 differences"
+    done
+    total=$((total + calls))
+}
+
+# A command of the oracle, which asks `serve` over a pipe.
 compare() {
     "$oracle" "$@" >target/diff || {
         cat target/diff
@@ -33,12 +56,22 @@ compare() {
     total=$((total + calls))
 }
 
+if [ "$1" = gate ]; then
+    copy=$(mktemp -d)
+    trap 'rm -rf "$copy"' EXIT
+    cp -R crates crates.txt "$copy"
+    native='the native program'
+    tried 1 200000 "$native at -O3"
+    # The other ways are slow, and `rt try` has limits of time and of steps.
+    tried 2 5000 "$native at -O0" "$native with LLVM's assumptions checked"
+    tried 3 95 'the interpreter'
+    echo "$total calls, 0 differences"
+    exit
+fi
+rt check serve
+PORT=$(sh tests/program.sh serve)
+export PORT
 case $1 in
-gate)
-    compare diff 1 160000
-    compare filter 1 20000
-    compare numbers 1 20000
-    ;;
 patterns)
     shift
     compare patterns to_u64 0
@@ -48,8 +81,9 @@ patterns)
     ;;
 *)
     compare diff "$1" "$2"
-    compare filter "$1" $(($2 / 10))
-    compare numbers "$1" $(($2 / 10))
+    for kind in filter numbers exports; do
+        compare $kind "$1" $(($2 / 10))
+    done
     ;;
 esac
 echo "$total calls, 0 differences"

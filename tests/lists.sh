@@ -1,6 +1,6 @@
 #!/bin/sh
-# Makes the lists of the original's answers again and compares them with the ones kept here, byte for byte.
-# Where cargo or the original is not at hand it says so and goes on: the kept lists serve the tests.
+# Makes the lists and the frames of the original's answers again and compares them with the ones kept here, byte for
+# byte. Where cargo or the original is not at hand it says so and goes on: the kept ones serve the tests.
 set -eu
 cd "$(dirname "$0")/.."
 . tests/oracle.sh
@@ -11,12 +11,19 @@ if [ -n "$missing" ]; then
 fi
 build_oracle
 made=$(mktemp -d)
-trap 'rm -rf "$made" "$made.log"' EXIT
-"$oracle" "$made" 2>"$made.log" || {
-    cat "$made.log"
-    exit 1
+trap 'rm -rf "$made"' EXIT
+make_again() {
+    "$oracle" "$@" 2>"$made/log" || {
+        cat "$made/log"
+        exit 1
+    }
 }
-for lists in "$made"/*; do
-    diff -r "$lists" "crates/$(basename "$lists")/data"
+make_again "$made/lists"
+diff -r "$made/lists" crates/answers/data
+make_again frames "$made/frames"
+for file in stdin stdout; do
+    cmp "$made/frames/$file" "crates/serve/$file"
 done
-echo "lists: $(cat "$made"/*/*.txt | wc -l) lines in $(ls "$made"/*/*.txt | wc -l) lists, the same as those kept in the programs' folders data"
+echo "lists: $(cat "$made"/lists/*.txt | wc -l) lines in $(ls "$made/lists" | wc -l) lists, and $(
+    sed -n 's/^frames: \([0-9]* calls\),.*/\1/p' "$made/log"
+) in frames, the same as those kept in crates/answers and crates/serve"

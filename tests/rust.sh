@@ -1,6 +1,10 @@
 #!/bin/sh
-# The Rust package over the archive of the exported calls (rust/README.md): on x86-64 its tests and its example are
-# run, elsewhere it is only checked, since the archive can't be linked. Without cargo it says so and goes on.
+# The Rust package over the archive of the exported calls (rust/README.md).
+#
+#     tests/rust.sh         on x86-64 proves the archive and runs the package's tests and its example
+#     tests/rust.sh check   only checks the package, as the gate does: the archive would be proved once more for it
+#
+# On another machine the package is only checked, since the archive can't be linked. Without cargo it says so and goes on.
 set -eu
 cd "$(dirname "$0")/.."
 if ! command -v cargo >/dev/null 2>&1; then
@@ -9,11 +13,16 @@ if ! command -v cargo >/dev/null 2>&1; then
 fi
 CARGO_TARGET_DIR=$PWD/target/cargo
 export CARGO_TARGET_DIR
-if [ "$(uname -m)" = x86_64 ]; then
+machine=$(uname -m)
+if [ "${1:-}" != check ] && [ "$machine" = x86_64 ]; then
     rt staticlib exports
     cargo test --quiet --manifest-path rust/Cargo.toml
     cargo run --quiet --manifest-path rust/Cargo.toml --example loss_episode
+    exit
+fi
+GUOVSSALU_ARCHIVE= cargo check --quiet --all-targets --manifest-path rust/Cargo.toml
+if [ "$machine" = x86_64 ]; then
+    echo "rust: the package is checked; \`make rust\` proves its archive and runs its tests"
 else
-    cargo check --quiet --all-targets --manifest-path rust/Cargo.toml
-    echo "rust: the archive is for x86-64, and this machine is $(uname -m): the package is checked, not run"
+    echo "rust: the archive is for x86-64, and this machine is $machine: the package is checked, not run"
 fi

@@ -2,11 +2,12 @@
 //! answer, word by word.
 
 use std::io;
+use std::mem;
 use std::time::Duration;
 use std::time::Instant;
 
 use crate::frame;
-use crate::frame::Answer;
+use crate::frame::Frame;
 use crate::model::Call;
 use crate::port::Port;
 use crate::text;
@@ -58,10 +59,9 @@ struct Comparison<'a> {
     begins: Begins,
     /// The steps since the last that begins, before the frame.
     steps: Vec<Step>,
-    /// The frame that is being filled, what is expected, and for each call how
-    /// many steps were taken with it.
-    request: Vec<u64>,
-    expected: Vec<Answer>,
+    /// The frame that is being filled, and for each call how many steps were
+    /// taken with it.
+    frame: Frame,
     taken: Vec<usize>,
     /// How many calls were given each reply.
     replies: [u64; 8],
@@ -74,69 +74,59 @@ impl<'a> Comparison<'a> {
             world: World::new(),
             begins,
             steps: Vec::new(),
-            request: Vec::new(),
-            expected: Vec::new(),
+            frame: Frame::default(),
             taken: Vec::new(),
             replies: [0; 8],
         }
     }
 
-    /// How many calls were made, without those that only fill up a frame.
+    /// How many calls were made, without those that only put numbers into the
+    /// state or fill up a frame.
     fn calls(&self) -> u64 {
         self.replies.iter().sum()
     }
 
     /// Takes a step, and asks the port when the frame is full.
     fn step(&mut self, step: Step) -> Result<(), Difference> {
-        // The state is handed to the port only at the beginning of a frame.
-        if let Step::Put(_) = step {
-            self.finish()?;
-        }
-        if let Some(reply) = self.add(&step) {
-            self.replies[reply as usize] += 1;
-        }
+        let asked = self.world.step(&step);
+        let puts = matches!(step, Step::Put(_));
         self.steps.push(step);
-        if self.expected.len() == frame::CALLS {
-            self.ask()?;
+        for asked in asked {
+            self.replies[asked.answer[0] as usize] += !puts as u64;
+            self.frame.add(&asked);
+            self.taken.push(self.steps.len());
+            if self.frame.is_full() {
+                self.ask()?;
+            }
         }
         Ok(())
     }
 
     /// Fills up the frame, if one has begun, and asks the port.
     fn finish(&mut self) -> Result<(), Difference> {
-        if self.expected.is_empty() {
+        if self.frame.is_empty() {
             return Ok(());
         }
-        while self.expected.len() < frame::CALLS {
-            self.add(&FILLER);
+        while !self.frame.is_full() {
+            for asked in self.world.step(&FILLER) {
+                self.frame.add(&asked);
+                self.taken.push(self.steps.len() + 1);
+            }
         }
         self.ask()
-    }
-
-    /// Takes a step in the original and adds it to the frame; its reply, if
-    /// the port is asked.
-    fn add(&mut self, step: &Step) -> Option<u64> {
-        let words = self.world.words(step);
-        if self.expected.is_empty() {
-            self.request = self.world.state[..frame::CARRIED].to_vec();
-        }
-        let answer = self.world.step(step);
-        self.request.extend(words?);
-        self.expected.push(answer);
-        self.taken.push(self.steps.len() + 1);
-        Some(answer[0])
     }
 
     /// Asks the port the frame, and forgets the steps that have no bearing on
     /// the next.
     fn ask(&mut self) -> Result<(), Difference> {
-        let answers = self.port.ask(&self.request);
+        let Frame { request, expected } = mem::take(&mut self.frame);
+        let answers = self.port.ask(&request);
         let answers = answers.map_err(|error| Difference {
             run: self.steps.clone(),
             what: What::Silence(error),
         })?;
         let got = answers.chunks_exact(frame::ANSWER);
-        for ((expected, got), &taken) in self.expected.iter().zip(got).zip(&self.taken) {
+        for ((expected, got), &taken) in expected.iter().zip(got).zip(&self.taken) {
             let differs = |&word: &usize| expected[word] != got[word];
             if let Some(word) = (0..frame::ANSWER).find(differs) {
                 let mut run = self.steps.clone();
@@ -151,7 +141,6 @@ impl<'a> Comparison<'a> {
                 return Err(Difference { run, what });
             }
         }
-        self.expected.clear();
         self.taken.clear();
         if let Some(first) = self.steps.iter().rposition(self.begins) {
             self.steps.drain(..first);
@@ -161,7 +150,7 @@ impl<'a> Comparison<'a> {
 }
 
 /// Fills up a frame.
-const FILLER: Step = Step::Call(Call::Bdp0);
+pub const FILLER: Step = Step::Call(Call::Bdp0);
 
 /// Makes this many calls, each step chosen by what was before it, and tells
 /// how it went; whether nothing differed.

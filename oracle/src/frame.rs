@@ -6,6 +6,8 @@ use std::io::ErrorKind;
 use std::io::Read;
 use std::io::Write;
 
+use crate::world::SUMMED;
+
 /// Calls in a frame.
 pub const CALLS: usize = 100;
 
@@ -32,20 +34,93 @@ pub type CallWords = [u64; CALL];
 /// An answer: the reply, the answer itself, the record, the state.
 pub type Answer = [u64; ANSWER];
 
+/// A call that the port is asked: the state before it, its words, and the
+/// answer that is expected.
+pub struct Asked {
+    pub before: [u64; CARRIED],
+    pub words: CallWords,
+    pub answer: Answer,
+}
+
+impl Asked {
+    /// The call before this one that has the answers of the frame summed up:
+    /// it puts nothing into the state.
+    pub fn summed(&self) -> Asked {
+        let mut answer = [0; ANSWER];
+        answer[2 + RECORD..].copy_from_slice(&self.before);
+        Asked {
+            before: self.before,
+            words: bare_call(SUMMED, &[]),
+            answer,
+        }
+    }
+}
+
+/// The sum of the words, and the sum of the sums so far; both wrap.
+pub fn sums(words: &[u64]) -> [u64; 2] {
+    words.iter().fold([0; 2], |[sum, total], &word| {
+        let sum = sum.wrapping_add(word);
+        [sum, total.wrapping_add(sum)]
+    })
+}
+
+/// A frame that is being filled.
+#[derive(Default)]
+pub struct Frame {
+    pub request: Vec<u64>,
+    pub expected: Vec<Answer>,
+}
+
+impl Frame {
+    pub fn add(&mut self, asked: &Asked) {
+        if self.is_empty() {
+            self.request = asked.before.to_vec();
+        }
+        self.request.extend(asked.words);
+        self.expected.push(asked.answer);
+    }
+
+    pub fn is_empty(&self) -> bool {
+        self.expected.is_empty()
+    }
+
+    pub fn is_full(&self) -> bool {
+        self.expected.len() == CALLS
+    }
+}
+
+/// The words of a call that has no record and no parameters.
+pub fn bare_call(number: u64, arguments: &[u64]) -> CallWords {
+    let mut words = [0; CALL];
+    words[0] = number;
+    words[1..][..arguments.len()].copy_from_slice(arguments);
+    words
+}
+
 /// The words of a call with these arguments.
 pub fn call(number: u64, arguments: &[u64], record: &[u64], parameters: &[u64]) -> CallWords {
-    let mut words = [0; CALL];
-    let (head, tail) = words.split_at_mut(1 + ARGUMENTS);
-    head[0] = number;
-    head[1..][..arguments.len()].copy_from_slice(arguments);
+    let mut words = bare_call(number, arguments);
+    let tail = &mut words[1 + ARGUMENTS..];
     tail[..RECORD].copy_from_slice(record);
     tail[RECORD..].copy_from_slice(parameters);
     words
 }
 
+/// The bytes of these words.
+pub fn bytes(words: &[u64]) -> Vec<u8> {
+    words.iter().flat_map(|word| word.to_le_bytes()).collect()
+}
+
+/// The words in these bytes.
+pub fn words(bytes: &[u8]) -> Vec<u64> {
+    let words = bytes.chunks_exact(8);
+    words
+        .map(|word| u64::from_le_bytes(word.try_into().unwrap()))
+        .collect()
+}
+
 pub fn write(to: &mut impl Write, words: &[u64]) -> io::Result<()> {
-    let bytes: Vec<u8> = words.iter().flat_map(|word| word.to_le_bytes()).collect();
-    to.write_all(&bytes)?;
+    to.write_all(&bytes(words))?;
     to.flush()
 }
 
@@ -62,10 +137,5 @@ pub fn read(from: &mut impl Read, count: usize) -> io::Result<Option<Vec<u64>>> 
         return Ok(None);
     }
     from.read_exact(&mut bytes[first..])?;
-    let words = bytes.chunks_exact(8);
-    Ok(Some(
-        words
-            .map(|word| u64::from_le_bytes(word.try_into().unwrap()))
-            .collect(),
-    ))
+    Ok(Some(words(&bytes)))
 }

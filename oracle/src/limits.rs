@@ -1,6 +1,7 @@
-//! The lists of limits: calls with a number at each limit of document 01, which
+//! The limits: calls with a number at each limit of document 01, which
 //! are accepted, and outside it, which are refused.
 
+use crate::files::Files;
 use crate::model::field::*;
 use crate::model::Call;
 use crate::model::Getter;
@@ -24,9 +25,10 @@ use crate::run::ACKED;
 use crate::run::LOST;
 use crate::run::NONE;
 
-pub fn limits() -> Run {
+/// Adds the calls at the limits.
+pub fn add(files: &mut Files) {
     let usual = Host::usual_start();
-    let mut run = Run::new(usual);
+    let mut run = Run::new(files);
     starts(&mut run, usual);
     bad_parameters(&mut run, usual);
     sends(&mut run);
@@ -39,7 +41,6 @@ pub fn limits() -> Run {
     stored(&mut run);
     full(&mut run);
     raised(&mut run);
-    run
 }
 
 /// A state with something in every part of it, at moment 1000.
@@ -589,7 +590,7 @@ fn stored(run: &mut Run) {
     // every number.
     let all = on_model.iter().chain(&others).chain(&entries);
     for &call in all {
-        run.refuse_with(1, SLOT_1, BANDWIDTH + 1, call);
+        run.expect_with(1, SLOT_1, BANDWIDTH + 1, call);
     }
     for (turn, (field, limit)) in model.into_iter().enumerate() {
         let calls = [
@@ -599,12 +600,12 @@ fn stored(run: &mut Run) {
             entries[turn % entries.len()],
         ];
         for call in calls {
-            run.refuse_with(1, field, limit + 1, call);
+            run.expect_with(1, field, limit + 1, call);
         }
     }
     for (field, limit) in cycle {
         for &call in entries.iter().chain(&[Call::RaiseSlope { cwnd: 1300 }]) {
-            run.refuse_with(1, field, limit + 1, call);
+            run.expect_with(1, field, limit + 1, call);
         }
     }
 
@@ -618,7 +619,7 @@ fn stored(run: &mut Run) {
         _ => true,
     };
     for (field, limit) in model.into_iter().filter(at_limit) {
-        run.accept_with(field, limit, constant);
+        run.expect_with(0, field, limit, constant);
     }
     for (field, other) in [
         (MIN_IN_FLIGHT, UNSET),
@@ -627,10 +628,10 @@ fn stored(run: &mut Run) {
         (CWND_GAIN, LEAST_GAIN.to_bits() as u64),
         (PACING_GAIN, LEAST_GAIN.to_bits() as u64),
     ] {
-        run.accept_with(field, other, constant);
+        run.expect_with(0, field, other, constant);
     }
     for (field, limit) in cycle {
-        run.accept_with(field, limit, Call::ExitProbeDown);
+        run.expect_with(0, field, limit, Call::ExitProbeDown);
     }
 }
 
@@ -653,10 +654,10 @@ fn full(run: &mut Run) {
         total_lost: same.total_lost + 1,
         ..same
     });
-    run.refuse_with(5, ROUND_TRIP_COUNT, full, ends);
-    run.refuse_with(5, LOSS_EVENTS_IN_ROUND, full, loses);
-    run.accept_with(LOSS_EVENTS_IN_ROUND, full, ends);
-    run.accept_with(ROUND_TRIP_COUNT, full, loses);
+    run.expect_with(5, ROUND_TRIP_COUNT, full, ends);
+    run.expect_with(5, LOSS_EVENTS_IN_ROUND, full, loses);
+    run.expect_with(0, LOSS_EVENTS_IN_ROUND, full, ends);
+    run.expect_with(0, ROUND_TRIP_COUNT, full, loses);
 
     // No growth since a baseline that isn't reached.
     run.start(Host::usual_start());
@@ -668,7 +669,7 @@ fn full(run: &mut Run) {
         },
     );
     run.call(Call::BandwidthGrowth);
-    run.accept_with(ROUNDS_WITHOUT_GROWTH, full, Call::BandwidthGrowth);
+    run.expect_with(0, ROUNDS_WITHOUT_GROWTH, full, Call::BandwidthGrowth);
     run.record(Record {
         send_state: SendState {
             valid: true,
@@ -676,14 +677,14 @@ fn full(run: &mut Run) {
         },
         ..Record::default()
     });
-    run.refuse_with(5, ROUNDS_WITHOUT_GROWTH, full, Call::BandwidthGrowth);
+    run.expect_with(5, ROUNDS_WITHOUT_GROWTH, full, Call::BandwidthGrowth);
     run.call(Call::BandwidthGrowth);
 
     // A fresh model's unset inflight counts as a queue.
     run.start(Host::usual_start());
     let queue = Call::PersistentQueue { gain: 1.25 };
-    run.accept_with(ROUNDS_WITH_QUEUEING, full, Call::BandwidthGrowth);
-    run.refuse_with(5, ROUNDS_WITH_QUEUEING, full, queue);
+    run.expect_with(0, ROUNDS_WITH_QUEUEING, full, Call::BandwidthGrowth);
+    run.expect_with(5, ROUNDS_WITH_QUEUEING, full, queue);
     run.call(queue);
 }
 
@@ -709,7 +710,12 @@ fn raised(run: &mut Run) {
         Call::RaiseSlope { cwnd: 26_000 },
     ] {
         begin(run);
-        run.raise();
+        run.put(vec![
+            (ROUNDS_IN_PHASE, 5),
+            (ROUNDS_SINCE_PROBE, 7),
+            (PROBE_UP_ACKED, 900),
+            (UP_APP_LIMITED, 1),
+        ]);
         run.call(call);
     }
 }

@@ -1,8 +1,10 @@
-//! Writes lists of the original's answers into a folder, or compares it with a
-//! port; see README.md.
+//! Writes lists or frames with the original's answers into a folder, or
+//! compares it with a port; see README.md.
 
 mod calls;
 mod diff;
+mod export_steps;
+mod files;
 mod filter_steps;
 mod filters;
 mod frame;
@@ -19,6 +21,7 @@ mod serve;
 mod steps;
 mod text;
 mod values;
+mod windowed;
 mod world;
 
 include!(concat!(env!("OUT_DIR"), "/original.rs"));
@@ -29,9 +32,10 @@ use std::io;
 use std::path::Path;
 use std::process;
 
+use export_steps::ExportSteps;
+use files::Files;
 use filter_steps::FilterSteps;
 use port::Port;
-use run::Part;
 use scalars::Runs;
 use steps::Steps;
 
@@ -68,20 +72,42 @@ impl List {
 
 const USAGE: &str = "\
 Name one folder, into which the lists are written, or one of these:
+  frames DIR               writes the frames that are kept
+  frames-of SEED CALLS DIR writes frames of so many chosen calls, and for the
+                           answers of each two sums
   diff SEED CALLS          compares the original with the port in PORT
   filter SEED CALLS        the same, for windowed filters
   numbers SEED CALLS       the same, for conversions, scaling and bandwidth
+  exports SEED CALLS       the same, for the exported filter run and slope
   patterns FUNCTION NUMBER the same, for all patterns of an f32, as the bits that
                            to_u64 takes, or as the gain that scale and
                            bandwidth_mul take with NUMBER
   calls FILE               the same, on the calls of a file
   serve                    is the original as a port";
 
+/// The seed of the kept frames' chosen calls, and how many there are of each
+/// kind.
+const KEPT_SEED: u64 = 1;
+const KEPT_CALLS: u64 = 100;
+
 fn main() {
     let arguments: Vec<String> = env::args().skip(1).collect();
     let arguments: Vec<&str> = arguments.iter().map(String::as_str).collect();
-    let same = match arguments[..] {
-        ["serve"] => return check(serve::serve()),
+    match arguments[..] {
+        ["serve"] => check(serve::serve()),
+        ["frames", folder] => check(kept().write(Path::new(folder))),
+        ["frames-of", seed, calls, folder] => {
+            let files = fresh(number(seed), number(calls));
+            check(files.write(Path::new(folder)))
+        }
+        [folder] => check(lists(Path::new(folder))),
+        _ => process::exit(!compare(&arguments) as i32),
+    }
+}
+
+/// Compares the original with the port; whether nothing differed.
+fn compare(arguments: &[&str]) -> bool {
+    match *arguments {
         ["diff", seed, calls] => {
             let mut steps = Steps::new(number(seed));
             let choose = |world: &_| steps.next(world);
@@ -96,6 +122,10 @@ fn main() {
             let mut runs = Runs::new(number(seed));
             diff::run(&mut port(), number(calls), |_| true, |_| runs.next())
         }
+        ["exports", seed, calls] => {
+            let mut steps = ExportSteps::new(number(seed));
+            diff::run(&mut port(), number(calls), |_| true, |_| steps.next())
+        }
         ["patterns", name, other] => {
             let function = scalars::on_patterns(name).unwrap_or_else(|| fail(USAGE));
             let mut patterns = scalars::patterns(function, number(other));
@@ -107,10 +137,8 @@ fn main() {
             let steps = text::steps(&text).unwrap_or_else(|why| fail(&why));
             diff::follow(&mut port(), steps)
         }
-        [folder] => return check(lists(Path::new(folder))),
         _ => fail(USAGE),
-    };
-    process::exit(!same as i32);
+    }
 }
 
 fn port() -> Port {
@@ -133,9 +161,35 @@ fn fail(sentence: &str) -> ! {
     process::exit(2);
 }
 
+/// The frames that are kept: every call and every reply.
+fn kept() -> Files {
+    let mut files = Files::new(false);
+    sequences::add(&mut files);
+    limits::add(&mut files);
+    files.choose(KEPT_SEED, KEPT_CALLS);
+    files.choose_others(KEPT_SEED, Runs::at_random(KEPT_SEED), KEPT_CALLS);
+    for reply in [0, 1, 2, 3, 4, 5, 7] {
+        assert!(files.replies.contains_key(&reply), "no reply {reply}");
+    }
+    for call in text::asked() {
+        assert!(files.calls.contains_key(&call), "no call {call}");
+    }
+    files
+}
+
+/// Frames of so many calls, of which a tenth each is on filters, on numbers and
+/// of the exported filter and slope, with sums for the answers.
+fn fresh(seed: u64, calls: u64) -> Files {
+    let mut files = Files::new(true);
+    let tenth = calls / 10;
+    files.choose(seed, calls - 3 * tenth);
+    files.choose_others(seed, Runs::new(seed), tenth);
+    files
+}
+
 /// Makes all lists and writes them into a folder.
 fn lists(folder: &Path) -> io::Result<()> {
-    let answers = vec![
+    let lists = [
         numbers::to_f32(),
         numbers::to_f64(),
         numbers::to_u64(),
@@ -149,28 +203,16 @@ fn lists(folder: &Path) -> io::Result<()> {
         filters::min_rtt_filter(),
         filters::round_trip_counter(),
     ];
-    let mut folders = vec![("answers", answers)];
-    let (sequences, limits) = (sequences::sequences(), limits::limits());
-    for part in Part::ALL {
-        let mut lists = sequences.lists(part, "sequences");
-        lists.extend(limits.lists(part, "limits"));
-        folders.push((part.folder(), lists));
-    }
-
-    write(folder, &folders)
-}
-
-/// Writes each program's lists into a folder of its own.
-fn write(folder: &Path, folders: &[(&str, Vec<List>)]) -> io::Result<()> {
+    fs::create_dir_all(folder)?;
     let mut bytes = 0;
-    for (program, lists) in folders {
-        fs::create_dir_all(folder.join(program))?;
-        for List { name, text } in lists {
-            let lines = text.lines().count();
-            eprintln!("{program}/{name}: {lines} lines, {} bytes", text.len());
-            fs::write(folder.join(program).join(name), text)?;
-            bytes += text.len();
-        }
+    for List { name, text } in &lists {
+        eprintln!(
+            "{name}: {} lines, {} bytes",
+            text.lines().count(),
+            text.len()
+        );
+        fs::write(folder.join(name), text)?;
+        bytes += text.len();
     }
     eprintln!("{bytes} bytes");
     Ok(())

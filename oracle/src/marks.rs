@@ -102,7 +102,7 @@ const WANTED: [&str; 83] = [
     "advance of an empty slot leaves the maximum",
 ];
 
-const LEAST: u32 = 3;
+const LEAST: u32 = 2;
 
 pub struct Marks {
     counts: BTreeMap<&'static str, u32>,

@@ -59,15 +59,6 @@ pub fn reply(call: &Call, state: &State, start: &Start) -> u64 {
     }
 }
 
-/// The reply to a fresh cycle at this moment.
-pub fn fresh_cycle(moment: u64) -> u64 {
-    if moment > MOMENT {
-        2
-    } else {
-        0
-    }
-}
-
 /// Whether the stored numbers that the call is given are within their bounds:
 /// the model's for every call but the slope's, the cycle's for those that are
 /// given the cycle. A start is given neither, and setting the record is no call.

@@ -1,6 +1,7 @@
-//! Runs of calls on a model and its cycle, and the lists they are written into:
-//! a line is a call that goes on from the line before.
+//! Runs of calls on a model and its cycle, with the replies that are expected,
+//! for the kept frames.
 
+use crate::files::Files;
 use crate::marks::Marks;
 use crate::model::field::*;
 use crate::model::Call;
@@ -11,167 +12,72 @@ use crate::model::Sample;
 use crate::model::SendState;
 use crate::model::Start;
 use crate::model::State;
-use crate::replies;
-use crate::List;
+use crate::world::Step;
 
-/// The most bytes of a list.
-const MOST_BYTES: usize = 65_535;
-
-/// The numbers of a state, then the parameters: what a call is made on.
-type Before = [u64; 77];
-
-/// Numbers of calls: a start, what sets the record, which is no call of the
-/// port, and a fresh cycle.
-const START: u64 = 0;
-const SET_RECORD: u64 = 2;
-const FRESH_CYCLE: u64 = 39;
-
-/// Stands for a call in a line that puts numbers into the state.
-const PUT: u64 = 99;
-
-/// The most numbers that a line puts.
-const MOST_PUT: usize = 60;
-
-/// The numbers of a call and its arguments, the state and the parameters before
-/// it, and what is expected after it.
-struct Line {
-    call: Vec<u64>,
-    before: Before,
-    reply: u64,
-    answer: u64,
-    after: State,
-}
-
-pub struct Run {
-    lines: Vec<Line>,
-    host: Host,
+pub struct Run<'a> {
+    files: &'a mut Files,
     pub state: State,
-    /// The last start, refused or not: it holds the parameters.
-    start: Start,
+    /// A number of the state in whose place another one stands: its field and
+    /// itself. It is put back before the next call.
+    held: Option<(usize, u64)>,
     pub marks: Marks,
 }
 
-impl Run {
-    pub fn new(usual: Start) -> Self {
+impl<'a> Run<'a> {
+    pub fn new(files: &'a mut Files) -> Self {
         Run {
-            lines: Vec::new(),
-            host: Host::new(&usual),
-            state: [0; 66],
-            start: usual,
-            marks: Marks::new(usual),
+            state: files.world.state,
+            files,
+            held: None,
+            marks: Marks::new(Host::usual_start()),
         }
     }
 
-    /// Sets in the cycle what only the update steps raise.
-    pub fn raise(&mut self) {
-        self.host.raise(5, 7, 900);
-        self.state = self.host.state();
-    }
-
-    /// Makes a call that the port accepts, and writes it down; its answer.
+    /// Makes a call that the port accepts; its answer.
     pub fn call(&mut self, call: Call) -> u64 {
         self.expect(0, call)
     }
 
-    /// Makes a call to which the port replies this number, and writes it down;
-    /// its answer. What is refused isn't asked of the original: it answers 0
-    /// and leaves the state, and a start leaves a fresh one.
+    /// Makes a call to which the port replies this number; its answer. The
+    /// reply is read a second time from the table of document 01.
     pub fn expect(&mut self, reply: u64, call: Call) -> u64 {
-        if let Call::Start(start) = call {
-            self.start = start;
+        if let Some(held) = self.held.take() {
+            self.put(vec![held]);
         }
-        let by_table = replies::reply(&call, &self.state, &self.start);
-        assert_eq!(by_table, reply, "the port's reply to {call:?}");
+        self.make(reply, call)
+    }
 
+    /// The same, with `value` in place of the number at `field`, which the call
+    /// doesn't change.
+    pub fn expect_with(&mut self, reply: u64, field: usize, value: u64, call: Call) {
+        let mut numbers: Vec<(usize, u64)> = self.held.take().into_iter().collect();
+        let held = match numbers[..] {
+            [(same, number)] if same == field => number,
+            _ => self.state[field],
+        };
+        numbers.push((field, value));
+        self.put(numbers);
+        self.make(reply, call);
+        assert_eq!(self.state[field], value, "{call:?} changes field {field}");
+        self.held = Some((field, held));
+    }
+
+    fn make(&mut self, reply: u64, call: Call) -> u64 {
         let before = self.state;
-        let mut answer = 0;
+        let answer = self.files.step(&Step::Call(call));
+        let [by_table, answer] = answer.map_or([0, 0], |words| [words[0], words[1]]);
+        assert_eq!(by_table, reply, "the port's reply to {call:?}");
+        self.state = self.files.world.state;
         if reply == 0 {
-            answer = self.host.call(&call);
-            self.state = self.host.state();
             self.marks.look(&call, answer, &before, &self.state);
-        } else if let Call::Start(_) = call {
-            self.host.call(&Call::Start(replies::REFUSED_START));
-            self.state = self.host.state();
         }
-        self.write(reply, answer, call, before);
         answer
     }
 
-    /// A call that the port refuses with this number because of a number of
-    /// the state: `value` in place of the one at `field`.
-    pub fn refuse_with(&mut self, reply: u64, field: usize, value: u64, call: Call) {
-        let held = self.state;
-        self.state[field] = value;
-        let by_table = replies::reply(&call, &self.state, &self.start);
-        assert_eq!(
-            by_table, reply,
-            "field {field} at {value}: the port's reply to {call:?}"
-        );
-        self.write(reply, 0, call, self.state);
-        self.state = held;
-    }
-
-    /// A call that the port accepts with `value` in place of the number at
-    /// `field`, which the call neither reads nor changes: the original is asked
-    /// with the number it has.
-    pub fn accept_with(&mut self, field: usize, value: u64, call: Call) {
-        let mut before = self.state;
-        before[field] = value;
-        let by_table = replies::reply(&call, &before, &self.start);
-        assert_eq!(
-            by_table, 0,
-            "field {field} at {value}: the port's reply to {call:?}"
-        );
-
-        let answer = self.host.call(&call);
-        let after = self.host.state();
-        assert_eq!(
-            after[field], self.state[field],
-            "{call:?} changes field {field}"
-        );
-        self.state = after;
-        self.state[field] = value;
-        self.write(0, answer, call, before);
-        self.state = after;
-    }
-
-    fn write(&mut self, reply: u64, answer: u64, call: Call, state: State) {
-        let mut before = [0; 77];
-        before[..66].copy_from_slice(&state);
-        before[66..].copy_from_slice(&self.start.parameters());
-        self.lines.push(Line {
-            call: call.numbers(),
-            before,
-            reply,
-            answer,
-            after: self.state,
-        });
-    }
-
-    /// The lists of the run's calls on one part of the port, their names
-    /// numbered from 1. Each begins with a state of zeros.
-    pub fn lists(&self, part: Part, name: &str) -> Vec<List> {
-        let mut lists: Vec<List> = Vec::new();
-        let mut held = [0; 77];
-        for line in &self.lines {
-            let Some(line) = part.seen(line) else {
-                continue;
-            };
-            let more = text(&line, held);
-            match lists.last_mut() {
-                Some(list) if list.text.len() + more.len() <= MOST_BYTES => {
-                    list.text.push_str(&more)
-                }
-                _ => {
-                    let mut list = List::new(format!("{name}_{}.txt", lists.len() + 1));
-                    list.text = text(&line, [0; 77]);
-                    lists.push(list);
-                }
-            }
-            held = line.before;
-            held[..66].copy_from_slice(&line.after);
-        }
-        lists
+    /// Puts numbers into the state.
+    pub fn put(&mut self, numbers: Vec<(usize, u64)>) {
+        self.files.step(&Step::Put(numbers));
+        self.state = self.files.world.state;
     }
 
     pub fn start(&mut self, start: Start) {
@@ -230,94 +136,6 @@ impl Run {
         };
         self.event(Some(past), more);
     }
-}
-
-/// The parts of the port whose calls are replayed by a program each.
-#[derive(Clone, Copy, PartialEq)]
-pub enum Part {
-    Model,
-    Events,
-    Phases,
-}
-
-impl Part {
-    pub const ALL: [Part; 3] = [Part::Model, Part::Events, Part::Phases];
-
-    /// The program's crate.
-    pub fn folder(self) -> &'static str {
-        match self {
-            Part::Model => "replay_model",
-            Part::Events => "replay_events",
-            Part::Phases => "replay_phases",
-        }
-    }
-
-    /// Whether the part's calls can read or change the number at this index.
-    fn has(self, index: usize) -> bool {
-        match index {
-            0..34 => true,
-            34..50 => self == Part::Phases,
-            50..66 => self == Part::Events,
-            _ => true,
-        }
-    }
-
-    /// Whether the call of this number is one of the part's.
-    fn calls(self, number: u64) -> bool {
-        self == match number {
-            3..=7 | 9 => Part::Events,
-            39..=45 => Part::Phases,
-            _ => Part::Model,
-        }
-    }
-
-    /// The line as the part sees it, if its call is one of the part's.
-    fn seen(self, line: &Line) -> Option<Line> {
-        let mut call = line.call.clone();
-        let mut reply = line.reply;
-        let mut after = line.after;
-        if call[0] == SET_RECORD {
-            return None;
-        }
-        if call[0] == START && self == Part::Phases {
-            // The cycle's part of a start, which leaves the model alone.
-            call = vec![FRESH_CYCLE, call[1]];
-            reply = replies::fresh_cycle(call[1]);
-            after[..34].copy_from_slice(&line.before[..34]);
-        }
-        let own = |(index, &number): (usize, &u64)| if self.has(index) { number } else { 0 };
-        let before: Vec<u64> = line.before.iter().enumerate().map(own).collect();
-        let after: Vec<u64> = after.iter().enumerate().map(own).collect();
-        self.calls(call[0]).then(|| Line {
-            call,
-            before: before.try_into().unwrap(),
-            reply,
-            answer: line.answer,
-            after: after.try_into().unwrap(),
-        })
-    }
-}
-
-/// The line, after one that puts into the held numbers what differs.
-fn text(line: &Line, held: Before) -> String {
-    let mut list = List::new("");
-    for part in pairs(&held, &line.before).chunks(MOST_PUT) {
-        list.add(&[&[PUT], &part.concat()[..]].concat());
-    }
-    let changes = pairs(&line.before[..66], &line.after);
-    let mut numbers = line.call.clone();
-    numbers.extend([line.reply, line.answer, changes.len() as u64]);
-    numbers.extend(changes.concat());
-    list.add(&numbers);
-    list.text
-}
-
-/// The numbers that differ, each with its index.
-fn pairs(old: &[u64], new: &[u64]) -> Vec<[u64; 2]> {
-    let both = old.iter().zip(new).enumerate();
-    both.filter(|(_, (old, new))| old != new)
-        .map(|(index, (_, &new))| [index as u64, new])
-        .collect()
 }
 
 pub const NONE: Sample = Sample {

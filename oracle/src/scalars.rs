@@ -72,12 +72,17 @@ pub struct Runs {
 
 impl Runs {
     pub fn new(seed: u64) -> Self {
-        let turns = [whole(24).all, whole(53).all];
-        let each = each(&turns.concat()).into_iter();
+        let runs = Runs::at_random(seed);
+        let each = each(&runs.turns.concat()).into_iter();
+        Runs { each, ..runs }
+    }
+
+    /// The same without those that come once.
+    pub fn at_random(seed: u64) -> Self {
         Runs {
             random: Random::new(seed ^ (3 << 62)),
-            turns,
-            each,
+            turns: [whole(24).all, whole(53).all],
+            each: Vec::new().into_iter(),
         }
     }
 

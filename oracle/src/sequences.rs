@@ -1,6 +1,7 @@
-//! The lists of sequences of calls on a model and its cycle, all accepted.
+//! Sequences of calls on a model and its cycle, all accepted.
 
 use crate::calls::Calls;
+use crate::files::Files;
 use crate::model::field::*;
 use crate::model::Call;
 use crate::model::Getter;
@@ -20,12 +21,13 @@ use crate::run::ACKED;
 use crate::run::LOST;
 use crate::run::NONE;
 
-/// The least number of calls chosen at random.
-const CHOSEN: usize = 3500;
+/// The least number of steps chosen at random.
+const CHOSEN: usize = 1000;
 
-pub fn sequences() -> Run {
+/// Adds the sequences, and stops if something that has to occur is missing.
+pub fn add(files: &mut Files) {
     let usual = Host::usual_start();
-    let mut run = Run::new(usual);
+    let mut run = Run::new(files);
 
     marked(&mut run, usual);
     events(&mut run, usual);
@@ -44,7 +46,6 @@ pub fn sequences() -> Run {
 
     let all = run.marks.tell();
     assert!(all, "something wanted is too rare");
-    run
 }
 
 /// The marked examples of document 01 that a sequence can show.

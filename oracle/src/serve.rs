@@ -4,13 +4,20 @@ use std::io;
 use std::io::ErrorKind;
 
 use crate::frame;
+use crate::frame::Answer;
 use crate::frame::ARGUMENTS;
 use crate::frame::CARRIED;
 use crate::frame::RECORD;
 use crate::model::Call;
 use crate::world::Step;
 use crate::world::World;
+use crate::world::FILTER_RUN;
+use crate::world::MEMORY;
+use crate::world::MOST_PAIRS;
+use crate::world::MOST_PUT;
 use crate::world::NUMBERS;
+use crate::world::PUT;
+use crate::world::SLOPE;
 use crate::world::WINDOWED_FILTER;
 
 pub fn serve() -> io::Result<()> {
@@ -22,12 +29,35 @@ pub fn serve() -> io::Result<()> {
         world.carry(state);
         let mut answers = Vec::with_capacity(frame::ANSWERS);
         for words in calls.chunks_exact(frame::CALL) {
-            let step = step(&mut world, words).ok_or(ErrorKind::InvalidData)?;
-            answers.extend(world.step(&step));
+            let answer = answer(&mut world, words).ok_or(ErrorKind::InvalidData)?;
+            answers.extend(answer);
         }
         frame::write(&mut output, &answers)?;
     }
     Ok(())
+}
+
+/// The answer to a call of these words, if it is one.
+fn answer(world: &mut World, words: &[u64]) -> Option<Answer> {
+    let step = match words[0] {
+        PUT => {
+            let count = words[1].min(MOST_PUT as u64) as usize;
+            return Some(world.overwrite(&words[2..][..2 * count]));
+        }
+        FILTER_RUN => Step::FilterRun {
+            window: words[1],
+            length: words[2].min(MOST_PAIRS),
+            lent: words[3].min(MEMORY as u64),
+            words: words[4..].to_vec(),
+        },
+        SLOPE => Step::Slope {
+            rounds: words[1],
+            window: words[2],
+            lent: words[3].min(MEMORY as u64),
+        },
+        _ => step(world, words)?,
+    };
+    Some(world.answer_to(&step))
 }
 
 /// The step of a call's words, if it is one; takes what is handed in with it.

@@ -5,17 +5,22 @@ use crate::model::Host;
 use crate::model::Record;
 use crate::scalars;
 use crate::world::Step;
+use crate::world::FILTER_RUN;
+use crate::world::MEMORY;
+use crate::world::MOST_PAIRS;
 use crate::world::NUMBERS;
+use crate::world::PUT;
+use crate::world::SLOPE;
 use crate::world::WINDOWED_FILTER;
 
 const START: u64 = 0;
 const RECORD: u64 = 2;
 const EVENT: u64 = 3;
-const PUT: u64 = 99;
 
 /// The number of a call, its name, and how many arguments it has. A start may
-/// also have 2, without the parameters; what puts numbers has any even number.
-const CALLS: [(u64, &str, usize); 48] = [
+/// also have 2, without the parameters; what puts numbers has any even number;
+/// a run of a filter also has the words of its pairs.
+const CALLS: [(u64, &str, usize); 50] = [
     (START, "start", 13),
     (1, "on_packet_sent", 4),
     (RECORD, "record", 16),
@@ -63,6 +68,8 @@ const CALLS: [(u64, &str, usize); 48] = [
     (45, "raise_inflight_high_slope", 1),
     (WINDOWED_FILTER, "windowed_filter", 3),
     (NUMBERS, "numbers", 3),
+    (FILTER_RUN, "filter_run", 3),
+    (SLOPE, "slope", 3),
     (PUT, "put", 0),
 ];
 
@@ -146,6 +153,12 @@ const FILTER: [&str; 8] = [
     "time of third",
 ];
 
+/// The numbers of all calls that the port is asked.
+pub fn asked() -> impl Iterator<Item = u64> {
+    let numbers = CALLS.iter().map(|call| call.0);
+    numbers.filter(|&number| number != RECORD)
+}
+
 /// What the word of an answer to this step is.
 pub fn word(step: &Step, word: usize) -> String {
     match (step, word) {
@@ -160,6 +173,9 @@ pub fn word(step: &Step, word: usize) -> String {
         ) => {
             let number = first + word as u64 - 2;
             format!("{} of {number}", scalars::NAMES[*function as usize])
+        }
+        (Step::FilterRun { .. } | Step::Slope { .. }, _) => {
+            format!("output from byte {} on", 8 * (word - 2))
         }
         (_, 2..18) => format!("field {}, {}", word + 48, FIELDS[word + 48]),
         _ => format!("field {}, {}", word - 18, FIELDS[word - 18]),
@@ -202,6 +218,17 @@ fn numbers(step: &Step) -> Vec<u64> {
             first,
             other,
         } => vec![NUMBERS, *function, *first, *other],
+        Step::FilterRun {
+            window,
+            length,
+            lent,
+            words,
+        } => [&[FILTER_RUN, *window, *length, *lent], &words[..]].concat(),
+        Step::Slope {
+            rounds,
+            window,
+            lent,
+        } => vec![SLOPE, *rounds, *window, *lent],
     }
 }
 
@@ -236,6 +263,13 @@ fn parse(call: &str, arguments: &[&str]) -> Result<Step, String> {
         NUMBERS => {
             parsed.len() == count && parsed[0] <= 6 && parsed[1] <= u64::MAX - (scalars::RUN - 1)
         }
+        FILTER_RUN => {
+            parsed.len() >= count
+                && parsed[1] <= MOST_PAIRS
+                && parsed[2] <= MEMORY as u64
+                && parsed.len() == count + parsed[1].div_ceil(8) as usize
+        }
+        SLOPE => parsed.len() == count && parsed[2] <= MEMORY as u64,
         _ => parsed.len() == count,
     };
     if !fits {
@@ -275,6 +309,17 @@ fn step(number: u64, arguments: &[u64]) -> Step {
             function: arguments[0],
             first: arguments[1],
             other: arguments[2],
+        },
+        FILTER_RUN => Step::FilterRun {
+            window: arguments[0],
+            length: arguments[1],
+            lent: arguments[2],
+            words: arguments[3..].to_vec(),
+        },
+        SLOPE => Step::Slope {
+            rounds: arguments[0],
+            window: arguments[1],
+            lent: arguments[2],
         },
         _ => Step::Call(Call::of(number, arguments, &Host::usual_start()).unwrap()),
     }

@@ -3,23 +3,44 @@
 
 use crate::frame;
 use crate::frame::Answer;
+use crate::frame::Asked;
 use crate::frame::CallWords;
 use crate::frame::CARRIED;
 use crate::model::field::CWND_GAIN;
 use crate::model::field::PACING_GAIN;
+use crate::model::field::PROBE_UP_BYTES;
+use crate::model::field::PROBE_UP_ROUNDS;
 use crate::model::Call;
 use crate::model::Host;
 use crate::model::Record;
 use crate::model::Start;
 use crate::model::State;
-use crate::recovery::gcongestion::WindowedFilter;
 use crate::replies;
 use crate::scalars;
+use crate::windowed;
+use crate::windowed::Filter;
 
-/// The numbers of calls that are not the model's: on a windowed filter, and of
-/// functions on numbers.
+/// The numbers of calls that are not the model's: on a windowed filter, of
+/// functions on numbers, of the exported run of a filter, of the exported
+/// slope, and of what puts numbers into the state; that of the last but one,
+/// in a frame's first call, also has the answers summed up.
 pub const WINDOWED_FILTER: u64 = 46;
 pub const NUMBERS: u64 = 47;
+pub const FILTER_RUN: u64 = 48;
+pub const SLOPE: u64 = 49;
+pub const SUMMED: u64 = 98;
+pub const PUT: u64 = 99;
+
+/// The most numbers that one call puts.
+pub const MOST_PUT: usize = 23;
+
+/// The most bytes of pairs that a run of a filter is given, and the bytes of
+/// the memory of which a part is lent to an exported call.
+pub const MOST_PAIRS: u64 = 360;
+pub const MEMORY: usize = 528;
+
+/// What each byte of that memory is before the call.
+const UNTOUCHED: u8 = 165;
 
 /// What is done to the original and to the port.
 #[derive(Clone, Debug)]
@@ -36,11 +57,17 @@ pub enum Step {
         first: u64,
         other: u64,
     },
+    /// The exported run of a filter over the first `length` bytes of these
+    /// words, with `lent` bytes of output.
+    FilterRun {
+        window: u64,
+        length: u64,
+        lent: u64,
+        words: Vec<u64>,
+    },
+    /// The exported slope, with `lent` bytes of output.
+    Slope { rounds: u64, window: u64, lent: u64 },
 }
-
-/// A windowed filter: its window, whether it is full, and sample and time of
-/// the three estimates.
-pub type Filter = [u64; 8];
 
 pub struct World {
     host: Host,
@@ -64,8 +91,24 @@ impl World {
         world
     }
 
+    /// Takes the step; the calls in which the port is asked it.
+    pub fn step(&mut self, step: &Step) -> Vec<Asked> {
+        if let Step::Put(numbers) = step {
+            return self.put(numbers);
+        }
+        let before = self.carried();
+        let words = self.words(step);
+        let answer = self.answer_to(step);
+        let asked = |words| Asked {
+            before,
+            words,
+            answer,
+        };
+        words.map(asked).into_iter().collect()
+    }
+
     /// The words in which the port is asked the step, if it is.
-    pub fn words(&self, step: &Step) -> Option<CallWords> {
+    fn words(&self, step: &Step) -> Option<CallWords> {
         let record = &self.state[CARRIED..];
         let words = |numbers: &[u64], start: &Start| {
             frame::call(numbers[0], &numbers[1..], record, &start.parameters())
@@ -83,19 +126,30 @@ impl World {
                 first,
                 other,
             } => Some(words(&[NUMBERS, *function, *first, *other], &self.start)),
+            Step::FilterRun {
+                window,
+                length,
+                lent,
+                words,
+            } => {
+                let arguments = [&[*window, *length, *lent], &words[..]].concat();
+                Some(frame::bare_call(FILTER_RUN, &arguments))
+            }
+            Step::Slope {
+                rounds,
+                window,
+                lent,
+            } => Some(frame::bare_call(SLOPE, &[*rounds, *window, *lent])),
         }
     }
 
-    /// Takes the step; the words of the answer.
-    pub fn step(&mut self, step: &Step) -> Answer {
+    /// Takes the step, which puts no numbers; the words of the answer.
+    pub fn answer_to(&mut self, step: &Step) -> Answer {
         match step {
             Step::Call(call) => self.call(call),
-            Step::Put(numbers) => {
-                self.put(numbers);
-                self.answer(0, 0, &[])
-            }
+            Step::Put(_) => unreachable!("numbers are put apart"),
             Step::Filter { op, x, y } => {
-                let reply = self.filter(*op, *x, *y);
+                let reply = windowed::operate(&mut self.filter, *op, *x, *y);
                 let filter = self.filter;
                 self.answer(reply, 0, &filter)
             }
@@ -109,6 +163,24 @@ impl World {
                     *word = scalars::answer(*function, first + place, *other);
                 }
                 words
+            }
+            Step::FilterRun {
+                window,
+                length,
+                lent,
+                words,
+            } => {
+                let pairs = &frame::bytes(words)[..*length as usize];
+                let (reply, samples) = windowed::run(*window, pairs, *lent as usize);
+                memory(reply, &samples)
+            }
+            Step::Slope {
+                rounds,
+                window,
+                lent,
+            } => {
+                let (reply, numbers) = slope(*rounds, *window, *lent);
+                memory(reply, &numbers)
             }
         }
     }
@@ -136,7 +208,10 @@ impl World {
         }
     }
 
-    fn put(&mut self, numbers: &[(usize, u64)]) {
+    /// Puts the numbers into the state and the parameters; the calls in which
+    /// the port is told those of its state that change.
+    fn put(&mut self, numbers: &[(usize, u64)]) -> Vec<Asked> {
+        let before = self.carried();
         let mut parameters = self.start.parameters();
         for &(index, number) in numbers {
             match index {
@@ -147,6 +222,40 @@ impl World {
         self.start = self.start.with_parameters(&parameters);
         self.host.put(&self.state, &self.start);
         self.state = self.host.state();
+
+        let after = self.carried();
+        let changed = (0..CARRIED).filter(|&index| before[index] != after[index]);
+        let changed: Vec<u64> = changed.flat_map(|it| [it as u64, after[it]]).collect();
+        self.carry(&before);
+        let parts = changed.chunks(2 * MOST_PUT);
+        parts.map(|part| self.put_part(part)).collect()
+    }
+
+    /// Puts words into the state, as one call.
+    fn put_part(&mut self, pairs: &[u64]) -> Asked {
+        let arguments = [&[pairs.len() as u64 / 2], pairs].concat();
+        Asked {
+            before: self.carried(),
+            words: frame::bare_call(PUT, &arguments),
+            answer: self.overwrite(pairs),
+        }
+    }
+
+    /// Puts words into the state as they are, index and word by turns; the
+    /// words of the answer.
+    pub fn overwrite(&mut self, pairs: &[u64]) -> Answer {
+        for pair in pairs.chunks_exact(2) {
+            if let Some(place) = self.state[..CARRIED].get_mut(pair[0] as usize) {
+                *place = pair[1];
+            }
+        }
+        self.host.put(&self.state, &self.start);
+        self.answer(0, 0, &[])
+    }
+
+    /// The words of the state that the port carries.
+    fn carried(&self) -> [u64; CARRIED] {
+        self.state[..CARRIED].try_into().unwrap()
     }
 
     /// Takes the words of a frame's state.
@@ -167,34 +276,6 @@ impl World {
         }
     }
 
-    /// Makes the operation on the filter; its reply.
-    fn filter(&mut self, op: u64, x: u64, y: u64) -> u64 {
-        let [window, full, times @ ..] = self.filter;
-        let [s0, t0, s1, t1, s2, t2] = times;
-        if op == 2 && full == 1 && [t0, t1, t2].iter().any(|&time| y < time) {
-            return 3;
-        }
-        let held = [(s0, t0 as usize), (s1, t1 as usize), (s2, t2 as usize)];
-        let held = (full == 1).then_some(held);
-        let mut filter = WindowedFilter::holding(window as usize, held);
-        match op {
-            0 => {
-                filter = WindowedFilter::new(x as usize);
-                self.filter[0] = x;
-            }
-            1 => filter.reset(x, y as usize),
-            2 => filter.update(x, y as usize),
-            _ => filter.clear(),
-        }
-        let held = filter.held();
-        self.filter[1] = held.is_some() as u64;
-        let held = held.unwrap_or_default();
-        for (place, (sample, time)) in self.filter[2..].chunks_mut(2).zip(held) {
-            place.copy_from_slice(&[sample, time as u64]);
-        }
-        0
-    }
-
     fn answer(&self, reply: u64, answer: u64, record: &[u64]) -> Answer {
         let mut words = [0; frame::ANSWER];
         words[0] = reply;
@@ -203,6 +284,37 @@ impl World {
         words[2 + frame::RECORD..].copy_from_slice(&self.state[..CARRIED]);
         words
     }
+}
+
+/// An answer that shows the memory, of which a part was lent: these numbers
+/// were written, and all else is untouched.
+fn memory(reply: u64, written: &[u64]) -> Answer {
+    let mut memory = frame::bytes(written);
+    memory.resize(MEMORY, UNTOUCHED);
+    let mut words = [0; frame::ANSWER];
+    words[0] = reply;
+    words[2..].copy_from_slice(&frame::words(&memory));
+    words
+}
+
+/// The reply to the exported slope, and what it writes: the rounds and the
+/// bytes that the original's cycle has after it.
+fn slope(rounds: u64, window: u64, lent: u64) -> (u64, Vec<u64>) {
+    let none = |reply| (reply, Vec::new());
+    if rounds > replies::UP_ROUNDS {
+        return none(1);
+    }
+    if window > replies::BYTES {
+        return none(2);
+    }
+    if lent < 16 {
+        return none(7);
+    }
+    let mut host = Host::new(&Host::usual_start());
+    host.call(&Call::ProbeRefill { rounds, moment: 0 });
+    host.call(&Call::RaiseSlope { cwnd: window });
+    let state = host.state();
+    (0, vec![state[PROBE_UP_ROUNDS], state[PROBE_UP_BYTES]])
 }
 
 /// What stands in the state where this number is put: a NaN has one pattern

@@ -1,15 +1,27 @@
 //! The functions on numbers and the filter, against the original's answers.
 
-mod common;
+use std::fs;
+use std::path::Path;
 
-use common::list;
 use guovssalu::Bandwidth;
 use guovssalu::Duration;
+
+/// The lines of a kept list (oracle/README.md), each as its numbers.
+fn list(name: &str) -> Vec<Vec<u64>> {
+    let file = Path::new(env!("CARGO_MANIFEST_DIR"))
+        .join("../crates/answers/data")
+        .join(name);
+    let text = fs::read_to_string(&file).unwrap_or_else(|why| panic!("{:?}: {}", file, why));
+    let number = |word: &str| word.parse().unwrap();
+    text.lines()
+        .map(|line| line.split(' ').map(number).collect())
+        .collect()
+}
 
 /// Holds each line's last number to what is made of the others; then with another last number, which
 /// has to be noticed in every line.
 fn check(name: &str, answer: impl Fn(&[u64]) -> u64) {
-    let list = list("answers", name);
+    let list = list(name);
     assert!(!list.is_empty(), "{}", name);
     let differences = |change: u64| {
         let differs = |line: &&Vec<u64>| {
@@ -96,7 +108,7 @@ impl Run {
 /// a clear.
 #[test]
 fn windowed_filter() {
-    let list = list("answers", "windowed_filter.txt");
+    let list = list("windowed_filter.txt");
     let mut run = Run::default();
     let mut updates = 0;
     for line in &list {

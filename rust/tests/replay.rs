@@ -1,12 +1,11 @@
-//! The calls of the kept lists, each made by the wrapper in the state in which the original was:
-//! reply, answer, event and state are held to the list, once by the methods and once by a run over
-//! bytes.
+//! The calls of the kept frames, each made by the wrapper in the state in which the original was:
+//! reply, answer, event and state are held to the original's, once by the methods and once by a run
+//! over bytes.
 
-mod common;
+use std::collections::BTreeSet;
+use std::fs;
+use std::path::Path;
 
-use std::ops::Range;
-
-use common::list;
 use guovssalu::run;
 use guovssalu::Answer;
 use guovssalu::Bandwidth;
@@ -20,143 +19,128 @@ use guovssalu::Params;
 use guovssalu::Refusal;
 use guovssalu::Sample;
 use guovssalu::SendTimeState;
-use guovssalu::STATE_BYTES;
 
-/// Numbers of the model and of model and cycle, then the event's record to 65 and the parameters.
-const MODEL: usize = 34;
+/// Words of a state, of its model, of a call and of an answer with the state after it, and the calls
+/// of a frame (oracle/README.md, "The frames").
 const STATE: usize = 50;
-const PARAMS: usize = 66;
-const FIELDS: usize = 77;
+const MODEL: usize = 34;
+const CALL: usize = 49;
+const ANSWER: usize = 68;
+const CALLS: usize = 100;
 
-/// A state as the lists have it.
-type Fields = [u64; FIELDS];
+/// Calls that are not the model's.
+const FILTER: u64 = 46;
+const NUMBERS: u64 = 47;
+const FILTER_RUN: u64 = 48;
+const SLOPE: u64 = 49;
+const PUT: u64 = 99;
 
-/// One call of a list: the state before it, what it is given and what is expected of it.
+/// One call of a frame: the state before it, its words and those of the original's answer.
 #[derive(Clone)]
 struct Case {
-    before: Fields,
-    number: u64,
-    arguments: Vec<u64>,
-    reply: u64,
-    answer: u64,
-    after: Fields,
+    before: Vec<u64>,
+    call: Vec<u64>,
+    answer: Vec<u64>,
 }
 
+/// Every call is made, and then held to expectations that are wrong in one number.
 #[test]
-fn calls_on_the_model() {
-    let lists = ["sequences_1.txt", "sequences_2.txt", "limits_1.txt"];
-    replay("replay_model", &lists);
-}
-
-#[test]
-fn calls_on_an_event() {
-    let lists = [
-        "sequences_1.txt",
-        "sequences_2.txt",
-        "sequences_3.txt",
-        "sequences_4.txt",
-        "sequences_5.txt",
-        "limits_1.txt",
-    ];
-    replay("replay_events", &lists);
-}
-
-#[test]
-fn calls_on_the_cycle() {
-    let lists = ["sequences_1.txt", "sequences_2.txt", "limits_1.txt"];
-    replay("replay_phases", &lists);
-}
-
-fn replay(program: &str, names: &[&str]) {
-    for name in names {
-        let cases = cases(program, name);
-        assert!(!cases.is_empty());
-        for (at, case) in cases.iter().enumerate() {
-            let told = format!("{}/{}: case {}, call {}", program, name, at, case.number);
-            assert_eq!(by_methods(case), Ok(()), "{}", told);
-            assert_eq!(by_bytes(case), Ok(()), "{}", told);
-
+fn kept_frames() {
+    let mut seen = BTreeSet::new();
+    for (at, case) in cases().iter().enumerate() {
+        let number = case.call[0];
+        let ways: &[Way] = match number {
+            FILTER | NUMBERS | PUT => continue,
+            FILTER_RUN => &[by_filter_run],
+            SLOPE => &[by_slope],
+            _ => &[by_methods, by_bytes],
+        };
+        seen.insert(number);
+        for way in ways {
+            assert_eq!(way(case), Ok(()), "case {}, call {}", at, number);
             for wrong in case.changed() {
-                assert!(by_methods(&wrong).is_err(), "{}", told);
-                assert!(wrong.number == 39 || by_bytes(&wrong).is_err(), "{}", told);
+                assert!(way(&wrong).is_err(), "case {}, call {}", at, number);
             }
         }
     }
+    // The model's and the cycle's 44, and the two exported ones with an output.
+    assert_eq!(seen.len(), 46);
 }
 
-fn cases(program: &str, name: &str) -> Vec<Case> {
-    let mut fields = [0; FIELDS];
+/// A way to make a call.
+type Way = fn(&Case) -> Result<(), String>;
+
+/// The calls of the kept frames. A state goes on from call to call, and those that don't show it
+/// leave it.
+fn cases() -> Vec<Case> {
+    let (requests, answers) = (kept("stdin"), kept("stdout"));
+    let requests = requests.chunks(STATE + CALLS * CALL);
     let mut cases = Vec::new();
-    for line in list(program, name) {
-        let number = line[0];
-        if number == 99 {
-            put(&mut fields, &line[1..]);
-            continue;
+    for (request, answers) in requests.zip(answers.chunks(CALLS * ANSWER)) {
+        let (state, calls) = request.split_at(STATE);
+        let mut state = state.to_vec();
+        for (call, answer) in calls.chunks(CALL).zip(answers.chunks(ANSWER)) {
+            let case = Case {
+                before: state.clone(),
+                call: call.to_vec(),
+                answer: answer.to_vec(),
+            };
+            if !(NUMBERS..=SLOPE).contains(&call[0]) {
+                state = case.after().to_vec();
+            }
+            cases.push(case);
         }
-        let (arguments, rest) = line[1..].split_at(arguments(number));
-        let before = fields;
-        put(&mut fields, &rest[3..]);
-        cases.push(Case {
-            before,
-            number,
-            arguments: arguments.to_vec(),
-            reply: rest[0],
-            answer: rest[1],
-            after: fields,
-        });
     }
     cases
 }
 
-/// Puts numbers into a state, each as index and value.
-fn put(fields: &mut Fields, numbers: &[u64]) {
-    for pair in numbers.chunks(2) {
-        fields[pair[0] as usize] = pair[1];
-    }
-}
-
-/// How many arguments a call has in a list.
-fn arguments(number: u64) -> usize {
-    match number {
-        0 | 10 | 42 | 43 => 2,
-        1 => 4,
-        3 => 21,
-        6 | 9 | 11 | 15..=18 | 22 | 39 | 41 | 45 => 1,
-        40 => 3,
-        _ => 0,
-    }
+/// The words of a file of the program `serve`.
+fn kept(name: &str) -> Vec<u64> {
+    let file = Path::new(env!("CARGO_MANIFEST_DIR"))
+        .join("../crates/serve")
+        .join(name);
+    let bytes = fs::read(&file).unwrap_or_else(|why| panic!("{:?}: {}", file, why));
+    (0..bytes.len() / 8).map(|at| word(&bytes, at)).collect()
 }
 
 impl Case {
-    /// The same call with expectations that are wrong in one number, which has to be noticed: the
-    /// reply, the answer, and unless it is a refused start, which leaves no state to the caller, a
-    /// field of the state.
+    /// The same call with expectations that are wrong in one number: the reply, the answer (of an
+    /// exported call, a word of its output), and unless it is a refused start, which leaves no state
+    /// to the caller of a method, a word of the state.
     fn changed(&self) -> Vec<Case> {
-        let mut all = vec![self.clone(); 2];
-        all[0].reply ^= 1;
-        all[1].answer ^= 1;
-        if !(self.is_start() && self.reply > 0) {
-            let mut other = self.clone();
-            other.after[if self.number < 39 { 1 } else { 37 }] ^= 1;
-            all.push(other);
+        let (number, reply) = (self.call[0], self.answer[0]);
+        let mut places = match (number, reply) {
+            (FILTER_RUN, _) => vec![0, 2, ANSWER - 1],
+            (SLOPE, 0) => vec![0, 2, 3],
+            (SLOPE, 7) => vec![],
+            (SLOPE, _) => vec![0],
+            _ => vec![0, 1],
+        };
+        if number < FILTER && !(number == 0 && reply > 0) {
+            places.push(18 + if number < 39 { 1 } else { 37 });
         }
-        all
+        let change = |place: usize| {
+            let mut case = self.clone();
+            case.answer[place] ^= 1;
+            case
+        };
+        places.into_iter().map(change).collect()
     }
 
-    fn is_start(&self) -> bool {
-        self.number == 0 || self.number == 39
+    fn argument(&self, at: usize) -> u64 {
+        self.call[1 + at]
     }
 
-    fn state(&self) -> Vec<u8> {
-        bytes(&self.before[..STATE])
+    fn after(&self) -> &[u64] {
+        &self.answer[ANSWER - STATE..]
     }
 
     fn event(&self) -> CongestionEvent {
-        event(&self.before[STATE..])
+        event(&self.call[22..])
     }
 
     fn params(&self) -> Params {
-        let fields = &self.before[PARAMS..];
+        let fields = &self.call[38..];
         Params {
             beta: gain(fields[0]),
             loss_threshold: gain(fields[1]),
@@ -173,7 +157,7 @@ impl Case {
     }
 
     fn sample(&self) -> Sample {
-        let numbers = &self.arguments;
+        let numbers = &self.call[1..];
         let bandwidth = |at: usize| option(&numbers[at..]).map(Bandwidth::from_bits_per_second);
         Sample {
             sample_max_bandwidth: bandwidth(0),
@@ -190,8 +174,8 @@ impl Case {
     }
 
     fn acked(&self) -> &[u64] {
-        let count = self.arguments[17] as usize;
-        &self.arguments[18..18 + count]
+        let count = self.argument(17) as usize;
+        &self.call[19..19 + count]
     }
 
     /// Holds what a call replied and left to what is expected.
@@ -200,24 +184,19 @@ impl Case {
         reply: Result<u64, Refusal>,
         state: &[u8],
         left: CongestionEvent,
-        fields: Range<usize>,
     ) -> Result<(), String> {
-        let expected = (self.reply, self.answer);
-        let seen = match reply {
-            Ok(answer) => (0, answer),
-            Err(refusal) => (refusal.number(), 0),
-        };
+        let (expected, seen) = (&self.answer[..2], numbers(reply));
         if seen != expected {
             return Err(format!("reply and answer {:?}, not {:?}", seen, expected));
         }
-        for at in fields {
-            let word = word(state, at);
-            if word != self.after[at] {
-                let expected = self.after[at];
-                return Err(format!("field {} is {}, not {}", at, word, expected));
-            }
+        let differs = |&at: &usize| word(state, at) != self.after()[at];
+        if let Some(at) = (0..STATE).find(differs) {
+            return Err(format!("field {} is {}", at, word(state, at)));
         }
-        let expected = event(&self.after[STATE..]);
+        let expected = match self.call[0] {
+            3 => event(&self.answer[2..]),
+            _ => self.event(),
+        };
         if left != expected {
             return Err(format!("the event is {:?}, not {:?}", left, expected));
         }
@@ -225,9 +204,17 @@ impl Case {
     }
 }
 
-/// Makes the call by the method of its name.
+/// The words of a reply and an answer.
+fn numbers(reply: Result<u64, Refusal>) -> [u64; 2] {
+    match reply {
+        Ok(answer) => [0, answer],
+        Err(refusal) => [refusal.number(), 0],
+    }
+}
+
+/// Makes the call by the method of its name. A refused start leaves nothing to compare.
 fn by_methods(case: &Case) -> Result<(), String> {
-    let state = case.state();
+    let state = bytes(&case.before);
     let mut model = NetworkModel::from_bytes(&state[..8 * MODEL]).unwrap();
     let mut cycle = Cycle::from_bytes(&state[8 * MODEL..]).unwrap();
     let mut event = case.event();
@@ -237,12 +224,10 @@ fn by_methods(case: &Case) -> Result<(), String> {
     for (at, number) in looked_up(&model, &cycle) {
         assert_eq!(number, word(&state, at), "field {}", at);
     }
-    let fields = if case.is_start() && reply.is_err() {
-        0..0
-    } else {
-        0..STATE
-    };
-    case.held(reply, &state, event, fields)
+    if case.call[0] == 0 && reply.is_err() {
+        state = bytes(case.after());
+    }
+    case.held(reply, &state, event)
 }
 
 /// What the methods that only look up a stored number give, each with its field.
@@ -301,15 +286,16 @@ fn method(
     event: &mut CongestionEvent,
 ) -> Result<u64, Refusal> {
     let params = &case.params();
-    let argument = |at: usize| case.arguments[at];
+    let argument = |at: usize| case.argument(at);
     let moment = |at: usize| Moment::from_nanos(argument(at));
     let bandwidth = |at: usize| Bandwidth::from_bits_per_second(argument(at));
     let nothing = |()| 0;
     let flag = |yes: bool| yes as u64;
-    match case.number {
+    match case.call[0] {
         0 => {
             let initial_rtt = Duration::from_nanos(argument(1));
             *model = NetworkModel::new(params, initial_rtt, moment(0))?;
+            *cycle = Cycle::new(moment(0))?;
             Ok(0)
         }
         1 => model
@@ -361,10 +347,6 @@ fn method(
         36 => model.loss_events_in_round(),
         37 => model.rounds_with_queueing(),
         38 => model.queueing_threshold_extra_bytes(),
-        39 => {
-            *cycle = Cycle::new(moment(0))?;
-            Ok(0)
-        }
         40 => {
             let (too_high, risky) = (argument(0) == 1, argument(1) == 1);
             cycle
@@ -386,26 +368,49 @@ fn method(
 
 /// Makes the call by a run over bytes.
 fn by_bytes(case: &Case) -> Result<(), String> {
-    if case.number == 39 {
-        return Ok(());
-    }
-    let call = Call::new(case.number, &case.arguments)
+    let call = Call::new(case.call[0], &case.call[1..22])
         .with_event(&case.event())
         .with_params(&case.params());
-    let mut state = case.state();
-    assert_eq!(state.len(), STATE_BYTES);
-    let mut bytes = [0; Answer::BYTES];
-    run(&mut state, call.as_bytes(), &mut bytes).unwrap();
-    let answer = Answer::from_bytes(&bytes);
-    let left = if case.number == 3 {
+    assert_eq!(call.as_bytes()[..], bytes(&case.call));
+    let mut state = bytes(&case.before);
+    let mut out = [0; Answer::BYTES];
+    run(&mut state, call.as_bytes(), &mut out).unwrap();
+    let answer = Answer::from_bytes(&out);
+    let left = if case.call[0] == 3 {
         answer.event()
     } else {
         assert_eq!(answer.event(), CongestionEvent::default());
         case.event()
     };
-    // A start makes a cycle, too, which these lists don't have.
-    let range = if case.number == 0 { 0..MODEL } else { 0..STATE };
-    case.held(answer.number(), &state, left, range)
+    case.held(answer.number(), &state, left)
+}
+
+/// Runs the filter with the output that the call lends; all of the memory is compared.
+fn by_filter_run(case: &Case) -> Result<(), String> {
+    let [length, lent] = [case.argument(1) as usize, case.argument(2) as usize];
+    let pairs = &bytes(&case.call[4..])[..length];
+    let mut memory = [165; 8 * (ANSWER - 2)];
+    let reply = guovssalu::filter_run(case.argument(0), pairs, &mut memory[..lent]);
+    let mut seen = bytes(&numbers(reply.map(|()| 0)));
+    seen.extend(memory);
+    if seen != bytes(&case.answer) {
+        return Err(format!("{:?}", seen));
+    }
+    Ok(())
+}
+
+/// The slope. The package's function lends an output that is long enough.
+fn by_slope(case: &Case) -> Result<(), String> {
+    let expected = &case.answer[..4];
+    let slope = guovssalu::raise_inflight_high_slope(case.argument(0), case.argument(1));
+    let seen = match slope {
+        Ok((rounds, bytes)) => [0, 0, rounds, bytes],
+        Err(refusal) => [refusal.number(), 0, expected[2], expected[3]],
+    };
+    if expected[0] != 7 && seen != expected {
+        return Err(format!("{:?}, not {:?}", seen, expected));
+    }
+    Ok(())
 }
 
 fn bytes(words: &[u64]) -> Vec<u8> {
@@ -439,18 +444,9 @@ fn send_state(numbers: &[u64]) -> SendTimeState {
     }
 }
 
+/// The event of these 16 words, which stand in an answer after the first two.
 fn event(numbers: &[u64]) -> CongestionEvent {
-    CongestionEvent {
-        event_time: Moment::from_nanos(numbers[0]),
-        prior_cwnd: numbers[1],
-        prior_bytes_in_flight: numbers[2],
-        bytes_in_flight: numbers[3],
-        bytes_acked: numbers[4],
-        bytes_lost: numbers[5],
-        end_of_round_trip: numbers[6] == 1,
-        is_probing_for_bandwidth: numbers[7] == 1,
-        sample_max_bandwidth: option(&numbers[8..]).map(Bandwidth::from_bits_per_second),
-        sample_min_rtt: option(&numbers[10..]).map(Duration::from_nanos),
-        last_packet_send_state: send_state(&numbers[12..]),
-    }
+    let mut answer = [0; Answer::BYTES];
+    answer[16..].copy_from_slice(&bytes(&numbers[..16]));
+    Answer::from_bytes(&answer).event()
 }

@@ -1,3 +1,3 @@
-// Lists of decimal numbers, read line by line: part of the programs answers and replay.
+// Lists of decimal numbers, read line by line: part of the program answers.
 pub mod file;
 pub mod list;

@@ -3,12 +3,15 @@ ghost use mathlib.Core.Path.{_≡_};
 ghost use lib.ListN.{length};
 use crate::copy::copy;
 use crate::filter;
+use crate::lent;
 use crate::neighbours;
+use crate::put::put;
 use exports::model_run::guovssalu_run;
 use words::get_word;
 use words::put_words;
 
-// Makes the call, 392 bytes, in the state. Its answer is 144 bytes, and after them stands the state that it left.
+// Answers the call, 392 bytes, by 544: of those that show the state, the answer is 144 bytes, and after them stands
+// the state that the call left.
 pub fn answer_call(state: &mut [u8; 400], call: &[u8], answer: &mut [u8])
     requires { ⌜ (length (now call) ≡ 392) × (length (now answer) ≡ 544) ⌝ }
 {
@@ -17,8 +20,29 @@ pub fn answer_call(state: &mut [u8; 400], call: &[u8], answer: &mut [u8])
         neighbours::answer(call, answer);
         return;
     }
+    if number == 48 {
+        lent::filter_run(call, answer);
+        return;
+    }
+    if number == 49 {
+        lent::slope(call, answer);
+        return;
+    }
+    state_call(number, state, call, answer);
+}
+
+// A call whose answer shows the state: of the model, on a windowed filter, or one that puts words into the state.
+fn state_call(number: u64, state: &mut [u8; 400], call: &[u8], answer: &mut [u8])
+    requires { ⌜ (length (now call) ≡ 392) × (length (now answer) ≡ 544) ⌝ }
+{
     if number == 46 {
         filter::answer(call, answer);
+        copy(state, answer, 144);
+        return;
+    }
+    if (number == 98) | (number == 99) {
+        put(state, call);
+        put_words(answer, 0, &[0u64; 18]);
         copy(state, answer, 144);
         return;
     }

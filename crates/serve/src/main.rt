@@ -4,17 +4,24 @@ mod call;
 mod copy;
 mod filter;
 mod frame;
+mod lent;
 mod neighbours;
+mod put;
+mod sums;
 
 use libc::STDIN_FILENO;
 use libc::STDOUT_FILENO;
+use words::get_word;
 
-// Reads a frame and writes its answer; whether there was one.
+// Reads a frame and writes its answers, or where its first call asks for that, two sums of them; whether there was one.
 fn serve_frame(request: &mut [u8; 39_600], answers: &mut [u8; 54_400]) -> bool {
     if io::read_full(STDIN_FILENO, request) < 39_600 {
         return false;
     }
     frame::answer(request, answers);
+    if get_word(request, 400) == 98 {
+        return io::write_all(STDOUT_FILENO, &sums::sums(answers));
+    }
     io::write_all(STDOUT_FILENO, answers)
 }
 

@@ -68,17 +68,6 @@ impl Host {
         }
     }
 
-    /// Sets what only the update steps raise: rounds_in_phase,
-    /// rounds_since_probe, probe_up_acked and, to yes,
-    /// probe_up_app_limited_since_inflight_hi_limited.
-    pub fn raise(&mut self, in_phase: usize, since_probe: usize, acked: usize) {
-        let cycle = &mut self.probe.cycle;
-        cycle.rounds_in_phase = in_phase;
-        cycle.rounds_since_probe = since_probe;
-        cycle.probe_up_acked = acked;
-        cycle.probe_up_app_limited_since_inflight_hi_limited = true;
-    }
-
     /// Puts these numbers into the state, and the parameters of the start.
     pub fn put(&mut self, state: &State, start: &Start) {
         let moment = |nanos: u64| self.base + Duration::from_nanos(nanos);

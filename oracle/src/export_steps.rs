@@ -1,0 +1,101 @@
+//! Chooses runs of the exported filter and of the exported slope, with lengths
+//! at which they are refused.
+
+use crate::filter_steps;
+use crate::filter_steps::WINDOWS;
+use crate::replies::BYTES;
+use crate::replies::UP_ROUNDS;
+use crate::values::Random;
+use crate::windowed;
+use crate::world::Step;
+use crate::world::MEMORY;
+use crate::world::MOST_PAIRS;
+
+/// An endless choice of calls, each for itself.
+pub struct ExportSteps {
+    random: Random,
+}
+
+impl ExportSteps {
+    pub fn new(seed: u64) -> Self {
+        ExportSteps {
+            random: Random::new(seed ^ (5 << 61)),
+        }
+    }
+
+    pub fn next(&mut self) -> Step {
+        match self.random.one_in(3) {
+            true => self.slope(),
+            false => self.filter_run(),
+        }
+    }
+
+    fn slope(&mut self) -> Step {
+        let random = &mut self.random;
+        let rounds = match random.below(8) {
+            0 => UP_ROUNDS + 1,
+            1 => random.of_length(64),
+            _ => random.below(UP_ROUNDS + 1),
+        };
+        // Where the quotient reaches 1300.
+        let turn = 1300 << rounds.min(UP_ROUNDS);
+        let window = match random.below(8) {
+            0 => BYTES,
+            1 => BYTES + 1,
+            2 => u64::MAX,
+            3 => random.below(1 << 12),
+            4 => random.of_length(40),
+            _ => turn - 1 + random.below(3),
+        };
+        Step::Slope {
+            rounds,
+            window,
+            lent: random.pick(&[15, 16, 16, 16, 17, 0, 8, MEMORY as u64]),
+        }
+    }
+
+    fn filter_run(&mut self) -> Step {
+        let window = self.random.pick(&WINDOWS);
+        let mut words = self.pairs(window);
+        let random = &mut self.random;
+        let mut length = 8 * words.len() as u64;
+        if random.one_in(6) {
+            length = (length + 1 + random.below(15)).min(MOST_PAIRS);
+            words.resize(length.div_ceil(8) as usize, 7);
+        }
+        let whole = 24 * (length / 16);
+        let lent = match random.below(8) {
+            0 => whole.saturating_sub(1),
+            1 => whole + 1,
+            2 => random.below(MEMORY as u64 + 1),
+            _ => whole,
+        };
+        Step::FilterRun {
+            window,
+            length,
+            lent: lent.min(MEMORY as u64),
+            words,
+        }
+    }
+
+    /// Pairs of a time and a sample, at the ages and samples where the filter
+    /// turns; in some runs a time falls.
+    fn pairs(&mut self, window: u64) -> Vec<u64> {
+        let random = &mut self.random;
+        let falls = random.one_in(5);
+        let count = random.below(MOST_PAIRS / 16 + 1);
+        let mut filter = [0; 8];
+        windowed::operate(&mut filter, 0, window, 0);
+        let mut words = Vec::new();
+        for _ in 0..count {
+            let time = match falls && random.one_in(6) {
+                true => filter_steps::earlier(random, &filter),
+                false => filter_steps::time(random, &filter),
+            };
+            let sample = filter_steps::sample(random, &filter);
+            windowed::operate(&mut filter, 2, sample, time);
+            words.extend([time, sample]);
+        }
+        words
+    }
+}
