@@ -1,10 +1,10 @@
 #!/bin/sh
-# The Rust package over the archive of the exported calls (rust/README.md).
+# The Rust package over the archive of the exported calls (rust/README.md), and the example in C.
 #
-#     tests/rust.sh         on x86-64 proves the archive and runs the package's tests and its example
-#     tests/rust.sh check   only checks the package, as the gate does: the archive would be proved once more for it
+#     tests/rust.sh         on x86-64 proves the archive and runs the package's tests and the examples
+#     tests/rust.sh check   only checks the packages, as the gate does: the archive would be proved once more for them
 #
-# On another machine the package is only checked, since the archive can't be linked. Without cargo it says so and goes on.
+# On another machine they are only checked, since the archive can't be linked. Without cargo it says so and goes on.
 set -eu
 cd "$(dirname "$0")/.."
 if ! command -v cargo >/dev/null 2>&1; then
@@ -18,6 +18,11 @@ if [ "${1:-}" != check ] && [ "$machine" = x86_64 ]; then
     rt staticlib exports
     cargo test --quiet --manifest-path rust/Cargo.toml
     cargo run --quiet --manifest-path rust/Cargo.toml --example loss_episode
+    cargo test --quiet --manifest-path hostile/Cargo.toml
+    if command -v cc >/dev/null 2>&1; then
+        cc -std=c99 -Wall -Wextra -Werror -o target/loss_episode include/loss_episode.c target/staticlib/libexports.a
+        target/loss_episode
+    fi
     exit
 fi
 GUOVSSALU_ARCHIVE= cargo check --quiet --all-targets --manifest-path rust/Cargo.toml

@@ -1,0 +1,183 @@
+//! What a call leaves: the state and the answer, of a refused call by document 01, of an accepted
+//! one by the original's Rust.
+
+use crate::next;
+use crate::reckon;
+use crate::table;
+use crate::words::call as c;
+use crate::words::float;
+use crate::words::optional;
+use crate::words::state as s;
+use crate::words::Answer;
+use crate::words::Call;
+use crate::words::State;
+use crate::words::UNSET;
+
+/// A fresh model and cycle: network_model.rs `new`, and "A fresh cycle: NotStarted, both moments
+/// the start's, counts 0, flags off, wait and probe_up_bytes unset". Gains are bits of an f32.
+pub fn fresh(now: u64, rtt: u64, cwnd_gain: u32, pacing_gain: u32, option: bool) -> State {
+    let mut state = [0; 50];
+    state[s::MIN_RTT] = rtt;
+    for index in [
+        s::MIN_RTT_TIMESTAMP,
+        s::LAST_MOMENT,
+        s::CYCLE_START,
+        s::PHASE_START,
+    ] {
+        state[index] = now;
+    }
+    for index in [
+        s::MIN_BYTES_IN_FLIGHT_IN_ROUND,
+        s::INFLIGHT_LO,
+        s::INFLIGHT_HI,
+    ] {
+        state[index] = UNSET;
+    }
+    state[s::CWND_GAIN] = cwnd_gain as u64;
+    state[s::PACING_GAIN] = pacing_gain as u64;
+    state[s::IGNORE_APP_LIMITED] = option as u64;
+    state
+}
+
+/// "A refused start .. returns a fresh one at moment 0 with round trip 0, both gains 1 and the
+/// app-limited option off."
+fn refused_start() -> State {
+    let one = 1.0_f32.to_bits();
+    fresh(0, 0, one, one, false)
+}
+
+/// What an accepted start leaves.
+fn started(call: &Call) -> State {
+    let (cwnd_gain, pacing_gain) = (call[c::STARTUP_CWND_GAIN], call[c::STARTUP_PACING_GAIN]);
+    let option = call[c::IGNORE_APP_LIMITED] == 1;
+    fresh(
+        call[1],
+        call[2],
+        cwnd_gain as u32,
+        pacing_gain as u32,
+        option,
+    )
+}
+
+/// The record as it is handed in and written again: a flag is 1 or 0, what is unset is 0.
+pub fn record(call: &Call) -> [u64; 16] {
+    let mut record = [0; 16];
+    record.copy_from_slice(&call[c::RECORD..c::PARAMS]);
+    for flag in [
+        c::END_OF_ROUND_TRIP,
+        c::IS_PROBING,
+        c::LAST_IS_VALID,
+        c::LAST_IS_APP_LIMITED,
+    ] {
+        record[flag - c::RECORD] = (call[flag] == 1) as u64;
+    }
+    for pair in [c::RECORD_BANDWIDTH, c::RECORD_RTT] {
+        let number = optional(call, pair);
+        record[pair - c::RECORD] = number.is_some() as u64;
+        record[pair + 1 - c::RECORD] = number.unwrap_or(0);
+    }
+    record
+}
+
+/// The state after a call: a refusal changes nothing but at a start.
+pub fn state(before: &State, call: &Call, due: u64) -> State {
+    match (call[0], due) {
+        (0, 0) => started(call),
+        (0, _) => refused_start(),
+        (_, 0) => next::state(before, call),
+        _ => *before,
+    }
+}
+
+/// The answer to a call.
+pub fn answer(before: &State, call: &Call, due: u64) -> Answer {
+    if due != 0 {
+        return refused(call, due);
+    }
+    let mut answer = [0; 18];
+    answer[1] = number(before, call);
+    if call[0] == 3 {
+        answer[2..].copy_from_slice(&next::record(before, call));
+    }
+    answer
+}
+
+/// The answer to a refused call: "0 for a number, no for a yes or no, and an event's record as
+/// handed in".
+fn refused(call: &Call, due: u64) -> Answer {
+    let mut answer = [0; 18];
+    answer[0] = due;
+    if call[0] == 3 {
+        answer[2..].copy_from_slice(&record(call));
+    }
+    answer
+}
+
+/// The number that an accepted call answers, as network_model.rs has it.
+fn number(state: &State, call: &Call) -> u64 {
+    match call[0] {
+        5 => expires(state, call) as u64,
+        6 => is_inflight_too_high(state, call) as u64,
+        7 => table::grows(state, call) as u64,
+        10 => table::bdp(state, call[1], float(call[2])),
+        11 => table::bdp(state, call[1], 1.0),
+        12 => table::bdp(state, table::max_bandwidth(state), 1.0),
+        13 => with_headroom(state[s::INFLIGHT_HI], float(call[c::HEADROOM])),
+        23 => optional(state, s::BANDWIDTH_LO)
+            .unwrap_or(u64::MAX)
+            .min(table::max_bandwidth(state)),
+        26 => table::max_bandwidth(state),
+        34 => UNSET,
+        38 => 2 * 1300,
+        number => stored(number).map_or(0, |index| state[index]),
+    }
+}
+
+/// The word of the state that a call answers as it stands.
+fn stored(number: u64) -> Option<usize> {
+    Some(match number {
+        24 => s::MIN_RTT,
+        25 => s::MIN_RTT_TIMESTAMP,
+        27 => s::MAX_BYTES_DELIVERED_IN_ROUND,
+        28 => s::TOTAL_ACKED,
+        29 => s::TOTAL_LOST,
+        30 => s::FULL_BANDWIDTH_REACHED,
+        31 => s::PACING_GAIN,
+        32 => s::CWND_GAIN,
+        33 => s::INFLIGHT_HI,
+        35 => s::INFLIGHT_LO,
+        36 => s::LOSS_EVENTS_IN_ROUND,
+        37 => s::ROUNDS_WITH_QUEUEING,
+        _ => return None,
+    })
+}
+
+/// "Expiry needs a sample and a moment not earlier than the stored one plus the period".
+pub fn expires(state: &State, call: &Call) -> bool {
+    let due = state[s::MIN_RTT_TIMESTAMP].saturating_add(call[c::PROBE_RTT_PERIOD]);
+    optional(call, c::RECORD_RTT).is_some() && call[c::EVENT_TIME] >= due
+}
+
+/// `is_inflight_too_high` of network_model.rs.
+fn is_inflight_too_high(state: &State, call: &Call) -> bool {
+    let (lost, inflight) = (state[s::BYTES_LOST_IN_ROUND], call[c::LAST_IN_FLIGHT]);
+    call[c::LAST_IS_VALID] == 1
+        && state[s::LOSS_EVENTS_IN_ROUND] >= call[1]
+        && inflight > 0
+        && lost > 0
+        && lost > reckon::scale(inflight, float(call[c::LOSS_THRESHOLD]))
+}
+
+/// `inflight_hi_with_headroom` of network_model.rs.
+fn with_headroom(inflight_hi: u64, headroom: f32) -> u64 {
+    inflight_hi.saturating_sub(reckon::scale(inflight_hi, headroom))
+}
+
+/// "an accepted call on an in-bounds state leaves an in-bounds state", and one that its bytes
+/// encode; an event's record stays within its bounds, too.
+pub fn within(call: &Call, after: &State, answer: &Answer) -> bool {
+    table::encodes(after)
+        && (!table::gets_model(call[0]) || table::model_ok(after))
+        && (!table::gets_cycle(call[0]) || table::cycle_ok(after))
+        && (call[0] != 3 || table::record_ok(&answer[2..]))
+}

@@ -1,0 +1,227 @@
+//! States, calls and lengths to hand in: good ones, and hostile ones made of them.
+
+use crate::dice::Dice;
+use crate::kinds;
+use crate::kinds::Kind;
+use crate::table;
+use crate::values;
+use crate::words;
+use crate::words::call as c;
+use crate::words::state as s;
+use crate::words::Call;
+use crate::words::State;
+
+/// The counters that some call adds 1 to.
+const COUNTERS: [usize; 4] = [
+    s::ROUND_TRIP_COUNT,
+    s::LOSS_EVENTS_IN_ROUND,
+    s::ROUNDS_WITHOUT_GROWTH,
+    s::ROUNDS_WITH_QUEUEING,
+];
+
+/// The calls that add 1 to a counter, and those with many arguments: they are made more often.
+const OFTEN: [u64; 12] = [0, 1, 3, 3, 3, 3, 4, 7, 9, 22, 40, 43];
+
+/// The words that were made hostile, for a report.
+#[derive(Clone, Default)]
+pub struct Spoilt {
+    pub state: Vec<usize>,
+    pub call: Vec<usize>,
+}
+
+/// A state within all bounds, field by field.
+pub fn good_state(dice: &mut Dice) -> State {
+    let mut state = [0; 50];
+    kinds::fill(dice, &mut state, &kinds::STATE);
+    state[s::BYTES_LOST_IN_ROUND] = values::within(dice, state[s::TOTAL_LOST]);
+    state[s::MAX_BYTES_DELIVERED_IN_ROUND] = values::within(dice, state[s::TOTAL_ACKED]);
+    if dice.one_in(4) {
+        state[dice.pick(&COUNTERS)] = u64::MAX;
+    }
+    if dice.one_in(4) {
+        // Where a queue begins to count as one, for gains up to 1.
+        let target = table::bdp(&state, table::max_bandwidth(&state), 1.0) + 2 * 1300;
+        let near = target + dice.below(3) - 1;
+        state[s::MIN_BYTES_IN_FLIGHT_IN_ROUND] = near.min(table::BYTES);
+    }
+    state
+}
+
+/// Makes some words of a state hostile; `encoding` keeps it one that its bytes encode.
+pub fn spoil_state(dice: &mut Dice, state: &mut State, spoilt: &mut Spoilt, encoding: bool) {
+    for _ in 0..=dice.below(3) {
+        let index = dice.length(state.len());
+        kinds::spoil(dice, state, &kinds::STATE, index, encoding);
+        spoilt.state.push(index);
+    }
+    if dice.one_in(4) {
+        let index = dice.pick(&COUNTERS);
+        state[index] = u64::MAX;
+        spoilt.state.push(index);
+    }
+    if dice.one_in(8) {
+        // One past each of the two bounds that a state sets for itself.
+        state[s::BYTES_LOST_IN_ROUND] = state[s::TOTAL_LOST].saturating_add(dice.below(2));
+        state[s::MAX_BYTES_DELIVERED_IN_ROUND] =
+            state[s::TOTAL_ACKED].saturating_add(dice.below(2));
+        spoilt
+            .state
+            .extend([s::BYTES_LOST_IN_ROUND, s::MAX_BYTES_DELIVERED_IN_ROUND]);
+    }
+}
+
+/// Random words that still encode a state.
+pub fn random_state(dice: &mut Dice) -> State {
+    let mut state = [0; 50];
+    for (index, kind) in kinds::STATE.iter().enumerate() {
+        state[index] = match kind {
+            Kind::Flag | Kind::Set(_) => dice.below(2),
+            Kind::Phase => dice.below(5),
+            Kind::Float(..) => dice.below(0x7f80_0001),
+            Kind::Held => state[index - 1] * dice.next(),
+            _ => dice.next(),
+        };
+    }
+    state
+}
+
+/// Bytes of the length of a state, or nearly any other.
+pub fn random_bytes(dice: &mut Dice) -> Vec<u8> {
+    match dice.below(4) {
+        0 => vec![0; words::STATE_BYTES],
+        1 => vec![0xff; words::STATE_BYTES],
+        _ => dice.bytes(words::STATE_BYTES),
+    }
+}
+
+/// The number of a call.
+pub fn number(dice: &mut Dice) -> u64 {
+    loop {
+        let number = if dice.one_in(2) {
+            dice.pick(&OFTEN)
+        } else {
+            dice.below(46)
+        };
+        if table::is_a_call(number) {
+            return number;
+        }
+    }
+}
+
+/// A call that is accepted in the state, if that is good and its counters are not full.
+pub fn good_call(dice: &mut Dice, state: &State, number: u64) -> Call {
+    let mut call = [0; 49];
+    call[0] = number;
+    let arguments = kinds::arguments(call[0]);
+    kinds::fill(dice, &mut call[1..], arguments);
+    kinds::fill(dice, &mut call[c::RECORD..], &kinds::REST);
+    go_on(dice, state, &mut call);
+    call
+}
+
+/// The word of a call that has the moment it tests.
+fn moment_word(number: u64) -> Option<usize> {
+    match number {
+        1 | 41 | 43 => Some(1),
+        3 => Some(c::EVENT_TIME),
+        40 => Some(3),
+        42 => Some(2),
+        _ => None,
+    }
+}
+
+/// Sets a call's moment and totals to the stored ones or a little above, and its acked packets near
+/// the round's end.
+fn go_on(dice: &mut Dice, state: &State, call: &mut Call) {
+    let mut above = |stored: u64, bound: u64| {
+        let step = dice.pick(&[0, 0, 1, 1_000, 1 << 20, 1 << 41]);
+        stored.saturating_add(step).min(bound.max(stored))
+    };
+    if let Some(index) = moment_word(call[0]) {
+        call[index] = above(state[s::LAST_MOMENT], table::MOMENT);
+    }
+    if call[0] == 3 {
+        call[c::TOTAL_ACKED] = above(state[s::TOTAL_ACKED], table::TOTAL);
+        call[c::TOTAL_LOST] = above(state[s::TOTAL_LOST], table::TOTAL);
+        call[c::ACKED_COUNT] = dice.below(4);
+        if dice.one_in(2) {
+            let end = state[s::END_OF_ROUND_TRIP + 1];
+            let acked = end.wrapping_add(dice.below(3)).wrapping_sub(1);
+            call[c::ACKED_COUNT + 1..c::RECORD].fill(acked);
+        }
+    }
+}
+
+/// Makes some words of a call hostile, most of them such as it reads.
+pub fn spoil_call(dice: &mut Dice, state: &State, call: &mut Call, spoilt: &mut Spoilt) {
+    let arguments = kinds::arguments(call[0]);
+    for _ in 0..=dice.below(3) {
+        let index = match dice.below(4) {
+            0 | 1 if !arguments.is_empty() => 1 + dice.length(arguments.len()),
+            2 => c::RECORD + dice.length(kinds::REST.len()),
+            _ => 1 + dice.length(call.len() - 1),
+        };
+        spoilt.call.push(index);
+        if index <= arguments.len() {
+            kinds::spoil(dice, &mut call[1..], arguments, index - 1, false);
+        } else if index >= c::RECORD {
+            kinds::spoil(
+                dice,
+                &mut call[c::RECORD..],
+                &kinds::REST,
+                index - c::RECORD,
+                false,
+            );
+        } else {
+            call[index] = dice.next();
+        }
+    }
+    if dice.one_in(3) {
+        fall(dice, state, call, spoilt);
+    }
+}
+
+/// Lets the moment or a total be lower than the stored one.
+fn fall(dice: &mut Dice, state: &State, call: &mut Call, spoilt: &mut Spoilt) {
+    let (index, stored) = match (moment_word(call[0]), dice.below(3)) {
+        (Some(_), 0) if call[0] == 3 => (c::TOTAL_ACKED, state[s::TOTAL_ACKED]),
+        (Some(_), 1) if call[0] == 3 => (c::TOTAL_LOST, state[s::TOTAL_LOST]),
+        (Some(index), _) => (index, state[s::LAST_MOMENT]),
+        (None, _) => return,
+    };
+    let step = dice.pick(&[1, 1, 2, 1_000, 1 << 40]);
+    call[index] = stored.saturating_sub(step);
+    spoilt.call.push(index);
+}
+
+/// A number that is no call's, or random bytes instead of the call.
+pub fn no_call(dice: &mut Dice, call: &mut Call) {
+    if dice.one_in(3) {
+        *call = words::words(&dice.bytes(words::CALL_BYTES));
+    }
+    call[0] = match dice.below(4) {
+        0 => dice.pick(&[2, 39]),
+        1 => 46 + dice.below(15),
+        2 => values::hostile(dice, 45),
+        _ => call[0].wrapping_add(dice.pick(&[1 << 8, 1 << 16, 1 << 32, 1 << 63])),
+    };
+}
+
+/// A length near the one that is due: mostly that one, else one short, one long, none or others.
+pub fn length(dice: &mut Dice, due: usize, longest: usize) -> usize {
+    match dice.below(6) {
+        0 | 1 => due,
+        2 => due.saturating_sub(1),
+        3 => due + 1,
+        4 => dice.pick(&[0, 1, 8, due / 2, due.saturating_sub(8), due + 8, 2 * due]),
+        _ => dice.length(longest),
+    }
+    .min(longest)
+}
+
+/// Cuts the bytes to a length, or makes them longer by random ones.
+pub fn resize(dice: &mut Dice, bytes: &mut Vec<u8>, length: usize) {
+    let more = dice.bytes(length.saturating_sub(bytes.len()));
+    bytes.extend_from_slice(&more);
+    bytes.truncate(length);
+}

@@ -1,0 +1,508 @@
+//! Ports that are not the archive's: one that replies as the table says, and one for each way of
+//! being wrong. The checks must find the first right and notice every other.
+
+use std::env;
+use std::os::unix::process::ExitStatusExt;
+use std::process::Command;
+use std::ptr;
+use std::slice;
+
+use crate::after;
+use crate::filter;
+use crate::foreign::page;
+use crate::foreign::Port;
+use crate::foreign::Run;
+use crate::random;
+use crate::reckon;
+use crate::slope;
+use crate::sweep;
+use crate::table;
+use crate::tally::Export;
+use crate::tally::Fault;
+use crate::tally::Tally;
+use crate::trial::Trial;
+use crate::words;
+use crate::words::state as s;
+use crate::words::Answer;
+use crate::words::Call;
+use crate::words::State;
+
+/// A port that is right by what is known beforehand.
+const RIGHT: Port = Port {
+    u64_to_f32,
+    u64_to_f64,
+    f32_to_u64,
+    f64_round_to_u64,
+    scale,
+    bandwidth_mul_f32,
+    to_bytes_per_period,
+    raise_inflight_high_slope,
+    filter_run,
+    run,
+};
+
+/// The tests' seed and how many calls each makes.
+const SEED: u64 = 11;
+const CALLS: u64 = 20_000;
+
+unsafe extern "C" fn u64_to_f32(n: u64) -> u32 {
+    (n as f32).to_bits()
+}
+
+unsafe extern "C" fn u64_to_f64(n: u64) -> u64 {
+    (n as f64).to_bits()
+}
+
+unsafe extern "C" fn f32_to_u64(bits: u32) -> u64 {
+    f32::from_bits(bits) as u64
+}
+
+unsafe extern "C" fn f64_round_to_u64(bits: u64) -> u64 {
+    f64::from_bits(bits).round() as u64
+}
+
+unsafe extern "C" fn scale(n: u64, gain: u32) -> u64 {
+    reckon::scale(n, f32::from_bits(gain))
+}
+
+unsafe extern "C" fn bandwidth_mul_f32(bandwidth: u64, gain: u32) -> u64 {
+    reckon::bandwidth_mul(bandwidth, f32::from_bits(gain))
+}
+
+unsafe extern "C" fn to_bytes_per_period(bandwidth: u64, nanos: u64) -> u64 {
+    reckon::bytes_per_period(bandwidth, nanos)
+}
+
+/// A lent range as a slice; without bytes the pointer is not used.
+unsafe fn lent<'a>(start: *mut u8, len: usize) -> &'a mut [u8] {
+    if len == 0 {
+        &mut []
+    } else {
+        slice::from_raw_parts_mut(start, len)
+    }
+}
+
+unsafe extern "C" fn raise_inflight_high_slope(
+    rounds: u64,
+    window: u64,
+    out: *mut u8,
+    out_len: usize,
+) -> u64 {
+    let due = slope::rows(rounds, window, out_len).due();
+    if due == 0 {
+        lent(out, out_len)[..16].copy_from_slice(&slope::written(rounds, window));
+    }
+    due
+}
+
+unsafe extern "C" fn filter_run(
+    window: u64,
+    src: *const u8,
+    src_len: usize,
+    out: *mut u8,
+    out_len: usize,
+) -> u64 {
+    let (rows, written) = filter::due(window, lent(src as *mut u8, src_len), out_len);
+    if rows.due() == 0 {
+        lent(out, out_len)[..written.len()].copy_from_slice(&written);
+    }
+    rows.due()
+}
+
+unsafe extern "C" fn run(
+    state: *mut u8,
+    state_len: usize,
+    calls: *const u8,
+    calls_len: usize,
+    answers: *mut u8,
+    answers_len: usize,
+) -> u64 {
+    let (state, calls) = (lent(state, state_len), lent(calls as *mut u8, calls_len));
+    let due = table::run_rows(state, calls, answers_len).due();
+    if due != 0 {
+        return due;
+    }
+    let mut now: State = words::words(state);
+    let answers = lent(answers, answers_len).chunks_exact_mut(words::ANSWER_BYTES);
+    for (call, answer) in calls.chunks_exact(words::CALL_BYTES).zip(answers) {
+        answer.copy_from_slice(&words::bytes(&step(&mut now, &words::words(call))));
+    }
+    state.copy_from_slice(&words::bytes(&now));
+    0
+}
+
+/// One call: its answer, and the state after it.
+fn step(state: &mut State, call: &Call) -> Answer {
+    let due = table::call_rows(state, call).due();
+    let answer = after::answer(state, call, due);
+    *state = after::state(state, call, due);
+    answer
+}
+
+/// The right run with something added after it, which gets the reply and the three ranges.
+macro_rules! run_with {
+    ($name:ident, |$reply:ident, $state:ident, $calls:ident, $answers:ident| $more:expr) => {
+        unsafe extern "C" fn $name(
+            state: *mut u8,
+            state_len: usize,
+            calls: *const u8,
+            calls_len: usize,
+            answers: *mut u8,
+            answers_len: usize,
+        ) -> u64 {
+            let $reply = run(state, state_len, calls, calls_len, answers, answers_len);
+            let $state = (state, state_len);
+            let $calls = (calls as *mut u8, calls_len);
+            let $answers = (answers, answers_len);
+            $more
+        }
+    };
+}
+
+/// Flips a bit of the byte at a place.
+unsafe fn flip(start: *mut u8, place: usize) {
+    *start.add(place) ^= 0x10;
+}
+
+/// Flips a bit of the byte just after a range, where it may be written.
+unsafe fn flip_after((start, len): (*mut u8, usize)) {
+    if !start.is_null() && (start as usize + len) % page() != 0 {
+        flip(start, len);
+    }
+}
+
+/// Flips a bit of the byte just before a range, where it may be written.
+unsafe fn flip_before((start, _): (*mut u8, usize)) {
+    if !start.is_null() && start as usize % page() != 0 {
+        flip(start.sub(1), 0);
+    }
+}
+
+run_with!(other_run_reply, |reply, _s, _c, _a| if reply == 7 {
+    2
+} else {
+    reply
+});
+run_with!(never_refuses_calls, |reply, _s, _c, answers| {
+    if reply == 0 && answers.1 >= words::ANSWER_BYTES && *answers.0 == 5 {
+        *answers.0 = 0;
+    }
+    reply
+});
+run_with!(touches_refused_run, |reply, state, _c, _a| {
+    if reply != 0 && state.1 > 0 {
+        flip(state.0, state.1 - 1);
+    }
+    reply
+});
+run_with!(touches_refused_answers, |reply, _s, _c, answers| {
+    if reply == 7 && answers.1 > 0 {
+        flip(answers.0, 0);
+    }
+    reply
+});
+run_with!(touches_refused_state, |reply, state, _c, answers| {
+    if reply == 0 && answers.1 == words::ANSWER_BYTES && matches!(*answers.0, 1..=5) {
+        flip(state.0, 0);
+    }
+    reply
+});
+run_with!(touches_calls, |reply, _s, calls, _a| {
+    if calls.1 > 0 {
+        flip(calls.0, calls.1 - 1);
+    }
+    reply
+});
+run_with!(writes_past_answers, |reply, _s, calls, answers| {
+    let whole = calls.1 / words::CALL_BYTES * words::ANSWER_BYTES;
+    if reply == 0 && answers.1 > whole {
+        flip(answers.0, answers.1 - 1);
+    }
+    reply
+});
+run_with!(answers_wrong_bit, |reply, _s, calls, answers| {
+    if reply == 0 && calls.1 == words::CALL_BYTES {
+        flip(answers.0, 8);
+    }
+    reply
+});
+run_with!(answers_a_record, |reply, _s, calls, answers| {
+    if reply == 0 && calls.1 == words::CALL_BYTES && *calls.0 != 3 {
+        flip(answers.0, words::ANSWER_BYTES - 1);
+    }
+    reply
+});
+run_with!(leaves_bad_state, |reply, state, calls, answers| {
+    if reply == 0 && calls.1 == words::CALL_BYTES && *calls.0 == 8 && *answers.0 == 0 {
+        *state.0.add(8 * s::MIN_RTT + 7) = 0xff;
+    }
+    reply
+});
+run_with!(changes_more_at_events, |reply, state, calls, answers| {
+    if reply == 0 && calls.1 == words::CALL_BYTES && *calls.0 == 3 && *answers.0 == 0 {
+        flip(state.0, 8 * s::MIN_RTT_TIMESTAMP);
+    }
+    reply
+});
+run_with!(long_runs_differ, |reply, state, calls, _a| {
+    if reply == 0 && calls.1 > words::CALL_BYTES {
+        flip(state.0, 0);
+    }
+    reply
+});
+run_with!(writes_after_state, |reply, state, _c, _a| {
+    flip_after(state);
+    reply
+});
+run_with!(writes_before_state, |reply, state, _c, _a| {
+    flip_before(state);
+    reply
+});
+run_with!(writes_after_calls, |reply, _s, calls, _a| {
+    flip_after(calls);
+    reply
+});
+run_with!(writes_before_answers, |reply, _s, _c, answers| {
+    flip_before(answers);
+    reply
+});
+run_with!(writes_after_answers, |reply, _s, _c, answers| {
+    flip_after(answers);
+    reply
+});
+
+run_with!(reads_after_state, |reply, state, _c, _a| {
+    ptr::read_volatile(state.0.add(state.1));
+    reply
+});
+
+unsafe extern "C" fn filter_off(
+    window: u64,
+    src: *const u8,
+    src_len: usize,
+    out: *mut u8,
+    out_len: usize,
+) -> u64 {
+    let reply = filter_run(window, src, src_len, out, out_len);
+    if reply == 0 && src_len > 0 {
+        flip(out, 8);
+    }
+    reply
+}
+
+unsafe extern "C" fn filter_takes_all(
+    window: u64,
+    src: *const u8,
+    src_len: usize,
+    out: *mut u8,
+    out_len: usize,
+) -> u64 {
+    let reply = filter_run(window, src, src_len, out, out_len);
+    if reply == 3 {
+        0
+    } else {
+        reply
+    }
+}
+
+unsafe extern "C" fn filter_writes_after(
+    window: u64,
+    src: *const u8,
+    src_len: usize,
+    out: *mut u8,
+    out_len: usize,
+) -> u64 {
+    flip_after((out, out_len));
+    filter_run(window, src, src_len, out, out_len)
+}
+
+unsafe extern "C" fn slope_off(rounds: u64, window: u64, out: *mut u8, out_len: usize) -> u64 {
+    raise_inflight_high_slope(rounds.min(29), window, out, out_len)
+}
+
+unsafe extern "C" fn slope_before(rounds: u64, window: u64, out: *mut u8, out_len: usize) -> u64 {
+    flip_before((out, out_len));
+    raise_inflight_high_slope(rounds, window, out, out_len)
+}
+
+unsafe extern "C" fn cut_to_f32(n: u64) -> u32 {
+    let low = n.leading_zeros() + 24;
+    u64_to_f32(if low < 64 {
+        n >> (64 - low) << (64 - low)
+    } else {
+        n
+    })
+}
+
+unsafe extern "C" fn scale_in_whole_numbers(n: u64, gain: u32) -> u64 {
+    (n as f64 * f32::from_bits(gain) as f64) as u64
+}
+
+unsafe extern "C" fn cut_f64(bits: u64) -> u64 {
+    f64::from_bits(bits) as u64
+}
+
+unsafe extern "C" fn period_without_infinite(bandwidth: u64, nanos: u64) -> u64 {
+    (bandwidth as u128 * nanos as u128 / 8_000_000_000).min(u64::MAX as u128) as u64
+}
+
+/// What the checks find of a port.
+fn found(port: Port) -> Tally {
+    let mut trial = Trial::new(&port, SEED);
+    random(&mut trial, CALLS);
+    trial.tally
+}
+
+/// Whether the checks notice this fault of a port.
+fn notices(port: Port, fault: Fault) -> bool {
+    found(port).count(fault) > 0
+}
+
+#[test]
+fn the_right_port_is_found_right() {
+    let mut trial = Trial::new(&RIGHT, SEED);
+    sweep(&mut trial);
+    let swept = trial.tally.made();
+    random(&mut trial, swept + CALLS);
+    assert_eq!(trial.tally.wrongs(), 0, "{}", trial.tally.report());
+}
+
+#[test]
+fn every_reply_is_asked_for() {
+    let tally = found(RIGHT);
+    for (export, replies) in [
+        (Export::Run, &[0, 1, 2, 7][..]),
+        (Export::OneCall, &[0, 1, 2, 3, 4, 5]),
+        (Export::FilterRun, &[0, 2, 3, 7]),
+        (Export::Slope, &[0, 1, 2, 7]),
+    ] {
+        for &reply in replies {
+            assert!(tally.given(export, reply) > 50, "{:?} {}", export, reply);
+        }
+    }
+}
+
+#[test]
+fn wrong_replies_are_noticed() {
+    for (name, run) in [
+        ("of a run", other_run_reply as Run),
+        ("of a call", never_refuses_calls),
+    ] {
+        assert!(notices(Port { run, ..RIGHT }, Fault::Reply), "{}", name);
+    }
+    let filter_run = filter_takes_all;
+    assert!(notices(
+        Port {
+            filter_run,
+            ..RIGHT
+        },
+        Fault::Reply
+    ));
+    let raise_inflight_high_slope = slope_off;
+    assert!(notices(
+        Port {
+            raise_inflight_high_slope,
+            ..RIGHT
+        },
+        Fault::Reply
+    ));
+}
+
+#[test]
+fn touched_bytes_are_noticed() {
+    for (name, run) in [
+        ("refused run", touches_refused_run as Run),
+        ("refused run's answers", touches_refused_answers),
+        ("refused call", touches_refused_state),
+        ("calls", touches_calls),
+        ("past the answers", writes_past_answers),
+        ("after the state", writes_after_state),
+        ("before the state", writes_before_state),
+        ("after the calls", writes_after_calls),
+        ("before the answers", writes_before_answers),
+        ("after the answers", writes_after_answers),
+    ] {
+        assert!(notices(Port { run, ..RIGHT }, Fault::Touched), "{}", name);
+    }
+    let filter_run = filter_writes_after;
+    assert!(notices(
+        Port {
+            filter_run,
+            ..RIGHT
+        },
+        Fault::Touched
+    ));
+    let raise_inflight_high_slope = slope_before;
+    assert!(notices(
+        Port {
+            raise_inflight_high_slope,
+            ..RIGHT
+        },
+        Fault::Touched
+    ));
+}
+
+#[test]
+fn wrong_answers_and_states_are_noticed() {
+    for (name, run) in [
+        ("number", answers_wrong_bit as Run),
+        ("record", answers_a_record),
+        ("out of bounds", leaves_bad_state),
+        ("within bounds", changes_more_at_events),
+        ("run and single calls", long_runs_differ),
+    ] {
+        assert!(notices(Port { run, ..RIGHT }, Fault::Content), "{}", name);
+    }
+    let filter_run = filter_off;
+    assert!(notices(
+        Port {
+            filter_run,
+            ..RIGHT
+        },
+        Fault::Content
+    ));
+}
+
+#[test]
+fn wrong_numbers_are_noticed() {
+    for port in [
+        Port {
+            u64_to_f32: cut_to_f32,
+            ..RIGHT
+        },
+        Port {
+            scale: scale_in_whole_numbers,
+            ..RIGHT
+        },
+        Port {
+            f64_round_to_u64: cut_f64,
+            ..RIGHT
+        },
+        Port {
+            to_bytes_per_period: period_without_infinite,
+            ..RIGHT
+        },
+    ] {
+        assert!(notices(port, Fault::Content));
+    }
+}
+
+#[test]
+#[ignore = "it ends the process, and another test starts it"]
+fn reads_past_a_range() {
+    found(Port {
+        run: reads_after_state,
+        ..RIGHT
+    });
+}
+
+#[test]
+fn a_read_past_a_range_ends_the_process() {
+    let tests = env::current_exe().expect("the tests have a path");
+    let reads = ["--ignored", "--exact", "fakes::reads_past_a_range"];
+    let ended = Command::new(tests)
+        .args(reads)
+        .output()
+        .expect("the tests can be started");
+    assert!(ended.status.signal().is_some(), "{:?}", ended.status);
+}

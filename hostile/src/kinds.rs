@@ -1,0 +1,231 @@
+//! What the words of states and calls are, for choosing numbers that fit them or don't.
+
+use crate::dice::Dice;
+use crate::table::BANDWIDTH;
+use crate::table::BYTES;
+use crate::table::LENGTH;
+use crate::table::MOMENT;
+use crate::table::ROUNDS;
+use crate::table::TOTAL;
+use crate::table::WAIT;
+use crate::values;
+use crate::words::UNSET;
+
+/// The kind of a word.
+#[derive(Clone, Copy, PartialEq)]
+pub enum Kind {
+    /// Any number.
+    Free,
+    /// A number up to a bound.
+    Upto(u64),
+    /// A number of bytes, or unset.
+    OrUnset,
+    Flag,
+    /// An f32 from one pattern to another.
+    Float(u32, u32),
+    Phase,
+    /// Whether the next word is set, and its bound.
+    Set(u64),
+    /// The word after that.
+    Held,
+}
+
+use Kind::Flag;
+use Kind::Float;
+use Kind::Free;
+use Kind::Held;
+use Kind::OrUnset;
+use Kind::Phase;
+use Kind::Set;
+use Kind::Upto;
+
+const ANY: u64 = u64::MAX;
+const GAIN: Kind = Float(0x3a80_0000, 0x4100_0000);
+const SHARE: Kind = Float(0, 0x3f80_0000);
+
+/// The 50 words of a state.
+pub const STATE: [Kind; 50] = [
+    Free,
+    Free,
+    Set(ANY),
+    Held,
+    Upto(BANDWIDTH),
+    Upto(BANDWIDTH),
+    Upto(LENGTH),
+    Upto(MOMENT),
+    Upto(TOTAL),
+    Free,
+    Upto(TOTAL),
+    OrUnset,
+    Flag,
+    Upto(BANDWIDTH),
+    Upto(BYTES),
+    Set(BANDWIDTH),
+    Held,
+    OrUnset,
+    OrUnset,
+    GAIN,
+    GAIN,
+    Flag,
+    Flag,
+    Upto(BANDWIDTH),
+    Free,
+    Free,
+    Flag,
+    Set(BANDWIDTH),
+    Held,
+    Set(BANDWIDTH),
+    Held,
+    Upto(TOTAL),
+    Upto(TOTAL),
+    Upto(MOMENT),
+    Phase,
+    Upto(MOMENT),
+    Upto(MOMENT),
+    Free,
+    Free,
+    Set(WAIT),
+    Held,
+    Upto(ROUNDS),
+    Set(BYTES),
+    Held,
+    Upto(BYTES),
+    Flag,
+    Flag,
+    Flag,
+    Flag,
+    Flag,
+];
+
+/// The record and the parameters, words 22 to 48 of a call.
+pub const REST: [Kind; 27] = [
+    Upto(MOMENT),
+    Upto(BYTES),
+    Upto(BYTES),
+    Upto(BYTES),
+    Upto(TOTAL),
+    Upto(TOTAL),
+    Flag,
+    Flag,
+    Set(BANDWIDTH),
+    Held,
+    Set(LENGTH),
+    Held,
+    Flag,
+    Flag,
+    Upto(TOTAL),
+    Upto(BYTES),
+    Float(0x3a80_0000, 0x3f7f_c000),
+    SHARE,
+    SHARE,
+    Float(0x3f80_0000, 0x4100_0000),
+    GAIN,
+    GAIN,
+    Free,
+    Free,
+    Upto(LENGTH),
+    Upto(LENGTH),
+    Flag,
+];
+
+const EVENT: [Kind; 21] = [
+    Set(BANDWIDTH),
+    Held,
+    Set(BANDWIDTH),
+    Held,
+    Set(BANDWIDTH),
+    Held,
+    Flag,
+    Set(LENGTH),
+    Held,
+    Upto(BYTES),
+    Upto(BYTES),
+    Flag,
+    Flag,
+    Upto(TOTAL),
+    Upto(BYTES),
+    Upto(TOTAL),
+    Upto(TOTAL),
+    Free,
+    Free,
+    Free,
+    Free,
+];
+
+/// The arguments of a call, from word 1 on.
+pub fn arguments(number: u64) -> &'static [Kind] {
+    match number {
+        0 => &[Upto(MOMENT), Upto(LENGTH)],
+        1 => &[Upto(MOMENT), Upto(BYTES), Free, Upto(BYTES)],
+        3 => &EVENT,
+        6 => &[Free],
+        9 | 15 | 16 => &[GAIN],
+        10 => &[Upto(BANDWIDTH), GAIN],
+        11 => &[Upto(BANDWIDTH)],
+        17 | 18 => &[OrUnset],
+        22 => &[Upto(LENGTH)],
+        40 => &[Flag, Flag, Upto(MOMENT)],
+        41 => &[Upto(MOMENT)],
+        42 => &[Upto(ROUNDS), Upto(MOMENT)],
+        43 => &[Upto(MOMENT), Upto(BYTES)],
+        45 => &[Upto(BYTES)],
+        _ => &[],
+    }
+}
+
+/// Puts a fitting number into each word.
+pub fn fill(dice: &mut Dice, words: &mut [u64], kinds: &[Kind]) {
+    for (index, kind) in kinds.iter().enumerate() {
+        words[index] = match *kind {
+            Free => values::within(dice, ANY),
+            Upto(bound) => values::within(dice, bound),
+            OrUnset if dice.one_in(3) => UNSET,
+            OrUnset => values::within(dice, BYTES),
+            Flag | Set(_) => dice.below(2),
+            Float(low, high) => values::pattern_within(dice, low, high) as u64,
+            Phase => dice.below(5),
+            Held => held(dice, words[index - 1], kinds[index - 1]),
+        };
+    }
+}
+
+/// The number of a pair whose first word is given: 0 where it is unset.
+fn held(dice: &mut Dice, set: u64, kind: Kind) -> u64 {
+    match kind {
+        Set(bound) if set == 1 => values::within(dice, bound),
+        _ => 0,
+    }
+}
+
+/// Puts a hostile number into one word. With `encoding` the words stay such as encode something: a
+/// flag stays one, a number is made hostile only where it is set, and a NaN is the one pattern.
+pub fn spoil(dice: &mut Dice, words: &mut [u64], kinds: &[Kind], index: usize, encoding: bool) {
+    match kinds[index] {
+        Flag | Set(_) | Phase if encoding => {}
+        Flag | Set(_) | Phase => words[index] = values::flag(dice),
+        Free => words[index] = values::hostile(dice, ANY),
+        Upto(bound) => words[index] = values::hostile(dice, bound),
+        OrUnset => words[index] = values::hostile(dice, BYTES),
+        Float(..) => words[index] = float(dice, encoding),
+        Held => {
+            if encoding {
+                words[index - 1] = 1;
+            }
+            if let Set(bound) = kinds[index - 1] {
+                words[index] = values::hostile(dice, bound);
+            }
+        }
+    }
+}
+
+/// A hostile f32: any pattern, and bits above it where they may stand.
+fn float(dice: &mut Dice, encoding: bool) -> u64 {
+    let pattern = values::pattern(dice);
+    if encoding && f32::from_bits(pattern).is_nan() {
+        0x7fc0_0000
+    } else if !encoding && dice.one_in(2) {
+        pattern as u64 | dice.next() << 32
+    } else {
+        pattern as u64
+    }
+}

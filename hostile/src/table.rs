@@ -1,0 +1,358 @@
+//! Which number is due: document 01's section "Replies and bounds", read sentence by sentence, and
+//! for the runs the replies of docs/LAYOUT.md. Where the document leaves a choice, the reading is
+//! that of docs/DECISIONS.md, named at its place.
+
+use crate::reckon;
+use crate::words;
+use crate::words::call as c;
+use crate::words::float;
+use crate::words::optional;
+use crate::words::state as s;
+use crate::words::Call;
+use crate::words::State;
+use crate::words::UNSET;
+
+// "Bounds, inclusive: byte counts 2^40"
+pub const BYTES: u64 = 1 << 40;
+// "totals, an event's bytes acked and lost, bytes lost and delivered in the round, and moments
+// 2^62"
+pub const TOTAL: u64 = 1 << 62;
+pub const MOMENT: u64 = 1 << 62;
+// "lengths of time 2^36 ns (the stored probe wait 500,000 ns more)"
+pub const LENGTH: u64 = 1 << 36;
+pub const WAIT: u64 = LENGTH + 500_000;
+// "bandwidth 2^40 bits per second; probe_up_rounds 30"
+pub const BANDWIDTH: u64 = 1 << 40;
+pub const ROUNDS: u64 = 30;
+
+/// The rows of the table that hold for a case.
+#[derive(Clone, Copy, Default, Debug, PartialEq)]
+pub struct Rows([bool; 8]);
+
+impl Rows {
+    /// The same rows, and this one if it holds.
+    pub fn with(mut self, row: usize, holds: bool) -> Self {
+        self.0[row] |= holds;
+        self
+    }
+
+    /// "If several refusals apply, the lowest number is given"; 0 is done.
+    pub fn due(&self) -> u64 {
+        self.0.iter().position(|&holds| holds).unwrap_or(0) as u64
+    }
+
+    /// Whether two or more refusals apply.
+    pub fn overlap(&self) -> bool {
+        self.0.iter().filter(|&&holds| holds).count() > 1
+    }
+
+    /// The numbers of the rows that hold.
+    pub fn numbers(&self) -> Vec<usize> {
+        (0..self.0.len()).filter(|&row| self.0[row]).collect()
+    }
+}
+
+/// The rows of one call in a state that its bytes encode.
+pub fn call_rows(state: &State, call: &Call) -> Rows {
+    let number = call[0];
+    let stored =
+        (gets_model(number) && !model_ok(state)) || (gets_cycle(number) && !cycle_ok(state));
+    let given = arguments_ok(call) && (!gets_record(number) || record_ok(&call[c::RECORD..]));
+    Rows::default()
+        // "1: a stored number or a parameter is outside the bounds below"
+        .with(1, stored || (takes_params(number) && !params_ok(call)))
+        // "2: an argument is outside its bounds .. or a postponed moment would exceed 2^62"
+        .with(2, !given || postponed_too_far(state, call))
+        // "3: the moment given is earlier than the last accepted one"
+        .with(
+            3,
+            moment(call).map_or(false, |now| now < state[s::LAST_MOMENT]),
+        )
+        // "4: the total acked or the total lost is lower than the one stored"
+        .with(4, number == 3 && totals_fall(state, call))
+        // "5: the call's rule adds 1 to a counter that is 2^64 - 1"
+        .with(5, fills_a_counter(state, call))
+}
+
+/// The rows of a run: docs/LAYOUT.md, "What the run itself replies".
+pub fn run_rows(state: &[u8], calls: &[u8], answers: usize) -> Rows {
+    let whole = state.len() == words::STATE_BYTES;
+    let count = calls.len() / words::CALL_BYTES;
+    let unknown = calls
+        .chunks_exact(words::CALL_BYTES)
+        .any(|call| !is_a_call(words::words::<1>(call)[0]));
+    Rows::default()
+        // "1: the state's 400 bytes encode no state"
+        .with(1, whole && !encodes(&words::words(state)))
+        // "2: the state has another length, the calls are no whole number of 392 bytes, or a call's
+        // number is none"
+        .with(2, !whole || calls.len() % words::CALL_BYTES != 0 || unknown)
+        // "7: the answers have under 144 bytes a call"
+        .with(7, answers < count * words::ANSWER_BYTES)
+}
+
+/// "The numbers 2, 39 and those above 45 are no calls."
+pub fn is_a_call(number: u64) -> bool {
+    number <= 45 && number != 2 && number != 39
+}
+
+/// Every call on the model tests all of it (decision 19); a start has no earlier state, and the
+/// slope gets the cycle alone.
+pub fn gets_model(number: u64) -> bool {
+    number != 0 && number != 45
+}
+
+/// The phase entries, the exit from Down and the slope get the cycle, and test it (decision 19).
+pub fn gets_cycle(number: u64) -> bool {
+    (40..=45).contains(&number)
+}
+
+/// The calls whose Rust has `params: &Params` (decision 18): start, event start, expiry, inflight
+/// too high, growth, queue, headroom, entry into Down.
+pub fn takes_params(number: u64) -> bool {
+    matches!(number, 0 | 3 | 5 | 6 | 7 | 9 | 13 | 40)
+}
+
+/// "the event's record; only calls 3 to 7 read it"
+pub fn gets_record(number: u64) -> bool {
+    (3..=7).contains(&number)
+}
+
+/// The moment that a call tests against the last: "sends, events and phase entries share it".
+/// "A later call that gets an event's record doesn't test its moment for 3."
+pub fn moment(call: &Call) -> Option<u64> {
+    match call[0] {
+        1 | 41 | 43 => Some(call[1]),
+        3 => Some(call[c::EVENT_TIME]),
+        40 => Some(call[3]),
+        42 => Some(call[2]),
+        _ => None,
+    }
+}
+
+/// Whether 50 words encode a state: a flag is 0 or 1, what is unset is 0, an f32 has 32 bits and
+/// one NaN, a phase is one of five.
+pub fn encodes(state: &State) -> bool {
+    let flag = |index: usize| state[index] <= 1;
+    let optional = |index: usize| state[index] == 1 || (state[index] == 0 && state[index + 1] == 0);
+    let pattern = |index: usize| {
+        let is_nan = float(state[index]).is_nan();
+        state[index] <= u32::MAX as u64 && (!is_nan || state[index] == 0x7fc0_0000)
+    };
+    let flags = [
+        s::INFLIGHT_HI_LIMITED_IN_ROUND,
+        s::CWND_LIMITED,
+        s::FULL_BANDWIDTH_REACHED,
+        s::IGNORE_APP_LIMITED,
+    ];
+    let optionals = [
+        s::END_OF_ROUND_TRIP,
+        s::BANDWIDTH_LO,
+        s::SEND_RATE,
+        s::ACK_RATE,
+        s::PROBE_WAIT,
+        s::PROBE_UP_BYTES,
+    ];
+    flags
+        .into_iter()
+        .chain(s::PROBE_UP_APP_LIMITED..50)
+        .all(flag)
+        && optionals.into_iter().all(optional)
+        && pattern(s::CWND_GAIN)
+        && pattern(s::PACING_GAIN)
+        && state[s::PHASE] <= 4
+}
+
+/// "(inflight_hi, a cap and the round's minimum inflight may also be 2^64 - 1, meaning unset;
+/// inflight_lo likewise)"
+fn bytes_or_unset(number: u64) -> bool {
+    number <= BYTES || number == UNSET
+}
+
+/// A number that may be unset: there is only something to test where it is set.
+fn optional_ok(words: &[u64], index: usize, bound: u64) -> bool {
+    optional(words, index).map_or(true, |number| number <= bound)
+}
+
+/// "NaN is refused": no comparison with it holds. "Negative zero counts as zero": it is not below
+/// zero.
+fn between(word: u64, low: f32, high: f32) -> bool {
+    low <= float(word) && float(word) <= high
+}
+
+/// "gains 1/1024 to 8"
+fn gain_ok(word: u64) -> bool {
+    between(word, 1.0 / 1024.0, 8.0)
+}
+
+/// The stored model. "Counters and packet numbers are free."
+pub fn model_ok(state: &State) -> bool {
+    let bandwidths = [
+        s::MAX_BANDWIDTH_0,
+        s::MAX_BANDWIDTH_1,
+        s::BANDWIDTH_LATEST,
+        s::FULL_BANDWIDTH_BASELINE,
+    ];
+    bandwidths.iter().all(|&index| state[index] <= BANDWIDTH)
+        && optional_ok(state, s::BANDWIDTH_LO, BANDWIDTH)
+        && optional_ok(state, s::SEND_RATE, BANDWIDTH)
+        && optional_ok(state, s::ACK_RATE, BANDWIDTH)
+        && state[s::MIN_RTT] <= LENGTH
+        && state[s::MIN_RTT_TIMESTAMP] <= MOMENT
+        && state[s::LAST_MOMENT] <= MOMENT
+        && state[s::INFLIGHT_LATEST] <= BYTES
+        && bytes_or_unset(state[s::MIN_BYTES_IN_FLIGHT_IN_ROUND])
+        && bytes_or_unset(state[s::INFLIGHT_LO])
+        && bytes_or_unset(state[s::INFLIGHT_HI])
+        && gain_ok(state[s::CWND_GAIN])
+        && gain_ok(state[s::PACING_GAIN])
+        && sums_ok(state)
+}
+
+/// "totals .. bytes lost and delivered in the round .. 2^62", and "Bytes lost in the round must not
+/// exceed the stored total lost, nor bytes delivered in the round the stored total acked (else 1)".
+fn sums_ok(state: &State) -> bool {
+    state[s::TOTAL_ACKED] <= TOTAL
+        && state[s::TOTAL_LOST] <= TOTAL
+        && state[s::BYTES_LOST_IN_ROUND] <= TOTAL
+        && state[s::MAX_BYTES_DELIVERED_IN_ROUND] <= TOTAL
+        && state[s::BYTES_LOST_IN_ROUND] <= state[s::TOTAL_LOST]
+        && state[s::MAX_BYTES_DELIVERED_IN_ROUND] <= state[s::TOTAL_ACKED]
+}
+
+/// The stored cycle; probe_up_acked is a byte count (decision 24).
+pub fn cycle_ok(state: &State) -> bool {
+    state[s::CYCLE_START] <= MOMENT
+        && state[s::PHASE_START] <= MOMENT
+        && optional_ok(state, s::PROBE_WAIT, WAIT)
+        && state[s::PROBE_UP_ROUNDS] <= ROUNDS
+        && optional_ok(state, s::PROBE_UP_BYTES, BYTES)
+        && state[s::PROBE_UP_ACKED] <= BYTES
+}
+
+/// "beta from 1/1024 to 1023/1024; loss_threshold and headroom 0 to 1; full_bw_threshold 1 to 8;
+/// gains 1/1024 to 8"; the two limits of rounds are counts, and free.
+fn params_ok(call: &Call) -> bool {
+    between(call[c::BETA], 1.0 / 1024.0, 1023.0 / 1024.0)
+        && between(call[c::LOSS_THRESHOLD], 0.0, 1.0)
+        && between(call[c::HEADROOM], 0.0, 1.0)
+        && between(call[c::FULL_BW_THRESHOLD], 1.0, 8.0)
+        && gain_ok(call[c::STARTUP_CWND_GAIN])
+        && gain_ok(call[c::STARTUP_PACING_GAIN])
+        && call[c::PROBE_RTT_PERIOD] <= LENGTH
+        && call[c::PROBE_BASE_DURATION] <= LENGTH
+}
+
+/// The arguments of each call: every number handed in is tested, whether the call reads it or not
+/// (decision 17). "The same holds for a gain given as an argument, with refusal 2."
+fn arguments_ok(call: &Call) -> bool {
+    match call[0] {
+        0 => call[1] <= MOMENT && call[2] <= LENGTH,
+        1 => call[1] <= MOMENT && call[2] <= BYTES && call[4] <= BYTES,
+        3 => sample_ok(call),
+        9 | 15 | 16 => gain_ok(call[1]),
+        10 => call[1] <= BANDWIDTH && gain_ok(call[2]),
+        11 => call[1] <= BANDWIDTH,
+        17 | 18 => bytes_or_unset(call[1]),
+        22 => call[1] <= LENGTH,
+        40 => call[3] <= MOMENT,
+        41 => call[1] <= MOMENT,
+        42 => call[1] <= ROUNDS && call[2] <= MOMENT,
+        43 => call[1] <= MOMENT && call[2] <= BYTES,
+        45 => call[1] <= BYTES,
+        _ => true,
+    }
+}
+
+/// What the sampler says: its largest inflight and extra acked are byte counts (decision 24).
+fn sample_ok(call: &Call) -> bool {
+    optional_ok(call, c::SAMPLE_BANDWIDTH, BANDWIDTH)
+        && optional_ok(call, c::SAMPLE_SEND_RATE, BANDWIDTH)
+        && optional_ok(call, c::SAMPLE_ACK_RATE, BANDWIDTH)
+        && optional_ok(call, c::SAMPLE_RTT, LENGTH)
+        && call[c::SAMPLE_MAX_INFLIGHT] <= BYTES
+        && call[c::EXTRA_ACKED] <= BYTES
+        && call[c::SENT_TOTAL_ACKED] <= TOTAL
+        && call[c::SENT_IN_FLIGHT] <= BYTES
+        && call[c::TOTAL_ACKED] <= TOTAL
+        && call[c::TOTAL_LOST] <= TOTAL
+}
+
+/// The 16 words of an event's record, from the first: "an event's bytes acked and lost .. 2^62".
+pub fn record_ok(record: &[u64]) -> bool {
+    let at = |index: usize| record[index - c::RECORD];
+    at(c::EVENT_TIME) <= MOMENT
+        && at(c::PRIOR_CWND) <= BYTES
+        && at(c::PRIOR_IN_FLIGHT) <= BYTES
+        && at(c::IN_FLIGHT) <= BYTES
+        && at(c::BYTES_ACKED) <= TOTAL
+        && at(c::BYTES_LOST) <= TOTAL
+        && optional_ok(record, c::RECORD_BANDWIDTH - c::RECORD, BANDWIDTH)
+        && optional_ok(record, c::RECORD_RTT - c::RECORD, LENGTH)
+        && at(c::LAST_TOTAL_ACKED) <= TOTAL
+        && at(c::LAST_IN_FLIGHT) <= BYTES
+}
+
+/// "a postponed moment would exceed 2^62"
+fn postponed_too_far(state: &State, call: &Call) -> bool {
+    call[0] == 22 && state[s::MIN_RTT_TIMESTAMP].saturating_add(call[1]) > MOMENT
+}
+
+/// "the total acked or the total lost is lower than the one stored"
+fn totals_fall(state: &State, call: &Call) -> bool {
+    call[c::TOTAL_ACKED] < state[s::TOTAL_ACKED] || call[c::TOTAL_LOST] < state[s::TOTAL_LOST]
+}
+
+/// Row 5, given only where this very call would add 1 (decision 23).
+fn fills_a_counter(state: &State, call: &Call) -> bool {
+    let full = |index: usize| state[index] == u64::MAX;
+    match call[0] {
+        3 => {
+            (full(s::ROUND_TRIP_COUNT) && ends_a_round(state, call))
+                // "event count +1 if bytes lost > 0"
+                || (full(s::LOSS_EVENTS_IN_ROUND) && call[c::TOTAL_LOST] > state[s::TOTAL_LOST])
+        }
+        7 => full(s::ROUNDS_WITHOUT_GROWTH) && counts_no_growth(state, call),
+        9 => full(s::ROUNDS_WITH_QUEUEING) && counts_a_queue(state, call),
+        _ => false,
+    }
+}
+
+/// "A round ends if no end is set yet or that number is greater than the end .. An empty slice ends
+/// no round." That number is the last of those acked.
+pub fn ends_a_round(state: &State, call: &Call) -> bool {
+    let count = (call[c::ACKED_COUNT] % 4) as usize;
+    let end = optional(state, s::END_OF_ROUND_TRIP);
+    count > 0 && end.map_or(true, |end| call[c::ACKED_COUNT + count] > end)
+}
+
+/// The larger of the two slots of the max filter.
+pub fn max_bandwidth(state: &State) -> u64 {
+    state[s::MAX_BANDWIDTH_0].max(state[s::MAX_BANDWIDTH_1])
+}
+
+/// `bdp` of network_model.rs.
+pub fn bdp(state: &State, bandwidth: u64, gain: f32) -> u64 {
+    reckon::bytes_per_period(reckon::bandwidth_mul(bandwidth, gain), state[s::MIN_RTT])
+}
+
+/// Whether has_bandwidth_growth sees growth.
+pub fn grows(state: &State, call: &Call) -> bool {
+    let threshold = float(call[c::FULL_BW_THRESHOLD]);
+    max_bandwidth(state) >= reckon::bandwidth_mul(state[s::FULL_BANDWIDTH_BASELINE], threshold)
+}
+
+/// has_bandwidth_growth adds 1 without growth, with a valid state, unless the round is ignored.
+pub fn counts_no_growth(state: &State, call: &Call) -> bool {
+    let valid = call[c::LAST_IS_VALID] == 1;
+    let ignored = state[s::IGNORE_APP_LIMITED] == 1 && call[c::LAST_IS_APP_LIMITED] == 1;
+    !grows(state, call) && valid && !ignored
+}
+
+/// check_persistent_queue adds 1 where the round's minimum inflight is not below the target.
+pub fn counts_a_queue(state: &State, call: &Call) -> bool {
+    let most = max_bandwidth(state);
+    let beside = bdp(state, most, 1.0).saturating_add(2 * 1300);
+    let target = bdp(state, most, float(call[1])).max(beside);
+    state[s::MIN_BYTES_IN_FLIGHT_IN_ROUND] >= target
+}
