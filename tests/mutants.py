@@ -74,7 +74,8 @@ ARGUMENTS = re.compile(r"\((\w+), (\w+)")
 FIELD = re.compile(r"\b(\w+)\.([a-z]\w*)\b(?!\()")
 STEP = re.compile(r"^\s+[\w.\[\]]+ [+*-]?= .*;$")
 VARIANT = re.compile(r"\b([A-Z]\w+)::([A-Z]\w+)\b")
-NAMES = re.compile(r"(?<=[( ])([a-z]\w*) ([a-z]\w*)(?=[) ])")
+# two arguments of a function, in a definition
+NAMES = re.compile(r"(?<=\w )([a-z]\w*) ([a-z]\w*)(?=[) ]|$)")
 SKIPPED = ("//", "use ", "pub use ", "ghost ", "pub mod ", "mod ", "#", "pub struct ", "struct ", "pub enum ", "enum ", "impl ")
 
 
@@ -133,7 +134,7 @@ def files(crate, specs):
     folder = os.path.join(ROOT, "crates", crate, "specs" if specs else "src")
     for at, _, names in sorted(os.walk(folder)):
         for name in sorted(names):
-            if name.endswith(".antt" if specs else ".rt") and name != "Lib.antt":
+            if name.endswith(".antt" if specs else ".rt") and name not in ("Lib.antt", "Examples.antt"):
                 yield os.path.relpath(os.path.join(at, name), ROOT)
 
 
@@ -167,16 +168,18 @@ def replaced(line, match, new):
 def changes(path, specs, variants, fields):
     text = read(path).split("\n")
     for index, line in (definition_lines if specs else code_lines)(text):
+        # of a definition, what stands to the right of its `=`
+        start = line.find(" = ") + 1 if specs else 0
         for pattern, new in SPECS if specs else CODE:
-            for match in re.finditer(pattern, line):
+            for match in re.compile(pattern).finditer(line, start):
                 yield Change(path, index, line, replaced(line, match, new))
-        for match in NUMBER.finditer(line):
+        for match in NUMBER.finditer(line, start):
             word = match.group(1)
             value = int(word.replace("_", ""), 16 if word.startswith("0x") else 10)
             for other in {value + 1, max(value - 1, 0)} - {value}:
                 yield Change(path, index, line, replaced(line, match, str(other)))
         if specs:
-            for match in NAMES.finditer(line):
+            for match in NAMES.finditer(line, start):
                 yield Change(path, index, line, replaced(line, match, f"{match.group(2)} {match.group(1)}"))
             continue
         for match in ARGUMENTS.finditer(line):
