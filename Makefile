@@ -30,6 +30,12 @@ contracts:
 
 # ---- the port beside the original (oracle/README.md)
 
+# A relative name is seen from here, whatever a command works in.
+ifdef ORIGINAL
+override ORIGINAL := $(abspath $(ORIGINAL))
+export ORIGINAL
+endif
+
 SEED = 7
 
 # Call by call, from SEED: CALLS calls of the model, and a tenth as many on filters, on numbers and on the exported
@@ -48,12 +54,9 @@ changes: kit
 	rt check serve
 	PORT="$$(sh tests/program.sh serve)" python3 tests/changes.py
 
-# Makes the kept samples of the original's answers again.
-ORACLE = cargo run --release --quiet --manifest-path oracle/Cargo.toml --
+# Makes the kept samples of the original's answers again, and keeps them.
 lists:
-	rm -f crates/answers/data/* crates/serve/stdin crates/serve/stdout
-	$(ORACLE) crates/answers/data
-	$(ORACLE) frames crates/serve
+	@sh tests/lists.sh keep
 
 # ---- what must not hold, and what must hold for long (docs/EVIDENCE.md)
 

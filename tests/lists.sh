@@ -1,13 +1,17 @@
 #!/bin/sh
-# Makes the lists and the frames of the original's answers again and compares them with the ones kept here, byte for
-# byte. Where cargo or the original is not at hand it says so and goes on: the kept ones serve the tests.
+# Makes the lists and the frames of the original's answers again.
+#
+#     tests/lists.sh        compares them with the ones kept here, byte for byte. Where cargo or the original is not at
+#                           hand it says so and goes on: the kept ones serve the tests
+#     tests/lists.sh keep   puts them in place of the ones kept here, once all are made
 set -eu
 cd "$(dirname "$0")/.."
 . tests/oracle.sh
 
 if [ -n "$missing" ]; then
     echo "lists: not made again, since $missing"
-    exit 0
+    [ "${1:-}" != keep ]
+    exit
 fi
 build_oracle
 made=$(mktemp -d)
@@ -19,8 +23,13 @@ make_again() {
     }
 }
 make_again "$made/lists"
-diff -r "$made/lists" crates/answers/data
 make_again frames "$made/frames"
+if [ "${1:-}" = keep ]; then
+    rm -f crates/answers/data/*
+    cp "$made"/lists/* crates/answers/data
+    cp "$made/frames/stdin" "$made/frames/stdout" crates/serve
+fi
+diff -r "$made/lists" crates/answers/data
 for file in stdin stdout; do
     cmp "$made/frames/$file" "crates/serve/$file"
 done

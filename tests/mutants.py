@@ -16,8 +16,10 @@ says:
     a run differs      a change to a program, or to a part of programs, that is proved: its run must differ
     a floor above      a changed definition with which its own crate is proved: a crate above must not be
     survived           none of these: harmless, and then it stands with its reason in tests/mutants.txt, or a hole
+    not told           the prover ended without a verdict
 
-Ends with 1 where a survivor isn't explained. `rt check` has to have proved everything before."""
+Ends with 1 where a survivor isn't explained; an edit of tests/wrong that is no program, or is not told, counts as one. `rt
+check` has to have proved everything before."""
 
 import argparse
 import os
@@ -339,6 +341,9 @@ def main():
                 break
             end = tried(copy, crate, change, asked.specs)
             tally[crate][end] = tally[crate].get(end, 0) + 1
+            if end in ("no program", "not told") and asked.named:
+                unexplained += 1
+                print(f"{end}: {change}", flush=True)
             if end == "no program":
                 continue
             counted += 1

@@ -1,10 +1,10 @@
 #!/bin/sh
 # The Rust package over the archive of the exported calls (rust/README.md), and the example in C.
 #
-#     tests/rust.sh         on x86-64 proves the archive and runs the package's tests and the examples
-#     tests/rust.sh check   only checks the packages, as the gate does: the archive would be proved once more for them
+#     tests/rust.sh         on x86-64 proves the archive and runs the package's tests, those of hostile/ and the examples
+#     tests/rust.sh check   only checks the package, as the gate does: the archive would be proved once more for it
 #
-# On another machine they are only checked, since the archive can't be linked. Without cargo it says so and goes on.
+# On another machine it is only checked, since the archive can't be linked. Without cargo it says so and goes on.
 set -eu
 cd "$(dirname "$0")/.."
 if ! command -v cargo >/dev/null 2>&1; then

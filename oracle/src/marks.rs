@@ -14,8 +14,8 @@ use crate::model::State;
 use crate::model::UNSET;
 use crate::replies::MOMENT;
 
-/// What has to occur, each at least `LEAST` times. The number of a fact is its
-/// number in the list of silent points.
+/// What has to occur, each at least `LEAST` times. Cases with the same number
+/// are of one point at which document 01 is silent or easily misread.
 const WANTED: [&str; 83] = [
     "fact 02: queue rounds 0, the first queueing round sets reached",
     "fact 02: the same on a fresh model",

@@ -28,7 +28,8 @@ pub struct Params {
     pub startup_pacing_gain: f32,
     /// After how many rounds without growth the full bandwidth counts as reached.
     pub startup_full_bw_rounds: u64,
-    /// After how many rounds with a queue the full bandwidth counts as reached.
+    /// After how many rounds with a queue the full bandwidth counts as reached. 0 disables nothing:
+    /// it is reached in the first such round, as in the original.
     pub max_startup_queue_rounds: u64,
     /// How old the smallest round trip may become: up to 2^36 ns.
     pub probe_rtt_period: Duration,
