@@ -297,7 +297,7 @@ def named(crates):
 def places(crates, specs):
     """Every change at every place, by crate."""
     variants, fields = declared()
-    found = {c: [x for p in files(c, specs) for x in changes(p, specs, variants, fields)] for c in crates}
+    found = {c: [x for p in files(c, specs) for x in changes(p, specs, variants, fields) if x.new != x.old] for c in crates}
     return {c: all_of_it for c, all_of_it in found.items() if all_of_it}
 
 
@@ -341,17 +341,14 @@ def main():
                 break
             end = tried(copy, crate, change, asked.specs)
             tally[crate][end] = tally[crate].get(end, 0) + 1
-            if end in ("no program", "not told") and asked.named:
-                unexplained += 1
-                print(f"{end}: {change}", flush=True)
-            if end == "no program":
+            if end == "no program" and not asked.named:
                 continue
             counted += 1
             print(f"{counted} of {most}: {end}: {change}", file=sys.stderr, flush=True)
-            if end == "survived":
-                harmless = change.key() in known()
+            if end in ("survived", "not told", "no program"):
+                harmless = end == "survived" and change.key() in known()
                 unexplained += not harmless
-                print(f"survived, {'explained' if harmless else 'NOT EXPLAINED'}: {change}", flush=True)
+                print(f"{end}, {'explained' if harmless else 'NOT EXPLAINED'}: {change}", flush=True)
     for crate, ends in tally.items():
         print(f"{crate}: " + ", ".join(f"{n} {end}" for end, n in sorted(ends.items())))
     print(f"{counted} changes, {unexplained} survivors not explained")

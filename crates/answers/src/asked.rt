@@ -1,8 +1,4 @@
 // One line of a list, asked of the port.
-use crate::bits::f32_is;
-use crate::bits::f32_of;
-use crate::bits::f64_is;
-use crate::bits::f64_of;
 use filters::Bandwidth;
 use filters::Duration;
 use filters::MaxBandwidthFilter;
@@ -13,6 +9,10 @@ use filters::RoundTripCounter;
 use filters::WindowedFilter;
 use filters::round_trip_counter::RoundEnd;
 use filters::windowed_filter::Held;
+use words::float_bits::f32_bits;
+use words::float_bits::f32_of;
+use words::float_bits::f64_bits;
+use words::float_bits::f64_of;
 
 // What a list asks, with the filter that it goes on with from line to line.
 pub enum Asked {
@@ -36,7 +36,7 @@ pub struct Turn {
 }
 
 // Whether the port answers as the line has it, and what the next line asks.
-pub fn answer(asked: Asked, n: &[u64; 128]) -> Turn {
+pub fn answer(asked: Asked, n: &[u64; 16]) -> Turn {
     match asked {
         Asked::Windowed(filter) => windowed(filter, n),
         Asked::MaxBandwidth(filter) => max_bandwidth(filter, n),
@@ -50,25 +50,30 @@ pub fn answer(asked: Asked, n: &[u64; 128]) -> Turn {
 }
 
 // Whether a conversion or a bandwidth is as the line has it.
-fn number(asked: Asked, n: &[u64; 128]) -> bool {
+fn number(asked: Asked, n: &[u64; 16]) -> bool {
     match asked {
-        Asked::ToF32 => f32_is(numbers::to_f32(n[0]), n[1]),
-        Asked::ToF64 => f64_is(numbers::to_f64(n[0]), n[1]),
-        Asked::ToU64 => numbers::to_u64(f32_of(n[0])) == n[1],
+        Asked::ToF32 => f32_bits(numbers::to_f32(n[0])) as u64 == n[1],
+        Asked::ToF64 => f64_bits(numbers::to_f64(n[0])) == n[1],
+        Asked::ToU64 => numbers::to_u64(f32_of(low_bits(n[0]))) == n[1],
         Asked::RoundToU64 => numbers::round_to_u64(f64_of(n[0])) == n[1],
-        Asked::Scale => numbers::scale(n[0], f32_of(n[1])) == n[2],
-        Asked::BandwidthMul => Bandwidth(n[0]).mul_f32(f32_of(n[1])).0 == n[2],
+        Asked::Scale => numbers::scale(n[0], f32_of(low_bits(n[1]))) == n[2],
+        Asked::BandwidthMul => Bandwidth(n[0]).mul_f32(f32_of(low_bits(n[1]))).0 == n[2],
         Asked::BandwidthPeriod => Bandwidth(n[0]).to_bytes_per_period(Duration(n[1])) == n[2],
         Asked::BandwidthOrder => order(Bandwidth(n[0]), Bandwidth(n[1]), n),
         _ => false,
     }
 }
 
-fn order(a: Bandwidth, b: Bandwidth, n: &[u64; 128]) -> bool {
+// The low 32 bits, a pattern of an `f32`.
+fn low_bits(n: u64) -> u32 {
+    (n % 0x1_0000_0000) as u32
+}
+
+fn order(a: Bandwidth, b: Bandwidth, n: &[u64; 16]) -> bool {
     (a.lt(b) == (n[2] == 1)) & (a.max(b).0 == n[3]) & (a.min(b).0 == n[4])
 }
 
-fn windowed(filter: WindowedFilter, n: &[u64; 128]) -> Turn {
+fn windowed(filter: WindowedFilter, n: &[u64; 16]) -> Turn {
     let op = n[0];
     let next = match op {
         0 => WindowedFilter::new(n[1]),
@@ -92,7 +97,7 @@ fn updated(filter: WindowedFilter, sample: u64, time: u64) -> WindowedFilter {
     }
 }
 
-fn holds(filter: WindowedFilter, n: &[u64; 128]) -> bool {
+fn holds(filter: WindowedFilter, n: &[u64; 16]) -> bool {
     let held = filter.held;
     match held {
         Held::Empty => {
@@ -116,7 +121,7 @@ fn holds(filter: WindowedFilter, n: &[u64; 128]) -> bool {
     }
 }
 
-fn max_bandwidth(filter: MaxBandwidthFilter, n: &[u64; 128]) -> Turn {
+fn max_bandwidth(filter: MaxBandwidthFilter, n: &[u64; 16]) -> Turn {
     let op = n[0];
     let next = match op {
         0 => MaxBandwidthFilter::new(),
@@ -129,7 +134,7 @@ fn max_bandwidth(filter: MaxBandwidthFilter, n: &[u64; 128]) -> Turn {
     }
 }
 
-fn min_rtt(filter: MinRttFilter, n: &[u64; 128]) -> Turn {
+fn min_rtt(filter: MinRttFilter, n: &[u64; 16]) -> Turn {
     let rtt = Duration(n[1]);
     let now = Moment(n[2]);
     let op = n[0];
@@ -144,7 +149,7 @@ fn min_rtt(filter: MinRttFilter, n: &[u64; 128]) -> Turn {
     }
 }
 
-fn rounds(counter: RoundTripCounter, n: &[u64; 128]) -> Turn {
+fn rounds(counter: RoundTripCounter, n: &[u64; 16]) -> Turn {
     let op = n[0];
     let next = match op {
         0 => RoundTripCounter::new(),
@@ -158,7 +163,7 @@ fn rounds(counter: RoundTripCounter, n: &[u64; 128]) -> Turn {
     }
 }
 
-fn acked(counter: RoundTripCounter, n: &[u64; 128]) -> Turn {
+fn acked(counter: RoundTripCounter, n: &[u64; 16]) -> Turn {
     let packets = [n[2], n[3], n[4]];
     let few = (n[1] % 4) as usize;
     let answer = counter.on_packets_acked(&packets[..few]);
@@ -169,7 +174,7 @@ fn acked(counter: RoundTripCounter, n: &[u64; 128]) -> Turn {
     }
 }
 
-fn stands(counter: RoundTripCounter, n: &[u64; 128]) -> bool {
+fn stands(counter: RoundTripCounter, n: &[u64; 16]) -> bool {
     let end = counter.end;
     let set = match end {
         RoundEnd::NotSet => (n[8] == 0) & (n[9] == 0),

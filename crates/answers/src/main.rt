@@ -1,6 +1,6 @@
 // Compares the port with fixed lists of the original's answers, and prints what was compared.
 mod asked;
-mod bits;
+mod list;
 
 use asked::Asked;
 use filters::Duration;
@@ -10,9 +10,9 @@ use filters::Moment;
 use filters::RoundTripCounter;
 use filters::WindowedFilter;
 use libc::STDOUT_FILENO;
-use lines::file::read_file;
-use lines::list::change_last;
-use lines::list::read_line;
+use list::change_last;
+use list::read_file;
+use list::read_line;
 
 pub struct Tally {
     pub answers: u64,

@@ -1,4 +1,4 @@
-// One call of the port by its number, from the words of its record: a part of the exported calls.
+// One call of the port by its number, on the numbers that it is given: a part of the exported calls.
 pub mod ask;
 pub mod change;
 pub mod enter;

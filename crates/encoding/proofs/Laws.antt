@@ -1,12 +1,10 @@
--- What is written for a flag, an f32, a phase or a thing that may be unset is read back as it was; which patterns are a NaN's. Assumes nothing.
-use mathlib.Core.Path.{_≡_, refl, sym, ap, _∙_}
-use mathlib.Core.Bool.{Bool, true, false, true≢false}
-use Prim.Native.Nat.{ℕ, _*_, _%_, _<_}
+-- What is written for a flag, an f32, a phase or a thing that may be unset is read back as it was. Assumes nothing.
+use mathlib.Core.Path.{_≡_, refl, ap, _∙_}
+use mathlib.Core.Bool.{Bool, true, false}
 use native.Mathlib.Nat.{mod-eq-of-lt}
 use lib.Dec.{T}
-use lib.Ieee.{Float, nan, inf, fin, Format, binary32, hid, ones, top, ofBits, fits, isNan}
-use lib.Ieee.Bits.{ofBits-toBits, toBits-lt, nanBits-is, nanBits-above}
-use borrow.Author.Tests.{lt-ltb}
+use lib.Ieee.{Float, binary32, ofBits, fits}
+use lib.Ieee.Bits.{ofBits-toBits, toBits-lt}
 use Rattle.filters.specs.declared.round_trip_counter.RoundEnd.{RoundEnd}
 use Rattle.filters.specs.declared.round_trip_counter.RoundEnd.the-variants.{NotSet, At}
 use Rattle.model.specs.declared.state.MaybeBandwidth.{MaybeBandwidth}
@@ -57,13 +55,3 @@ wait-length-back (wait.the-variants.Length d) = refl
 pub length-back : (x : rtt.MaybeLength) → lengthOf (lengthMaybe x .set) (lengthMaybe x .number) ≡ x
 length-back rtt.the-variants.Missing = refl
 length-back (rtt.the-variants.Length d) = refl
-
--- ---- a NaN's pattern
-is-nan : (x : Float) → isNan x ≡ true → x ≡ nan
-unfolding isNan
-is-nan nan h = refl
-is-nan (inf s) h = absurd (true≢false (sym h))
-is-nan (fin s m e) h = absurd (true≢false (sym h))
-
-pub nan-read : (f : Format) (b : ℕ) → ones f * hid f < b % top f → ofBits f b ≡ nan
-nan-read f b h = is-nan (ofBits f b) (sym (nanBits-is f b) ∙ nanBits-above f b ∙ lt-ltb _ _ h)

@@ -31,7 +31,7 @@ sameWords a b at (suc n) = eqb (getD a at 0) (getD b at 0) && sameWords a b (at 
 unfoldable pub isState : List ℕ → Bool
 isState w = sameWords (stateWords (modelOf w) (cycleOf w)) w 0 50
 
--- "Bytes that encode no state are refusal 1": as many as a state has
+-- docs/LAYOUT.md, reply 1: "the state's 400 bytes encode no state"
 unfoldable pub encodesNone : List ℕ → Bool
 encodesNone s = eqb (length s) 400 && not (isState (stateIn s))
 
@@ -39,7 +39,7 @@ encodesNone s = eqb (length s) 400 && not (isState (stateIn s))
 abbrev pub callsIn : List ℕ → ℕ
 callsIn src = length src / 392
 
--- "unknown calls": one of the n calls from an index on
+-- reply 2: "a call's number is none", one of the n calls from an index on
 unfoldable pub hasUnknown : List ℕ → ℕ → ℕ → Bool
 hasUnknown src at zero = false
 hasUnknown src at (suc n) = not (isCall (word src at)) || hasUnknown src (at + 392) n
@@ -52,11 +52,11 @@ callAt src at = wordsAt src at 49
 unfoldable pub turnAt : NetworkModel → Cycle → List ℕ → ℕ → Turn
 turnAt m y src at = turnOf (callAt src at) m y
 
--- "each answer has the refusal, the number or flag, and the event's record where there is one": 18 words, 144 bytes
+-- docs/LAYOUT.md, "An answer": the reply's number, the answer, the event's record: 18 words, 144 bytes
 unfoldable pub answerWords : Turn → List ℕ
 answerWords t = t .reply ∷ t .value ∷ t .event
 
--- the answers to the n calls from an index on, each carried out in the state that the one before it left: "A call refused inside a run is answered with its number and the run goes on"
+-- the answers to the n calls from an index on, each carried out in the state that the one before it left: "A call that is refused is answered with its number, changes nothing, and the run goes on"
 unfoldable pub answersTo : NetworkModel → Cycle → List ℕ → ℕ → ℕ → List ℕ
 answersTo m y src at zero = []
 answersTo m y src at (suc n) = let t = turnAt m y src at in answerWords t ++ answersTo (t .model) (t .cycle) src (at + 392) n
@@ -73,7 +73,7 @@ answersFrom state src = answersTo (modelOf (stateIn state)) (cycleOf (stateIn st
 unfoldable pub wordsLeft : (state src : List ℕ) → List ℕ
 wordsLeft state src = leftBy (modelOf (stateIn state)) (cycleOf (stateIn state)) src 0 (callsIn src)
 
--- "Bytes that encode no state are refusal 1, wrong lengths or unknown calls 2, a short output 7, nothing written"
+-- docs/LAYOUT.md, "What the run itself replies", rows 1, 2 and 7: "Of several the lowest is given; then no byte is written"
 unfoldable pub modelRow : (state src : List ℕ) (room : ℕ) → ℕ
 modelRow state src room =
     orShort (rowOf (encodesNone state) (not (eqb (length state) 400) || (not (eqb (length src % 392) 0) || hasUnknown src 0 (callsIn src))) false false false) (ltb room (144 * callsIn src))
@@ -81,6 +81,6 @@ modelRow state src room =
 unfoldable pub answersOut : (state src out : List ℕ) → List ℕ
 answersOut state src out = answered (modelRow state src (length out)) (answersFrom state src) out
 
--- "leaves the new state in the state's bytes"
+-- "leaves the new state in the state's bytes", the same place
 unfoldable pub stateOut : (state src out : List ℕ) → List ℕ
 stateOut state src out = answered (modelRow state src (length out)) (wordsLeft state src) state

@@ -26,9 +26,6 @@ module _ {A : Type 0} where
   refused-as k n t got next old p e h q = q ∙ rw (← p) (refused k t next old e h)
 
 -- ---- a function of several parts, each put for its equal
-pub ap3 : {A B C R : Type 0} (f : A → B → C → R) {a a′ : A} {b b′ : B} {c c′ : C} → a ≡ a′ → b ≡ b′ → c ≡ c′ → f a b c ≡ f a′ b′ c′
-ap3 f p q r = cc
-
 pub ap4 : {A B C D R : Type 0} (f : A → B → C → D → R) {a a′ : A} {b b′ : B} {c c′ : C} {d d′ : D} → a ≡ a′ → b ≡ b′ → c ≡ c′ → d ≡ d′ → f a b c d ≡ f a′ b′ c′ d′
 ap4 f p q r s = cc
 

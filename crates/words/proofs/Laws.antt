@@ -5,7 +5,7 @@ use mathlib.Core.Path.{_≡_, refl, sym, ap, ap₂, _∙_}
 use native.Mathlib.Nat.{zero-lt-suc, add-zero, zero-add, add-suc, suc-add, add-assoc, mod-add-div, div-lt-iff-lt-mul, pow-suc}
 use native.Mathlib.Omega.{arith}
 use lib.ListN.{length, getD, drop, length-append, List·getD-append}
-use lib.Seq.{sets, getD-drop, drop-at, drop-append-seam}
+use lib.Seq.{sets, getD-drop, drop-at}
 use Rattle.words.specs.Words.{numberAt, lowBytes, word, bytes, wordsAt, allBytes}
 use Rattle.words.proofs.Stores.{drop-sets}
 
@@ -74,9 +74,6 @@ unfolding wordsAt
 wordsAt-within a b at zero h = refl
 wordsAt-within a b at (suc n) h =
     ap₂ (λ (x : ℕ) (rest : List ℕ). x ∷ rest) (numberAt-within 8 a b at (omega arith)) (wordsAt-within a b (at + 8) n (omega arith))
-
-pub wordsAt-past : (a b : List ℕ) (at n : ℕ) → wordsAt (a ++ b) (length a + at) n ≡ wordsAt b at n
-wordsAt-past a b at n = sym (wordsAt-drop (length a) (a ++ b) at n) ∙ ap (λ (s : List ℕ). wordsAt s at n) (drop-append-seam a b)
 
 -- ---- reading gives back what was written
 number-lowBytes : (n x : ℕ) (rest : List ℕ) → x < 256 ^ n → numberAt n (lowBytes n x ++ rest) 0 ≡ x

@@ -1,12 +1,12 @@
--- `lines::read_line` is safe and ends: the number that is read is always one of 128, and each turn reads a byte. Assumes nothing.
+-- `answers::read_line` is safe and ends: the number that is read is always one of 16, and each turn reads a byte. Assumes nothing.
 use borrow.Author.Needs.{needs}
 use Prim.Native.Nat.{_<_, _-_}
 use lib.ListN.{length}
-use Rattle.lines.proofs.list.read_line.Statement.{statement}
-use Rattle.lines.proofs.list.read_line.Tie as tie
+use Rattle.answers.proofs.list.read_line.Statement.{statement}
+use Rattle.answers.proofs.list.read_line.Tie as tie
 
 abbrev Inv-loop : tie.InvT-loop
-Inv-loop text at numbers₀ last₀ i₀ numbers last i = last < 128
+Inv-loop text at numbers₀ last₀ i₀ numbers last i = last < 16
 
 abbrev μ-loop : tie.MeasureT-loop
 μ-loop text at numbers₀ last₀ i₀ numbers last i = length text - i
@@ -26,9 +26,7 @@ read-line-spec =
     (λ c. search needs)
     (λ c. search needs)
     (λ c. search needs)
-    (λ c. search needs)
     (λ c κs. search needs)
-    (λ c. search needs)
     (λ c. search needs)
     (λ c. search needs)
     (λ c. search needs)
