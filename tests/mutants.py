@@ -225,7 +225,7 @@ def known():
 
 # What the prover says where a proof file no longer has the shape of the code.
 MISFIT = re.compile(
-    r"error: .*(has no field|expected type .tie\.Need-|unexpected argument|no .* that can be named|is not in scope|takes .* argument|Inv-loop|μ-loop)"
+    r"error: (`(Inv-loop|μ-loop)`:|.*(has no field|expected type .tie\.Need-|unexpected argument|no .* that can be named|is not in scope|takes .* argument|binders, but its type))"
 )
 # The programs that reach every floor.
 RUNS = ("serve", "answers")
