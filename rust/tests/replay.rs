@@ -67,6 +67,16 @@ fn kept_frames() {
     assert_eq!(seen.len(), 46);
 }
 
+/// The package's own parameters are those of the first start, which has the original's.
+#[test]
+fn parameters_of_the_original() {
+    let cases = cases();
+    let start = cases.iter().find(|case| case.call[0] == 0);
+    let own = Call::new(0, &[]).with_params(&Params::default());
+    let own: Vec<u64> = (38..CALL).map(|at| word(own.as_bytes(), at)).collect();
+    assert_eq!(start.map(|case| &case.call[38..]), Some(&own[..]));
+}
+
 /// A way to make a call.
 type Way = fn(&Case) -> Result<(), String>;
 
