@@ -10,6 +10,7 @@ use Rattle.model.specs.declared.params.Params.{Params}
 use Rattle.model.specs.Bounds.{bandwidthOk, gainOk}
 use Rattle.model.specs.Calls.{one, storedNumber, givenNumber, bdpOf, estimateOf, headroomOf, headroomNumber}
 use Rattle.encoding.specs.Word.{flagWord, floatWord}
+use Rattle.calls.specs.Unknown.{unknownNumber}
 
 -- the number of the reply, and the answer where that is 0
 pub record Answer : Type 0 where
@@ -20,33 +21,37 @@ pub record Answer : Type 0 where
 abbrev reads : NetworkModel → ℕ → Answer
 reads m value = record { number = storedNumber m; value = value }
 
+-- a number that is none
+abbrev refused : NetworkModel → Answer
+refused m = record { number = unknownNumber m; value = 0 }
+
 -- calls 23 to 29
 unfoldable pub readOf : (call : ℕ) → NetworkModel → Answer
 readOf call m =
-    reads m
-    (cond (eqb call 23) (estimateOf (m .lower .bandwidth) (maxGet (m .most)) .0)
-    (cond (eqb call 24) (m .least .rtt .0)
-    (cond (eqb call 25) (m .least .timestamp .0)
-    (cond (eqb call 26) (maxGet (m .most) .0)
-    (cond (eqb call 27) (m .round .delivered)
-    (cond (eqb call 28) (m .totals .acked)
-    (m .totals .lost)))))))
+    cond (eqb call 23) (reads m (estimateOf (m .lower .bandwidth) (maxGet (m .most)) .0))
+    (cond (eqb call 24) (reads m (m .least .rtt .0))
+    (cond (eqb call 25) (reads m (m .least .timestamp .0))
+    (cond (eqb call 26) (reads m (maxGet (m .most) .0))
+    (cond (eqb call 27) (reads m (m .round .delivered))
+    (cond (eqb call 28) (reads m (m .totals .acked))
+    (cond (eqb call 29) (reads m (m .totals .lost))
+    (refused m)))))))
 
 -- calls 30 to 38
 unfoldable pub readMore : (call : ℕ) → NetworkModel → Answer
 readMore call m =
-    reads m
-    (cond (eqb call 30) (flagWord (m .growth .reached))
-    (cond (eqb call 31) (floatWord (m .gains .pacing))
-    (cond (eqb call 32) (floatWord (m .gains .cwnd))
-    (cond (eqb call 33) (m .high)
-    (cond (eqb call 34) (2 ^ 64 - 1)
-    (cond (eqb call 35) (m .lower .inflight)
-    (cond (eqb call 36) (m .round .losses)
-    (cond (eqb call 37) (m .growth .queueing)
-    (2 * 1300)))))))))
+    cond (eqb call 30) (reads m (flagWord (m .growth .reached)))
+    (cond (eqb call 31) (reads m (floatWord (m .gains .pacing)))
+    (cond (eqb call 32) (reads m (floatWord (m .gains .cwnd)))
+    (cond (eqb call 33) (reads m (m .high))
+    (cond (eqb call 34) (reads m (2 ^ 64 - 1))
+    (cond (eqb call 35) (reads m (m .lower .inflight))
+    (cond (eqb call 36) (reads m (m .round .losses))
+    (cond (eqb call 37) (reads m (m .growth .queueing))
+    (cond (eqb call 38) (reads m (2 * 1300))
+    (refused m)))))))))
 
--- calls 10 to 13 and 23 to 38; `n` is a bandwidth
+-- calls 10 to 13 and 23 to 38; `n` is a bandwidth. Any other number is refused
 unfoldable pub askOf : (call n : ℕ) → Float → NetworkModel → Params → Answer
 askOf call n gain m p =
     let b : Bandwidth = record { 0 = n } in

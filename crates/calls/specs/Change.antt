@@ -6,13 +6,14 @@ use lib.Ieee.{Float}
 use Rattle.model.specs.declared.network_model.NetworkModel.{NetworkModel}
 use Rattle.model.specs.Bounds.{bytesOrUnsetOk, gainOk}
 use Rattle.model.specs.Calls.{storedNumber, givenNumber, restartNext, reachedNext, pacingNext, cwndNext, withHigh, capNext, clearInflightNext, clearBandwidthNext, advanceNext, postponeNumber, postponeNext}
+use Rattle.calls.specs.Unknown.{unknownNumber}
 
 -- the number of the reply, and the model that the call leaves where that is 0
 pub record Change : Type 0 where
   pub number : ℕ
   pub next : NetworkModel
 
--- calls 17 to 22, which are given n or nothing
+-- calls 17 to 22, which are given n or nothing; any other number is refused
 unfoldable pub changeMore : (call n : ℕ) → NetworkModel → Change
 changeMore call n m =
     cond (eqb call 17) (record { number = givenNumber m (bytesOrUnsetOk n); next = withHigh m n })
@@ -20,9 +21,10 @@ changeMore call n m =
     (cond (eqb call 19) (record { number = storedNumber m; next = clearInflightNext m })
     (cond (eqb call 20) (record { number = storedNumber m; next = clearBandwidthNext m })
     (cond (eqb call 21) (record { number = storedNumber m; next = advanceNext m })
-    (record { number = postponeNumber m (record { 0 = n }); next = postponeNext m (record { 0 = n }) })))))
+    (cond (eqb call 22) (record { number = postponeNumber m (record { 0 = n }); next = postponeNext m (record { 0 = n }) })
+    (record { number = unknownNumber m; next = m }))))))
 
--- calls 8 and 14 to 22; `gain` is n's f32
+-- calls 8 and 14 to 22; `gain` is n's f32. Any other number is refused
 unfoldable pub changeOf : (call n : ℕ) → Float → NetworkModel → Change
 changeOf call n gain m =
     cond (eqb call 8) (record { number = storedNumber m; next = restartNext m })

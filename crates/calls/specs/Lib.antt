@@ -1,4 +1,5 @@
 -- What a call's numbers ask for.
+pub mod Unknown
 pub mod Change
 pub mod Ask
 pub mod Judge

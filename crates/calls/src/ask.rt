@@ -6,6 +6,8 @@ ghost use Rattle.filters.specs.Reply.{number};
 ghost use Rattle.model.specs.Answers.{settled};
 ghost use Rattle.encoding.specs.Word.{flagWord, floatWord};
 ghost use Rattle.calls.specs.Ask.{askOf, readOf, readMore};
+ghost use Rattle.calls.specs.Unknown.{unknownNumber};
+use crate::unknown::unknown;
 use encoding::word::flag_word;
 use encoding::word::float_word;
 use filters::Bandwidth;
@@ -18,7 +20,7 @@ use model::answers::LengthRead;
 use model::answers::MomentRead;
 use model::answers::Number;
 
-// Calls 10 to 13 and 23 to 38; `n` is a bandwidth.
+// Calls 10 to 13 and 23 to 38; `n` is a bandwidth. Any other number is refused.
 pub fn ask(model: NetworkModel, params: Params, call: u64, n: u64, gain: f32) -> Number
     ensures reply { λ r. ⌜ number (r .reply) ≡ askOf call n gain model params .number ⌝ }
     ensures value { λ r. ⌜ r .value ≡ settled (askOf call n gain model params .number) (askOf call n gain model params .value) 0 ⌝ }
@@ -55,7 +57,8 @@ fn read(model: NetworkModel, call: u64) -> Number
         26 => bandwidth(model.max_bandwidth()),
         27 => model.max_bytes_delivered_in_round(),
         28 => model.total_bytes_acked(),
-        _ => model.total_bytes_lost(),
+        29 => model.total_bytes_lost(),
+        _ => refused(model),
     }
 }
 
@@ -73,8 +76,18 @@ fn read_more(model: NetworkModel, call: u64) -> Number
         35 => model.inflight_lo(),
         36 => model.loss_events_in_round(),
         37 => model.rounds_with_queueing(),
-        _ => model.queueing_threshold_extra_bytes(),
+        38 => model.queueing_threshold_extra_bytes(),
+        _ => refused(model),
     }
+}
+
+// A number that is none of these.
+fn refused(model: NetworkModel) -> Number
+    ensures reply { λ r. ⌜ number (r .reply) ≡ unknownNumber model ⌝ }
+    ensures value { λ r. ⌜ r .value ≡ 0 ⌝ }
+{
+    let reply = unknown(model);
+    Number { reply, value: 0 }
 }
 
 fn bandwidth(read: BandwidthRead) -> Number

@@ -3,11 +3,13 @@ ghost use mathlib.Core.Path.{_≡_};
 ghost use Rattle.filters.specs.Reply.{number};
 ghost use Rattle.model.specs.Answers.{settled};
 ghost use Rattle.calls.specs.Change.{changeOf, changeMore};
+ghost use Rattle.calls.specs.Unknown.{unknownNumber};
+use crate::unknown::unknown;
 use filters::Duration;
 use model::NetworkModel;
 use model::network_model::Changed;
 
-// Calls 8 and 14 to 22; `gain` is n's f32.
+// Calls 8 and 14 to 22; `gain` is n's f32. Any other number is refused.
 pub fn change(model: NetworkModel, call: u64, n: u64, gain: f32) -> Changed
     ensures reply { λ r. ⌜ number (r .reply) ≡ changeOf call n gain model .number ⌝ }
     ensures model { λ r. ⌜ r .model ≡ settled (changeOf call n gain model .number) (changeOf call n gain model .next) model ⌝ }
@@ -32,6 +34,16 @@ fn change_more(model: NetworkModel, call: u64, n: u64) -> Changed
         19 => model.clear_inflight_lo(),
         20 => model.clear_bandwidth_lo(),
         21 => model.advance_max_bandwidth_filter(),
-        _ => model.postpone_min_rtt_timestamp(Duration(n)),
+        22 => model.postpone_min_rtt_timestamp(Duration(n)),
+        _ => refused(model),
     }
+}
+
+// A number that is none of these.
+fn refused(model: NetworkModel) -> Changed
+    ensures reply { λ r. ⌜ number (r .reply) ≡ unknownNumber model ⌝ }
+    ensures model { λ r. ⌜ r .model ≡ model ⌝ }
+{
+    let reply = unknown(model);
+    Changed { reply, model }
 }

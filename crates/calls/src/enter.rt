@@ -2,7 +2,11 @@
 ghost use mathlib.Core.Path.{_≡_};
 ghost use Rattle.filters.specs.Reply.{number};
 ghost use Rattle.model.specs.Answers.{settled};
-ghost use Rattle.calls.specs.Enter.{enterOf};
+ghost use Rattle.calls.specs.Enter.{downAt, enterOf};
+ghost use Rattle.calls.specs.Unknown.{unknownNumber};
+use crate::unknown::unknown;
+use encoding::word::flag_fits;
+use encoding::word::or_outside;
 use filters::Moment;
 use model::NetworkModel;
 use model::Params;
@@ -16,7 +20,7 @@ use phases::phases::enter_probe_up;
 use phases::phases::exit_probe_down;
 use phases::phases::raise_inflight_high_slope;
 
-// Calls 40 to 45, with the numbers that they are given.
+// Calls 40 to 45, with the numbers that they are given. Any other number is refused.
 pub fn enter(
     model: NetworkModel,
     cycle: Cycle,
@@ -31,12 +35,34 @@ pub fn enter(
     ensures cycle { λ r. ⌜ r .cycle ≡ settled (enterOf call a b c model cycle params .number) (enterOf call a b c model cycle params .cycle) cycle ⌝ }
 {
     match call {
-        40 => enter_probe_down(model, cycle, params, a == 1, b == 1, Moment(c)),
+        40 => enter_probe_down(model, cycle, params, a == 1, b == 1, down_at(a, b, c)),
         41 => enter_probe_cruise(model, cycle, Moment(a)),
         42 => enter_probe_refill(model, cycle, a, Moment(b)),
         43 => enter_probe_up(model, cycle, Moment(a), b),
         44 => exit_probe_down(model, cycle),
-        _ => raised(model, raise_inflight_high_slope(cycle, a)),
+        45 => raised(model, raise_inflight_high_slope(cycle, a)),
+        _ => refused(model, cycle),
+    }
+}
+
+// The moment that is given with two flags, out of bounds where these are no writer's.
+fn down_at(a: u64, b: u64, c: u64) -> Moment
+    ensures { λ r. ⌜ r ≡ downAt a b c ⌝ }
+{
+    Moment(or_outside(flag_fits(a) & flag_fits(b), c))
+}
+
+// A number that is none of these.
+fn refused(model: NetworkModel, cycle: Cycle) -> Entered
+    ensures reply { λ r. ⌜ number (r .reply) ≡ unknownNumber model ⌝ }
+    ensures model { λ r. ⌜ r .model ≡ model ⌝ }
+    ensures cycle { λ r. ⌜ r .cycle ≡ cycle ⌝ }
+{
+    let reply = unknown(model);
+    Entered {
+        reply,
+        model,
+        cycle,
     }
 }
 

@@ -4,6 +4,8 @@ ghost use mathlib.Core.Bool.{false};
 ghost use Rattle.filters.specs.Reply.{number};
 ghost use Rattle.model.specs.Answers.{settled};
 ghost use Rattle.calls.specs.Judge.{judgeOf};
+ghost use Rattle.calls.specs.Unknown.{unknownNumber};
+use crate::unknown::unknown;
 use events::Record;
 use events::judge::Decided;
 use model::NetworkModel;
@@ -11,7 +13,7 @@ use model::Params;
 use model::answers::Flag;
 use model::network_model::Changed;
 
-// Calls 5 to 7 and 9; `limit` is the call's number, `gain` its f32.
+// Calls 5 to 7 and 9; `limit` is the call's number, `gain` its f32. Any other number is refused.
 pub fn judge(
     model: NetworkModel,
     params: Params,
@@ -31,7 +33,22 @@ pub fn judge(
             events::is_inflight_too_high(model, params, event, limit),
         ),
         7 => events::has_bandwidth_growth(model, params, event),
-        _ => changed(events::check_persistent_queue(model, params, gain)),
+        9 => changed(events::check_persistent_queue(model, params, gain)),
+        _ => refused(model),
+    }
+}
+
+// A number that is none of these.
+fn refused(model: NetworkModel) -> Decided
+    ensures reply { λ r. ⌜ number (r .reply) ≡ unknownNumber model ⌝ }
+    ensures model { λ r. ⌜ r .model ≡ model ⌝ }
+    ensures yes { λ r. ⌜ r .yes ≡ false ⌝ }
+{
+    let reply = unknown(model);
+    Decided {
+        reply,
+        model,
+        yes: false,
     }
 }
 

@@ -3,3 +3,4 @@ pub mod ask;
 pub mod change;
 pub mod enter;
 pub mod judge;
+mod unknown;

@@ -13,6 +13,12 @@ use Rattle.encoding.proofs.word as words
 pub one-flag-word : OneReply words.flag_word.Reads.Learnt
 one-flag-word κ a x y s t p q = p ∙ sym q
 
+pub one-flag-fits : OneReply words.flag_fits.Reads.Learnt
+one-flag-fits κ a x y s t p q = p ∙ sym q
+
+pub one-or-outside : OneReply words.or_outside.Reads.Learnt
+one-or-outside κ a x y s t p q = p ∙ sym q
+
 pub one-float-of : OneReply words.float_of.Reads.Learnt
 one-float-of κ a x y s t p q = p ∙ sym q
 
@@ -42,6 +48,9 @@ one-state-words κ a x y s t p q = p ∙ sym q
 
 pub one-record-of : OneReply event.record_of.Reads.Learnt
 one-record-of κ a x y s t p q = p ∙ sym q
+
+pub one-record-in : OneReply event.record_in.Reads.Learnt
+one-record-in κ a x y s t p q = p ∙ sym q
 
 pub one-length-of : OneReply event.length_of.Reads.Learnt
 one-length-of κ a x y s t p q = p ∙ sym q

@@ -1,10 +1,11 @@
 -- What is written for a flag, an f32, a phase or a thing that may be unset is read back as it was. Assumes nothing.
-use mathlib.Core.Path.{_≡_, refl, ap, _∙_}
-use mathlib.Core.Bool.{Bool, true, false}
-use native.Mathlib.Nat.{mod-eq-of-lt}
-use lib.Dec.{T}
-use lib.Ieee.{Float, binary32, ofBits, fits}
-use lib.Ieee.Bits.{ofBits-toBits, toBits-lt}
+use Prim.Native.Nat.{ℕ, _^_}
+use mathlib.Core.Path.{_≡_, refl}
+use mathlib.Core.Bool.{Bool, true, false, cond}
+use lib.Dec.{T, ltb}
+use lib.Ieee.{Float, nan, binary32, ofBits, toBits, fits}
+use lib.Ieee.Bits.{ofBits-toBits, ofBits-fits, toBits-lt}
+use borrow.Author.Tests.{lt-ltb}
 use Rattle.filters.specs.declared.round_trip_counter.RoundEnd.{RoundEnd}
 use Rattle.filters.specs.declared.round_trip_counter.RoundEnd.the-variants.{NotSet, At}
 use Rattle.model.specs.declared.state.MaybeBandwidth.{MaybeBandwidth}
@@ -15,18 +16,31 @@ use Rattle.phases.specs.declared.cycle.CyclePhase.the-variants.{NotStarted, Up,
 use Rattle.phases.specs.declared.cycle.MaybeBytes.{MaybeBytes}
 use Rattle.phases.specs.declared.cycle.MaybeBytes.the-variants.{NoBytes, Bytes}
 use Rattle.phases.specs.declared.cycle.MaybeLength as wait
-use Rattle.encoding.specs.Word.{flagWord, flagOf, floatWord, floatOf}
+use Rattle.encoding.specs.Word.{flagWord, flagOf, flagFits, floatWord, floatOf}
 use Rattle.encoding.specs.Maybe.{bandwidthMaybe, bandwidthOf}
 use Rattle.encoding.specs.NetworkModel.{endMaybe, endOf}
 use Rattle.encoding.specs.Cycle.{phaseWord, phaseOf, waitLengthMaybe, waitLengthOf, upBytesMaybe, upBytesOf}
 use Rattle.encoding.specs.Record.{lengthMaybe, lengthOf}
+
+pub flag-written : (yes : Bool) → flagFits (flagWord yes) ≡ true
+flag-written true = refl
+flag-written false = refl
 
 pub flag-back : (yes : Bool) → flagOf (flagWord yes) ≡ yes
 flag-back true = refl
 flag-back false = refl
 
 pub float-back : (x : Float) → T (fits binary32 x) → floatOf (floatWord x) ≡ x
-float-back x h = ap (ofBits binary32) (mod-eq-of-lt (toBits-lt binary32 x h)) ∙ ofBits-toBits binary32 x h
+float-back x h = rw (lt-ltb (toBits binary32 x) (2 ^ 32) (toBits-lt binary32 x h)) (ofBits-toBits binary32 x h)
+
+-- what is read from a word is an f32
+pub float-fits : (w : ℕ) → T (fits binary32 (floatOf w))
+unfolding fits
+float-fits w = go (ltb w (2 ^ 32))
+  where
+    go : (t : Bool) → T (fits binary32 (cond t (ofBits binary32 w) nan))
+    go true = ofBits-fits binary32 w
+    go false = tt
 
 pub phase-back : (p : CyclePhase) → phaseOf (phaseWord p) ≡ p
 phase-back NotStarted = refl

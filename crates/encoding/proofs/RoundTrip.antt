@@ -12,9 +12,9 @@ use Rattle.events.specs.declared.record.Record.{Record}
 use Rattle.phases.specs.declared.cycle.Cycle.{Cycle}
 use Rattle.encoding.specs.NetworkModel.{modelOf, modelWords}
 use Rattle.encoding.specs.Cycle.{cycleOf, cycleWords}
-use Rattle.encoding.specs.Record.{recordFrom, recordOf, recordWords}
+use Rattle.encoding.specs.Record.{recordFits, recordFrom, recordOf, recordWords}
 use Rattle.encoding.specs.RoundTrip.{RoundTrip}
-use Rattle.encoding.proofs.Laws.{flag-back, float-back, phase-back, bandwidth-back, end-back, up-bytes-back, wait-length-back, length-back}
+use Rattle.encoding.proofs.Laws.{flag-written, flag-back, float-back, phase-back, bandwidth-back, end-back, up-bytes-back, wait-length-back, length-back}
 
 model-back : (m : NetworkModel) (c : Cycle) → T (fits binary32 (m .gains .cwnd)) → T (fits binary32 (m .gains .pacing)) → modelOf (modelWords m ++ cycleWords c) ≡ m
 unfolding modelOf modelWords cycleWords
@@ -29,12 +29,12 @@ first : (before l : List ℕ) → getD (before ++ l) (length before) 0 ≡ getD 
 first before l = rw add-zero at (getD-append-add before l 0 0)
 
 record-moved : (before l : List ℕ) → recordFrom (before ++ l) (length before) ≡ recordFrom l 0
-unfolding recordFrom
+unfolding recordFrom recordFits
 record-moved before l = simp (getD-append-add, first)
 
 record-first : (after : List ℕ) (e : Record) → recordFrom (recordWords e ++ after) 0 ≡ e
-unfolding recordFrom recordWords
-record-first after e = simp (bandwidth-back, length-back, flag-back)
+unfolding recordFrom recordFits recordWords
+record-first after e = simp (flag-written, bandwidth-back, length-back, flag-back)
 
 record-back : (before after : List ℕ) (e : Record) → length before ≡ 22 → recordOf (before ++ (recordWords e ++ after)) ≡ e
 record-back before after e h = rw (← h) (record-moved before (recordWords e ++ after) ∙ record-first after e)

@@ -7,3 +7,4 @@ pub mod Record
 pub mod Params
 pub mod Sample
 pub mod RoundTrip
+pub mod Tested

@@ -1,12 +1,14 @@
--- A thing that may be unset, as two words: 1 and the number, or 0 and 0. It is read as set where the first word is 1. Definitions only.
+-- A thing that may be unset, as two words: 1 and the number, or 0 and 0. No writer writes anything else; such a pair is
+-- read as the number `outside`, which is out of bounds wherever a call is given one. Definitions only.
 use Prim.Native.Nat.{ℕ}
-use mathlib.Core.Bool.{cond}
+use mathlib.Core.Bool.{Bool, cond, _&&_}
 use mathlib.Core.List.{List, [], _∷_}
+use lib.Dec.{eqb}
 use Rattle.filters.specs.declared.bandwidth.Bandwidth.{Bandwidth}
 use Rattle.model.specs.declared.state.MaybeBandwidth.{MaybeBandwidth}
 use Rattle.model.specs.declared.state.MaybeBandwidth.the-variants.{Unset, Set}
 use Rattle.encoding.specs.declared.maybe.Maybe.{Maybe}
-use Rattle.encoding.specs.Word.{flagOf}
+use Rattle.encoding.specs.Word.{flagOf, orOutside}
 
 abbrev pub unset : Maybe
 unset = record { set = 0; number = 0 }
@@ -17,9 +19,15 @@ held n = record { set = 1; number = n }
 abbrev pub maybeWords : Maybe → List ℕ
 maybeWords m = m .set ∷ m .number ∷ []
 
--- from two words, what is read where nothing is set and where the number is
-abbrev pub maybeOf : {A : Type 0} → A → (ℕ → A) → ℕ → ℕ → A
-maybeOf none some set n = cond (flagOf set) (some n) none
+abbrev pub isUnset : (set n : ℕ) → Bool
+isUnset set n = eqb set 0 && eqb n 0
+
+abbrev pub numberIn : (set n : ℕ) → ℕ
+numberIn set n = orOutside (flagOf set) n
+
+-- from two words, what is read where nothing is set and where a number is
+abbrev pub maybeOf : {A : Type 0} → A → (ℕ → A) → (set n : ℕ) → A
+maybeOf none some set n = cond (isUnset set n) none (some (numberIn set n))
 
 -- a bandwidth
 abbrev pub bandwidthMaybe : MaybeBandwidth → Maybe

@@ -1,8 +1,9 @@
--- The parameters in words 38 to 48 of a call. Definitions only.
+-- The parameters in words 38 to 48 of a call. A flag that no writer writes makes a length of time that is out of bounds:
+-- "a parameter is outside the bounds below". Definitions only.
 use Prim.Native.Nat.{ℕ}
 use mathlib.Core.List.{List}
 use Rattle.model.specs.declared.params.Params.{Params}
-use Rattle.encoding.specs.Word.{word, flagOf, floatOf}
+use Rattle.encoding.specs.Word.{word, orOutside, flagOf, flagFits, floatOf}
 
 unfoldable pub paramsOf : List ℕ → Params
 paramsOf l =
@@ -15,7 +16,7 @@ paramsOf l =
       pacing = floatOf (word l 43);
       rounds = word l 44;
       queueing = word l 45;
-      period = record { 0 = word l 46 };
+      period = record { 0 = orOutside (flagFits (word l 48)) (word l 46) };
       base = record { 0 = word l 47 };
       ignore = flagOf (word l 48);
     }

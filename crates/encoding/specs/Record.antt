@@ -1,12 +1,14 @@
--- An event's record in 16 words: words 22 to 37 of a call. Definitions only.
-use Prim.Native.Nat.{ℕ, _+_}
+-- An event's record in 16 words: words 22 to 37 of a call. A flag that no writer writes makes a moment that is out of
+-- bounds. Definitions only.
+use Prim.Native.Nat.{ℕ, zero, suc, _+_}
+use mathlib.Core.Bool.{Bool, _&&_}
 use mathlib.Core.List.{List, [], _∷_, _++_}
 use Rattle.events.specs.declared.record.MaybeLength.{MaybeLength}
 use Rattle.events.specs.declared.record.MaybeLength.the-variants.{Missing, Length}
 use Rattle.events.specs.declared.record.Record.{Record}
 use Rattle.events.specs.declared.record.SendState.{SendState}
 use Rattle.encoding.specs.declared.maybe.Maybe.{Maybe}
-use Rattle.encoding.specs.Word.{word, flagWord, flagOf}
+use Rattle.encoding.specs.Word.{word, orOutside, flagWord, flagOf, flagFits}
 use Rattle.encoding.specs.Maybe.{unset, held, maybeWords, maybeOf, bandwidthMaybe, bandwidthOf}
 
 -- sample_min_rtt
@@ -22,10 +24,15 @@ abbrev pub sendStateOf : ℕ → ℕ → ℕ → ℕ → SendState
 sendStateOf valid limited acked inflight = record { valid = flagOf valid; limited = flagOf limited; acked = acked; inflight = inflight }
 
 -- ---- from words: the record whose first word is word i
+-- its four flags: end_of_round_trip, is_probing_for_bandwidth, the send state's is_valid and is_app_limited
+unfoldable pub recordFits : List ℕ → ℕ → Bool
+recordFits l i =
+    flagFits (word l (i + 6)) && flagFits (word l (i + 7)) && flagFits (word l (i + 12)) && flagFits (word l (i + 13))
+
 unfoldable pub recordFrom : List ℕ → ℕ → Record
 recordFrom l i =
     record {
-      time = record { 0 = word l i };
+      time = record { 0 = orOutside (recordFits l i) (word l i) };
       window = word l (i + 1);
       prior = word l (i + 2);
       inflight = word l (i + 3);
@@ -40,6 +47,14 @@ recordFrom l i =
 
 abbrev pub recordOf : List ℕ → Record
 recordOf l = recordFrom l 22
+
+-- the words of a call's record as they were handed in
+unfoldable pub wordsFrom : List ℕ → ℕ → ℕ → List ℕ
+wordsFrom l i zero = []
+wordsFrom l i (suc n) = word l i ∷ wordsFrom l (i + 1) n
+
+abbrev pub recordIn : List ℕ → List ℕ
+recordIn l = wordsFrom l 22 16
 
 -- ---- into words
 unfoldable pub recordWords : Record → List ℕ

@@ -1,11 +1,18 @@
--- What an event's call is given: the sampler's answer in words 1 to 17 of the call, the acked packets' numbers in 18 to 21. Definitions only.
-use Prim.Native.Nat.{ℕ, _%_}
+-- What an event's call is given: the sampler's answer in words 1 to 17 of the call, the acked packets' numbers in 18 to
+-- 21. A flag that no writer writes, and a count above the room, make the extra acked bytes out of bounds. Definitions only.
+use Prim.Native.Nat.{ℕ, min}
+use mathlib.Core.Bool.{Bool, _&&_}
 use mathlib.Core.List.{List, [], _∷_}
+use lib.Dec.{leb}
 use lib.ListN.{take}
 use Rattle.events.specs.declared.record.Sample.{Sample}
-use Rattle.encoding.specs.Word.{word, flagOf}
+use Rattle.encoding.specs.Word.{word, orOutside, flagOf, flagFits}
 use Rattle.encoding.specs.Maybe.{bandwidthOf}
 use Rattle.encoding.specs.Record.{lengthOf, sendStateOf}
+
+-- its three flags, sample_is_app_limited and the send state's is_valid and is_app_limited; the count of acked numbers
+unfoldable pub sampleFits : List ℕ → Bool
+sampleFits l = flagFits (word l 7) && flagFits (word l 12) && flagFits (word l 13) && leb (word l 18) 3
 
 unfoldable pub sampleOf : List ℕ → Sample
 sampleOf l =
@@ -16,14 +23,14 @@ sampleOf l =
       limited = flagOf (word l 7);
       rtt = lengthOf (word l 8) (word l 9);
       inflight = word l 10;
-      extra = word l 11;
+      extra = orOutside (sampleFits l) (word l 11);
       state = sendStateOf (word l 12) (word l 13) (word l 14) (word l 15);
       totals = record { acked = word l 16; lost = word l 17 };
     }
 
 -- the first of three numbers, as many as word 18 says, 0 to 3
 abbrev pub ackedCount : List ℕ → ℕ
-ackedCount l = word l 18 % 4
+ackedCount l = min (word l 18) 3
 
 abbrev pub ackedNumbers : List ℕ → List ℕ
 ackedNumbers l = word l 19 ∷ word l 20 ∷ word l 21 ∷ []

@@ -4,6 +4,8 @@ ghost use mathlib.Core.List.{[], _∷_};
 ghost use lib.Seq.{sets};
 ghost use Rattle.encoding.specs.Cycle.{phaseOf, phaseWord, waitLengthOf, waitLengthMaybe, upBytesOf, upBytesMaybe, stayOf, waitOf, slopeOf, cycleOf, timesWords, slopeWords, marksWords, cycleWords};
 use crate::maybe::Maybe;
+use crate::maybe::is_unset;
+use crate::maybe::number_in;
 use crate::word::flag_word;
 use filters::Duration;
 use filters::Moment;
@@ -70,10 +72,10 @@ fn wait_of(n: &[u64; 50]) -> Wait
 fn wait_length_of(set: u64, number: u64) -> MaybeLength
     ensures { λ r. ⌜ r ≡ waitLengthOf set number ⌝ }
 {
-    if set == 1 {
-        MaybeLength::Length(Duration(number))
-    } else {
+    if is_unset(set, number) {
         MaybeLength::NoLength
+    } else {
+        MaybeLength::Length(Duration(number_in(set, number)))
     }
 }
 
@@ -91,10 +93,10 @@ fn slope_of(n: &[u64; 50]) -> Slope
 fn up_bytes_of(set: u64, number: u64) -> MaybeBytes
     ensures { λ r. ⌜ r ≡ upBytesOf set number ⌝ }
 {
-    if set == 1 {
-        MaybeBytes::Bytes(number)
-    } else {
+    if is_unset(set, number) {
         MaybeBytes::NoBytes
+    } else {
+        MaybeBytes::Bytes(number_in(set, number))
     }
 }
 

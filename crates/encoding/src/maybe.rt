@@ -1,6 +1,7 @@
 // A thing that may be unset, as two words.
 ghost use mathlib.Core.Path.{_≡_};
-ghost use Rattle.encoding.specs.Maybe.{bandwidthOf, bandwidthMaybe};
+ghost use Rattle.encoding.specs.Maybe.{isUnset, numberIn, bandwidthOf, bandwidthMaybe};
+use crate::word::or_outside;
 use filters::Bandwidth;
 use model::state::MaybeBandwidth;
 
@@ -10,14 +11,28 @@ pub struct Maybe {
     pub number: u64,
 }
 
+// Whether two words are 0 and 0.
+pub(crate) fn is_unset(set: u64, number: u64) -> bool
+    ensures { λ r. ⌜ r ≡ isUnset set number ⌝ }
+{
+    (set == 0) & (number == 0)
+}
+
+// The number in two words, out of bounds where they are no writer's.
+pub(crate) fn number_in(set: u64, number: u64) -> u64
+    ensures { λ r. ⌜ r ≡ numberIn set number ⌝ }
+{
+    or_outside(set == 1, number)
+}
+
 // The bandwidth in two words.
 pub fn bandwidth_of(set: u64, number: u64) -> MaybeBandwidth
     ensures { λ r. ⌜ r ≡ bandwidthOf set number ⌝ }
 {
-    if set == 1 {
-        MaybeBandwidth::Set(Bandwidth(number))
-    } else {
+    if is_unset(set, number) {
         MaybeBandwidth::Unset
+    } else {
+        MaybeBandwidth::Set(Bandwidth(number_in(set, number)))
     }
 }
 

@@ -7,6 +7,8 @@ ghost use Rattle.encoding.specs.NetworkModel.{endOf, endMaybe, roundsOf,
 use crate::maybe::Maybe;
 use crate::maybe::bandwidth_maybe;
 use crate::maybe::bandwidth_of;
+use crate::maybe::is_unset;
+use crate::maybe::number_in;
 use crate::word::flag_word;
 use crate::word::float_of;
 use crate::word::float_word;
@@ -74,10 +76,10 @@ fn rounds_of(n: &[u64; 50]) -> RoundTripCounter
 fn end_of(set: u64, number: u64) -> RoundEnd
     ensures { λ r. ⌜ r ≡ endOf set number ⌝ }
 {
-    if set == 1 {
-        RoundEnd::At(number)
-    } else {
+    if is_unset(set, number) {
         RoundEnd::NotSet
+    } else {
+        RoundEnd::At(number_in(set, number))
     }
 }
 

@@ -1,7 +1,9 @@
 // The parameters: words 38 to 48 of a call.
 ghost use mathlib.Core.Path.{_≡_};
 ghost use Rattle.encoding.specs.Params.{paramsOf};
+use crate::word::flag_fits;
 use crate::word::float_of;
+use crate::word::or_outside;
 use filters::Duration;
 use model::Params;
 
@@ -18,7 +20,7 @@ pub fn params_of(n: &[u64; 49]) -> Params
         pacing: float_of(n[43]),
         rounds: n[44],
         queueing: n[45],
-        period: Duration(n[46]),
+        period: Duration(or_outside(flag_fits(n[48]), n[46])),
         base: Duration(n[47]),
         ignore: n[48] == 1,
     }

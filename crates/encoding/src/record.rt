@@ -1,10 +1,14 @@
 // An event's record: words 22 to 37 of a call, and 16 words of an answer.
 ghost use mathlib.Core.Path.{_≡_};
-ghost use Rattle.encoding.specs.Record.{lengthOf, lengthMaybe, sendStateOf, recordOf, recordWords};
+ghost use Rattle.encoding.specs.Record.{lengthOf, lengthMaybe, sendStateOf, recordFits, recordOf, recordIn, recordWords};
 use crate::maybe::Maybe;
 use crate::maybe::bandwidth_maybe;
 use crate::maybe::bandwidth_of;
+use crate::maybe::is_unset;
+use crate::maybe::number_in;
+use crate::word::flag_fits;
 use crate::word::flag_word;
+use crate::word::or_outside;
 use events::Record;
 use events::record::MaybeLength;
 use events::record::SendState;
@@ -18,7 +22,7 @@ pub fn record_of(n: &[u64; 49]) -> Record
     ensures { λ r. ⌜ r ≡ recordOf (now (n .entry)) ⌝ }
 {
     Record {
-        time: Moment(n[22]),
+        time: Moment(or_outside(record_fits(n), n[22])),
         window: n[23],
         prior: n[24],
         inflight: n[25],
@@ -32,14 +36,45 @@ pub fn record_of(n: &[u64; 49]) -> Record
     }
 }
 
+// Whether a writer writes the record's four flags.
+fn record_fits(n: &[u64; 49]) -> bool
+    ensures { λ r. ⌜ r ≡ recordFits (now (n .entry)) 22 ⌝ }
+{
+    flag_fits(n[28]) & flag_fits(n[29]) & flag_fits(n[34]) & flag_fits(n[35])
+}
+
+// The record's words as they are.
+pub fn record_in(n: &[u64; 49]) -> [u64; 16]
+    ensures { λ r. ⌜ r ≡ recordIn (now (n .entry)) ⌝ }
+{
+    [
+        n[22],
+        n[23],
+        n[24],
+        n[25],
+        n[26],
+        n[27],
+        n[28],
+        n[29],
+        n[30],
+        n[31],
+        n[32],
+        n[33],
+        n[34],
+        n[35],
+        n[36],
+        n[37],
+    ]
+}
+
 // The length of time in two words.
 pub fn length_of(set: u64, number: u64) -> MaybeLength
     ensures { λ r. ⌜ r ≡ lengthOf set number ⌝ }
 {
-    if set == 1 {
-        MaybeLength::Length(Duration(number))
-    } else {
+    if is_unset(set, number) {
         MaybeLength::Missing
+    } else {
+        MaybeLength::Length(Duration(number_in(set, number)))
     }
 }
 

@@ -1,6 +1,6 @@
 // One word: a flag, an f32.
 ghost use mathlib.Core.Path.{_≡_};
-ghost use Rattle.encoding.specs.Word.{flagWord, floatWord, floatOf};
+ghost use Rattle.encoding.specs.Word.{outside, orOutside, flagWord, flagFits, floatWord, floatOf};
 use words::float_bits::f32_bits;
 use words::float_bits::f32_of;
 
@@ -11,11 +11,29 @@ pub fn flag_word(yes: bool) -> u64
     if yes { 1 } else { 0 }
 }
 
-// The f32 whose pattern is the word's low 32 bits.
+// Whether a writer writes the word for a flag.
+pub fn flag_fits(word: u64) -> bool
+    ensures { λ r. ⌜ r ≡ flagFits word ⌝ }
+{
+    word <= 1
+}
+
+// The number; out of bounds where the words it is given with are no writer's.
+pub fn or_outside(fits: bool, number: u64) -> u64
+    ensures { λ r. ⌜ r ≡ orOutside fits number ⌝ }
+{
+    if fits { number } else { 0xffff_ffff_ffff_ffff }
+}
+
+// The f32 of a pattern of 32 bits, the NaN for more.
 pub fn float_of(word: u64) -> f32
     ensures { λ r. ⌜ r ≡ floatOf word ⌝ }
 {
-    f32_of((word % 0x1_0000_0000) as u32)
+    if word < 0x1_0000_0000 {
+        f32_of(word as u32)
+    } else {
+        0.0 / 0.0
+    }
 }
 
 // The pattern of x.

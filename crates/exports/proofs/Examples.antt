@@ -10,10 +10,10 @@ use Rattle.encoding.specs.NetworkModel.{modelOf, modelWords}
 use Rattle.encoding.specs.Cycle.{cycleOf, cycleWords}
 use Rattle.exports.specs.Examples.{exportExamples}
 use Rattle.exports.specs.FilterRun.{afterPair, refuses, samples, samplesOf, runRow, runOut}
-use Rattle.exports.specs.ModelRun.{sameWords, isState, encodesNone, hasUnknown, answersTo, leftBy, answersFrom, wordsLeft, modelRow, answersOut, stateOut}
+use Rattle.exports.specs.ModelRun.{sameWords, isState, encodesNone, answersTo, leftBy, answersFrom, wordsLeft, modelRow, answersOut, stateOut}
 use Rattle.exports.specs.Reply.{orShort, answered}
 use Rattle.exports.specs.Slope.{slopeRow, slopeWords, slopeOut}
 
 pub export-examples : all exportExamples ≡ true
-unfolding all exportExamples isReplaced raised shifted lingers renewed aged windowedNumber windowedUpdate numberAt lowBytes allBytes afterPair refuses samples samplesOf runRow runOut rowOf orShort answered slopeRow slopeWords slopeOut modelRow encodesNone isState sameWords hasUnknown wordsAt modelOf modelWords cycleOf cycleWords leftBy wordsLeft answersTo answersFrom stateOut answersOut toBits ofBits
+unfolding all exportExamples isReplaced raised shifted lingers renewed aged windowedNumber windowedUpdate numberAt lowBytes allBytes afterPair refuses samples samplesOf runRow runOut rowOf orShort answered slopeRow slopeWords slopeOut modelRow encodesNone isState sameWords wordsAt modelOf modelWords cycleOf cycleWords leftBy wordsLeft answersTo answersFrom stateOut answersOut toBits ofBits
 export-examples = refl

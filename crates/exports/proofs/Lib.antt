@@ -5,3 +5,4 @@ pub mod Rows
 pub mod ModelRun
 pub mod Run
 pub mod Times
+pub mod Fits

@@ -7,13 +7,15 @@ use native.Mathlib.Nat.{add-zero}
 use native.Mathlib.Omega.{arith}
 use lib.Dec.{T, eqb, ltb, leb}
 use lib.Ieee.{binary32, fits}
-use lib.Ieee.Bits.{ofBits-fits}
 use lib.ListN.{length, getD}
 use lib.Seq.{sets}
 use borrow.Author.Tests.{ltb-false, eqb-true, not-false, ne-eqb}
 use Rattle.model.specs.declared.network_model.NetworkModel.{NetworkModel}
+use Rattle.model.specs.Answers.{settled}
 use Rattle.model.specs.Bounds.{modelOk}
 use Rattle.model.proofs.Rows.{none, or-left}
+use Rattle.events.specs.declared.record.Record.{Record}
+use Rattle.events.specs.Event.{recordNext}
 use Rattle.laws.proofs.Tested.{sent-same, start-same, finish-same}
 use Rattle.phases.specs.declared.cycle.Cycle.{Cycle}
 use Rattle.words.specs.Words.{word, allBytes}
@@ -22,26 +24,16 @@ use Rattle.words.proofs.Laws.{allBytes-append, length-allBytes, getD-wordsAt}
 use Rattle.encoding.specs.NetworkModel.{modelOf}
 use Rattle.encoding.specs.Cycle.{cycleOf}
 use Rattle.encoding.specs.Params.{paramsOf}
-use Rattle.encoding.specs.Record.{recordWords}
+use Rattle.encoding.specs.Record.{recordOf, wordsFrom, recordIn, recordWords}
+use Rattle.encoding.specs.Sample.{sampleOf, ackedOf}
 use Rattle.encoding.specs.RoundTrip.{RoundTrip}
 use Rattle.encoding.proofs.RoundTrip.{round-trip}
+use Rattle.encoding.proofs.Laws.{float-fits}
 use Rattle.turns.specs.declared.turn.Turn.{Turn}
-use Rattle.turns.specs.Turn.{isCall, isJudged, isAsked, noRecord, sendNumber, sendLeaves, startedNumber, startedLeaves, startedRecord, finishedNumber, finishedLeaves, startTurn, sendTurn, eventTurn, finishTurn, judgeTurn, askTurn, enterTurn, changeTurn, otherTurn, turnOf}
-use Rattle.exports.specs.ModelRun.{sameWords, stateIn, callsIn, hasUnknown, callAt, turnAt, answerWords, answersTo, leftBy, wordsLeft, modelRow}
+use Rattle.turns.specs.Turn.{isJudged, isAsked, noRecord, sendNumber, sendLeaves, startedNumber, startedLeaves, startedWords, finishedNumber, finishedLeaves, startTurn, sendTurn, eventTurn, finishTurn, judgeTurn, askTurn, enterTurn, changeTurn, turnOf}
+use Rattle.turns.specs.Parts.{otherTurn}
+use Rattle.exports.specs.ModelRun.{stateIn, callsIn, callAt, turnAt, answerWords, answersTo, leftBy, wordsLeft, modelRow}
 use Rattle.exports.proofs.Rows.{done-room, done-first}
-
--- ---- two states, word by word
-module _ (a b : List ℕ) (i : ℕ) (h : i < 50) where
-  left-of-50 : 50 - i ≡ suc (50 - (i + 1))
-  left-of-50 = omega arith
-
-  pub differ-now : {end : Bool} → eqb (getD a i 0) (getD b i 0) ≡ false → sameWords a b i (50 - i) ≡ end → false ≡ end
-  unfolding sameWords
-  differ-now d e = rw d at (rw left-of-50 at e)
-
-  pub differ-later : {end : Bool} → eqb (getD a i 0) (getD b i 0) ≡ true → sameWords a b i (50 - i) ≡ end → sameWords a b (i + 1) (50 - (i + 1)) ≡ end
-  unfolding sameWords
-  differ-later d e = rw d at (rw left-of-50 at e)
 
 -- ---- lengths
 either : (b : Bool) (s t : Turn) → length (s .event) ≡ 16 → length (t .event) ≡ 16 → length (cond b s t .event) ≡ 16
@@ -60,15 +52,23 @@ length-other w m y =
     (either (isAsked call) (askTurn w m y) more refl
     (either (leb 40 call) (enterTurn w m y) (changeTurn w m y) refl refl)))
 
+length-started : (w : List ℕ) (m : NetworkModel) → length (startedWords w m) ≡ 16
+unfolding settled wordsFrom
+length-started w m = go (eqb (startedNumber w m) 0)
+  where
+    go : (t : Bool) → length (cond t (recordWords (recordNext m (recordOf w) (sampleOf w) (ackedOf w))) (recordIn w)) ≡ 16
+    go true = round-trip .recordLength (recordNext m (recordOf w) (sampleOf w) (ackedOf w))
+    go false = refl
+
 length-event : (m : NetworkModel) (y : Cycle) (src : List ℕ) (at : ℕ) → length (turnAt m y src at .event) ≡ 16
-unfolding turnAt turnOf sendTurn eventTurn finishTurn
+unfolding turnAt turnOf otherTurn sendTurn eventTurn finishTurn
 length-event m y src at =
     let w = callAt src at in
     let call = getD w 0 0 in
     let ends = cond (eqb call 4) (finishTurn w m y) (otherTurn w m y) in
     let starts = cond (eqb call 3) (eventTurn w m y) ends in
     either (eqb call 1) (sendTurn w m y) starts refl
-    (either (eqb call 3) (eventTurn w m y) ends (round-trip .recordLength (startedRecord w m))
+    (either (eqb call 3) (eventTurn w m y) ends (length-started w m)
     (either (eqb call 4) (finishTurn w m y) (otherTurn w m y) refl (length-other w m y)))
 
 length-left : (m : NetworkModel) (y : Cycle) (src : List ℕ) (at n : ℕ) → length (leftBy m y src at n) ≡ 50
@@ -84,6 +84,15 @@ length-answer : (m : NetworkModel) (y : Cycle) (src : List ℕ) (at : ℕ) → l
 unfolding answerWords
 length-answer m y src at = length-allBytes (answerWords (turnAt m y src at)) ∙ rw (length-event m y src at)
 
+-- an event's record, by its reply
+pub left-by : (k n : ℕ) (e next old : Record) (given : List ℕ) → k ≡ n → e ≡ settled n next old → settled k (recordWords e) given ≡ settled n (recordWords next) given
+unfolding settled
+left-by k n e next old given p q = rw (p, q) (go (eqb n 0))
+  where
+    go : (t : Bool) → cond t (recordWords (cond t next old)) given ≡ cond t (recordWords next) given
+    go true = refl
+    go false = refl
+
 -- ---- calls
 module _ (src : List ℕ) (i count : ℕ) (h : i < count) where
   left : count - i ≡ suc (count - (i + 1))
@@ -91,18 +100,6 @@ module _ (src : List ℕ) (i count : ℕ) (h : i < count) where
 
   next : 392 * (i + 1) ≡ 392 * i + 392
   next = omega arith
-
-  -- a number that is no call's
-  pub unknown-now : {end : Bool} → isCall (word src (392 * i)) ≡ false → hasUnknown src (392 * i) (count - i) ≡ end → true ≡ end
-  unfolding hasUnknown
-  unknown-now d e = rw d at (rw left at e)
-
-  -- one that is
-  pub unknown-later :
-      {end : Bool} → isCall (word src (392 * i)) ≡ true → hasUnknown src (392 * i) (count - i) ≡ end →
-      hasUnknown src (392 * (i + 1)) (count - (i + 1)) ≡ end
-  unfolding hasUnknown
-  unknown-later d e = rw next (rw d at (rw left at e))
 
   -- a call, carried out
   pub left-later :
@@ -123,10 +120,15 @@ module _ (src : List ℕ) (i count : ℕ) (h : i < count) where
       let step : 144 * (i + 1) ≡ 144 * i + length answer = rw (length-answer m y src (392 * i)) (omega arith) in
       rw (next, step) (sets-append l (144 * i) answer (allBytes more) ∙ ap (sets l (144 * i)) (sym (allBytes-append (answerWords t) more)) ∙ rw left at e)
 
--- beta is read from 32 bits, so the format holds it
+-- beta is read as an f32
 beta-fits : (w : List ℕ) → T (fits binary32 (paramsOf w .beta))
 unfolding paramsOf
-beta-fits w = ofBits-fits binary32 (getD w 38 0 % 2 ^ 32)
+beta-fits w = float-fits (getD w 38 0)
+
+-- a call that is none of 1, 3 and 4
+other-at : (w : List ℕ) (m : NetworkModel) (y : Cycle) → (getD w 0 0 ≡ 1 → ⊥) → (getD w 0 0 ≡ 3 → ⊥) → (getD w 0 0 ≡ 4 → ⊥) → turnOf w m y ≡ otherTurn w m y
+unfolding turnOf otherTurn
+other-at w m y f g h = rw (ne-eqb _ 1 f, ne-eqb _ 3 g, ne-eqb _ 4 h)
 
 -- ---- one call, by its number: the bytes with its answer, the state that it leaves, and whether the model is within its bounds
 module _ (m : NetworkModel) (y : Cycle) (src : List ℕ) (at : ℕ) (out : List ℕ) (to : ℕ) (out′ : List ℕ) (m′ : NetworkModel) (y′ : Cycle) (fine′ : Bool) where
@@ -148,7 +150,7 @@ module _ (m : NetworkModel) (y : Cycle) (src : List ℕ) (at : ℕ) (out : List 
   unfolding turnAt turnOf sendTurn answerWords
   by-send e p q f r = rw (number-at e) (r, p, q, still p (sent-same m _ _ _ _) f)
 
-  pub by-start : word src at ≡ 3 → m′ ≡ startedLeaves (callAt src at) m → y′ ≡ y → fine′ ≡ modelOk m → out′ ≡ sets out to (allBytes (startedNumber (callAt src at) m ∷ 0 ∷ recordWords (startedRecord (callAt src at) m))) → Carried
+  pub by-start : word src at ≡ 3 → m′ ≡ startedLeaves (callAt src at) m → y′ ≡ y → fine′ ≡ modelOk m → out′ ≡ sets out to (allBytes (startedNumber (callAt src at) m ∷ 0 ∷ startedWords (callAt src at) m)) → Carried
   unfolding turnAt turnOf eventTurn answerWords
   by-start e p q f r = rw (number-at e) (r, p, q, still p (start-same m _ _ _ _ (beta-fits (callAt src at))) f)
 
@@ -159,9 +161,12 @@ module _ (m : NetworkModel) (y : Cycle) (src : List ℕ) (at : ℕ) (out : List 
   pub by-other :
       {n : ℕ} {t : Turn} → n ≡ word src at → (n ≡ 1 → ⊥) → (n ≡ 3 → ⊥) → (n ≡ 4 → ⊥) →
       t ≡ otherTurn (callAt src at) m y → m′ ≡ t .model → y′ ≡ t .cycle → fine′ ≡ modelOk (t .model) → out′ ≡ sets out to (allBytes (answerWords (otherTurn (callAt src at) m y))) → Carried
-  unfolding turnAt turnOf
+  unfolding turnAt
   by-other e f g h k p q b r =
-      rw (number-at (sym e), ne-eqb _ 1 f, ne-eqb _ 3 g, ne-eqb _ 4 h) (r, p ∙ ap (λ (t : Turn). t .model) k, q ∙ ap (λ (t : Turn). t .cycle) k, b ∙ sym (ap modelOk p))
+      let number = sym (number-at (sym e)) in
+      let same : otherTurn (callAt src at) m y ≡ turnAt m y src at = sym (other-at (callAt src at) m y (λ x. f (number ∙ x)) (λ x. g (number ∙ x)) (λ x. h (number ∙ x))) in
+      let turn = k ∙ same in
+      (r ∙ ap (λ (t : Turn). sets out to (allBytes (answerWords t))) same, p ∙ ap (λ (t : Turn). t .model) turn, q ∙ ap (λ (t : Turn). t .cycle) turn, b ∙ sym (ap modelOk p))
 
 -- ---- what a run that is done has been lent
 pub run-room : (state src : List ℕ) (room : ℕ) → eqb (modelRow state src room) 0 ≡ true → 144 * callsIn src ≤ room

@@ -33,7 +33,7 @@ falling = allBytes (0 ∷ 5 ∷ 2 ∷ 1 ∷ 1 ∷ 1 ∷ [])
 abbrev pub refused : List ℕ
 refused = allBytes (3 ∷ 5 ∷ 2 ∷ 5 ∷ [])
 
--- a state of zeros, in which every call is refused; the same with one word that encodes nothing
+-- a state of zeros, in which every call is refused; the same with one word put anew
 abbrev pub zeros : ℕ → List ℕ
 zeros n = replicate n 0
 
@@ -85,15 +85,14 @@ exportExamples =
     ∷ eqb (modelRow (states 19 2_143_289_344) [] 0) 0
     ∷ eqb (modelRow (states 34 5) [] 0) 1
     ∷ eqb (modelRow (states 34 4) [] 0) 0
-    -- lengths that are wrong, unknown calls, and rows that overlap
+    -- lengths that are wrong, and rows that overlap
     ∷ eqb (modelRow (zeros 399) [] 0) 2
     ∷ eqb (modelRow (zeros 401) [] 0) 2
     ∷ eqb (modelRow (zeros 400) (take 391 (call 12)) 144) 2
-    ∷ eqb (modelRow (zeros 400) (call 2) 144) 2
-    ∷ eqb (modelRow (zeros 400) (call 39) 144) 2
-    ∷ eqb (modelRow (zeros 400) (call 46) 144) 2
-    ∷ eqb (modelRow (zeros 400) (call 12 ++ call 46) 0) 2
-    ∷ eqb (modelRow (states 12 2) (call 46) 0) 1
+    ∷ eqb (modelRow (states 12 2) (take 391 (call 12)) 0) 1
+    -- a number that is no call's does not refuse the run: its call is refused (crates/turns/specs/Examples.antt)
+    ∷ eqb (modelRow (zeros 400) (call 2) 144) 0
+    ∷ eqb (modelRow (zeros 400) (call 12 ++ call 46) 288) 0
     -- a byte is missing for an answer: nothing is written
     ∷ eqb (modelRow (zeros 400) (call 45 ++ call 12) 288) 0
     ∷ eqb (modelRow (zeros 400) (call 45 ++ call 12) 287) 7

@@ -11,7 +11,7 @@ use Rattle.words.specs.Words.{word, wordsAt}
 use Rattle.encoding.specs.NetworkModel.{modelOf, modelWords}
 use Rattle.encoding.specs.Cycle.{cycleOf, cycleWords}
 use Rattle.turns.specs.declared.turn.Turn.{Turn}
-use Rattle.turns.specs.Turn.{isCall, turnOf}
+use Rattle.turns.specs.Turn.{turnOf}
 use Rattle.exports.specs.Reply.{orShort, answered}
 
 -- a state has 50 words, 400 bytes
@@ -38,11 +38,6 @@ encodesNone s = eqb (length s) 400 && not (isState (stateIn s))
 -- how many calls there are: a call has 49 words, 392 bytes
 abbrev pub callsIn : List ℕ → ℕ
 callsIn src = length src / 392
-
--- reply 2: "a call's number is none", one of the n calls from an index on
-unfoldable pub hasUnknown : List ℕ → ℕ → ℕ → Bool
-hasUnknown src at zero = false
-hasUnknown src at (suc n) = not (isCall (word src at)) || hasUnknown src (at + 392) n
 
 -- the words of the call at an index
 abbrev pub callAt : List ℕ → ℕ → List ℕ
@@ -76,7 +71,8 @@ wordsLeft state src = leftBy (modelOf (stateIn state)) (cycleOf (stateIn state))
 -- docs/LAYOUT.md, "What the run itself replies", rows 1, 2 and 7: "Of several the lowest is given; then no byte is written"
 unfoldable pub modelRow : (state src : List ℕ) (room : ℕ) → ℕ
 modelRow state src room =
-    orShort (rowOf (encodesNone state) (not (eqb (length state) 400) || (not (eqb (length src % 392) 0) || hasUnknown src 0 (callsIn src))) false false false) (ltb room (144 * callsIn src))
+    orShort (rowOf (encodesNone state) (not (eqb (length state) 400) || not (eqb (length src % 392) 0)) false false false)
+    (ltb room (144 * callsIn src))
 
 unfoldable pub answersOut : (state src out : List ℕ) → List ℕ
 answersOut state src out = answered (modelRow state src (length out)) (answersFrom state src) out

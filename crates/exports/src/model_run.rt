@@ -5,7 +5,8 @@ ghost use lib.ListN.{length};
 ghost use lib.Seq.{sets};
 ghost use Rattle.filters.specs.Reply.{number};
 ghost use Rattle.words.specs.Words.{allBytes};
-ghost use Rattle.exports.specs.ModelRun.{sameWords, stateIn, isState, encodesNone, callsIn, hasUnknown, answersTo, leftBy, answersFrom, wordsLeft, modelRow, stateOut, answersOut};
+ghost use Rattle.exports.specs.ModelRun.{stateIn, encodesNone, callsIn, answersTo, leftBy, answersFrom, wordsLeft, modelRow, stateOut, answersOut};
+use crate::form::is_state;
 use crate::one_call::end;
 use crate::one_call::other;
 use crate::one_call::send;
@@ -18,14 +19,13 @@ use filters::Reply;
 use model::NetworkModel;
 use model::bounds::refusal;
 use phases::Cycle;
-use turns::turn::is_call;
 use words::get_word;
 use words::get_words;
 use words::put_words;
 
 // Carries out the calls in order, answers each and leaves the new state: 1 for bytes that encode no
-// state, 2 for a length that is none of a state's or of whole calls, and for an unknown call, 7 for
-// answers under 144 bytes a call.
+// state, 2 for a length that is none of a state's or of whole calls, 7 for answers under 144 bytes a
+// call.
 #[no_mangle]
 pub extern "C" fn guovssalu_run(state: &mut [u8], calls: &[u8], answers: &mut [u8]) -> u64
     ensures { λ r. ⌜ r ≡ modelRow (now (state .entry)) (now (calls .entry)) (length (now (answers .entry))) ⌝ }
@@ -44,7 +44,7 @@ pub extern "C" fn guovssalu_run(state: &mut [u8], calls: &[u8], answers: &mut [u
 fn model_reply(state: &[u8], calls: &[u8], room: usize) -> Reply
     ensures { λ r. ⌜ number r ≡ modelRow (now (state .entry)) (now (calls .entry)) room ⌝ }
 {
-    let uneven = (state.len() != 400) | ((calls.len() % 392 != 0) | has_unknown(calls));
+    let uneven = (state.len() != 400) | (calls.len() % 392 != 0);
     let reply = refusal(encodes_none(state), uneven, false, false, false);
     or_short(reply, room < 144 * (calls.len() / 392))
 }
@@ -68,43 +68,6 @@ fn state_in(state: &[u8]) -> [u64; 50]
     let mut words = [0u64; 50];
     get_words(state, 0, &mut words);
     words
-}
-
-// Whether the state that the words are read as is written in the same words.
-fn is_state(words: &[u64; 50]) -> bool
-    ensures { λ r. ⌜ r ≡ isState (now (words .entry)) ⌝ }
-{
-    let again = state_words(model_of(words), cycle_of(words));
-    are_same(&again, words)
-}
-
-fn are_same(a: &[u64; 50], b: &[u64; 50]) -> bool
-    ensures { λ r. ⌜ r ≡ sameWords (now (a .entry)) (now (b .entry)) 0 50 ⌝ }
-{
-    let mut i = 0;
-    while i < 50 {
-        if a[i] != b[i] {
-            return false;
-        }
-        i += 1;
-    }
-    true
-}
-
-// Whether a number is no call's.
-fn has_unknown(calls: &[u8]) -> bool
-    ensures { λ r. ⌜ r ≡ hasUnknown (now (calls .entry)) 0 (callsIn (now (calls .entry))) ⌝ }
-{
-    let count = calls.len() / 392;
-    let mut i = 0;
-    while i < count {
-        let call = get_word(calls, 392 * i);
-        if !is_call(call) {
-            return true;
-        }
-        i += 1;
-    }
-    false
 }
 
 // Carries out the calls from a state, writes their answers, and gives the words of the state that they leave.

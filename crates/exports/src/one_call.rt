@@ -8,11 +8,17 @@ ghost use lib.ListN.{length};
 ghost use lib.Seq.{sets};
 ghost use Rattle.model.specs.Bounds.{modelOk};
 ghost use Rattle.words.specs.Words.{allBytes};
-ghost use Rattle.encoding.specs.Record.{recordWords};
-ghost use Rattle.turns.specs.Turn.{noRecord, sendNumber, sendLeaves, startedNumber, startedLeaves, startedRecord, finishedNumber, finishedLeaves, otherTurn};
+ghost use Rattle.filters.specs.Reply.{number};
+ghost use Rattle.model.specs.Answers.{settled};
+ghost use Rattle.encoding.specs.Record.{recordIn, recordWords};
+ghost use Rattle.turns.specs.Turn.{noRecord, sendNumber, sendLeaves, startedNumber, startedLeaves, startedWords, finishedNumber, finishedLeaves};
+ghost use Rattle.turns.specs.Parts.{otherTurn};
 ghost use Rattle.exports.specs.ModelRun.{callAt, answerWords};
+use encoding::record::record_in;
 use encoding::record::record_words;
+use events::Record;
 use filters::Moment;
+use filters::Reply;
 use model::NetworkModel;
 use phases::Cycle;
 use turns::turn::Turn;
@@ -58,14 +64,31 @@ pub(crate) fn start(
 ) -> NetworkModel
     requires { ⌜ (at + 392 ≤ length (now calls)) × (to + 144 ≤ length (now answers)) × (fine ≡ modelOk model) ⌝ }
     ensures { λ r. ⌜ r ≡ startedLeaves (callAt (now (calls .entry)) at) model ⌝ }
-    ensures { λ _. ⌜ now (answers .exit) ≡ sets (now (answers .entry)) to (allBytes (startedNumber (callAt (now (calls .entry)) at) model ∷ 0 ∷ recordWords (startedRecord (callAt (now (calls .entry)) at) model))) ⌝ }
+    ensures { λ _. ⌜ now (answers .exit) ≡ sets (now (answers .entry)) to (allBytes (startedNumber (callAt (now (calls .entry)) at) model ∷ 0 ∷ startedWords (callAt (now (calls .entry)) at) model)) ⌝ }
 {
     let words = call_at(calls, at);
     let happened = event(model, fine, &words);
     let reply = happened.reply;
     let record = happened.record;
-    put_answer(answers, to, reply.row(), 0, &record_words(record));
+    put_answer(
+        answers,
+        to,
+        reply.row(),
+        0,
+        &record_left(reply, record, &words),
+    );
     happened.model
+}
+
+// The record's words after an event; where it was refused, as they were handed in.
+fn record_left(reply: Reply, after: Record, words: &[u64; 49]) -> [u64; 16]
+    ensures { λ r. ⌜ r ≡ settled (number reply) (recordWords after) (recordIn (now (words .entry))) ⌝ }
+{
+    if reply.is_done() {
+        record_words(after)
+    } else {
+        record_in(words)
+    }
 }
 
 // Call 4, an event's finish.

@@ -15,8 +15,5 @@ one-event κ a x y s t p q = events.happened (number-injective _ _ (p .0 ∙ sym
 pub one-finish : OneReply turn.finish.Reads.Learnt
 one-finish κ a x y s t p q = model.changed (number-injective _ _ (p .0 ∙ sym (q .0))) (p .1 ∙ sym (q .1))
 
-pub one-is-call : OneReply turn.is_call.Reads.Learnt
-one-is-call κ a x y s t p q = p ∙ sym q
-
 pub one-no-record : OneReply turn.no_record.Reads.Learnt
 one-no-record κ a x y s t p q = p ∙ sym q

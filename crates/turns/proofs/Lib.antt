@@ -1,3 +1,4 @@
 -- Laws of a turn.
 pub mod Parts
 pub mod Determined
+pub mod Examples

@@ -1,6 +1,6 @@
 -- One call on a model and a cycle, from the 49 words of its record (docs/LAYOUT.md): what it answers, and what it leaves.
 use Prim.Native.Nat.{ℕ}
-use mathlib.Core.Bool.{Bool, false, cond, not, _&&_, _||_}
+use mathlib.Core.Bool.{Bool, false, cond, _&&_, _||_}
 use mathlib.Core.List.{List, [], _∷_}
 use lib.Dec.{leb, eqb}
 use Rattle.filters.specs.declared.time.Duration.{Duration}
@@ -10,22 +10,17 @@ use Rattle.model.specs.Answers.{settled, noMoment}
 use Rattle.model.specs.Calls.{startNumber, startModel, sentNumber, sentNext}
 use Rattle.events.specs.Event.{eventNumber, modelNext, recordNext}
 use Rattle.events.specs.Judge.{recordNumber, finishNext}
-use Rattle.events.specs.declared.record.Record.{Record}
 use Rattle.phases.specs.declared.cycle.Cycle.{Cycle}
 use Rattle.phases.specs.Cycle.{freshCycle}
 use Rattle.encoding.specs.Word.{word, flagWord, floatOf}
 use Rattle.encoding.specs.Params.{paramsOf}
-use Rattle.encoding.specs.Record.{recordOf, recordWords}
+use Rattle.encoding.specs.Record.{recordOf, recordIn, recordWords}
 use Rattle.encoding.specs.Sample.{sampleOf, ackedOf}
 use Rattle.turns.specs.declared.turn.Turn.{Turn}
 use Rattle.calls.specs.Change.{changeOf}
 use Rattle.calls.specs.Ask.{askOf}
 use Rattle.calls.specs.Judge.{judgeOf}
 use Rattle.calls.specs.Enter.{enterOf}
-
--- the numbers that are a call's
-abbrev pub isCall : ℕ → Bool
-isCall call = leb call 45 && not (eqb call 2 || eqb call 39)
 
 -- calls 5 to 7 and 9; calls 10 to 13 and 23 to 38
 abbrev pub isJudged : ℕ → Bool
@@ -64,11 +59,19 @@ startedNumber w m = eventNumber m (paramsOf w) (recordOf w) (sampleOf w) (ackedO
 abbrev pub startedLeaves : List ℕ → NetworkModel → NetworkModel
 startedLeaves w m = settled (startedNumber w m) (modelNext m (paramsOf w) (recordOf w) (sampleOf w) (ackedOf w)) m
 
-abbrev pub startedRecord : List ℕ → NetworkModel → Record
-startedRecord w m = settled (startedNumber w m) (recordNext m (recordOf w) (sampleOf w) (ackedOf w)) (recordOf w)
+abbrev pub startedWords : List ℕ → NetworkModel → List ℕ
+startedWords w m = settled (startedNumber w m) (recordWords (recordNext m (recordOf w) (sampleOf w) (ackedOf w))) (recordIn w)
 
+-- its answer has the record: "an event's record as handed in" where it is refused, word by word
 unfoldable pub eventTurn : List ℕ → NetworkModel → Cycle → Turn
-eventTurn w m y = record { model = startedLeaves w m; cycle = y; reply = startedNumber w m; value = 0; event = recordWords (startedRecord w m) }
+eventTurn w m y =
+    record {
+      model = startedLeaves w m;
+      cycle = y;
+      reply = startedNumber w m;
+      value = 0;
+      event = startedWords w m;
+    }
 
 -- call 4: an event's finish
 abbrev pub finishedNumber : List ℕ → NetworkModel → ℕ
@@ -98,16 +101,13 @@ changeTurn w m y =
     let c = changeOf (word w 0) (word w 1) (floatOf (word w 1)) m in
     record { model = settled (c .number) (c .next) m; cycle = y; reply = c .number; value = 0; event = noRecord }
 
--- all but calls 1, 3 and 4
-unfoldable pub otherTurn : List ℕ → NetworkModel → Cycle → Turn
-otherTurn w m y =
-    cond (eqb (word w 0) 0) (startTurn w)
-    (cond (isJudged (word w 0)) (judgeTurn w m y)
-    (cond (isAsked (word w 0)) (askTurn w m y)
-    (cond (leb 40 (word w 0)) (enterTurn w m y) (changeTurn w m y))))
-
+-- a call, by its number. Those that are no call's are refused by `changeTurn` and `enterTurn`
 unfoldable pub turnOf : List ℕ → NetworkModel → Cycle → Turn
 turnOf w m y =
     cond (eqb (word w 0) 1) (sendTurn w m y)
     (cond (eqb (word w 0) 3) (eventTurn w m y)
-    (cond (eqb (word w 0) 4) (finishTurn w m y) (otherTurn w m y)))
+    (cond (eqb (word w 0) 4) (finishTurn w m y)
+    (cond (eqb (word w 0) 0) (startTurn w)
+    (cond (isJudged (word w 0)) (judgeTurn w m y)
+    (cond (isAsked (word w 0)) (askTurn w m y)
+    (cond (leb 40 (word w 0)) (enterTurn w m y) (changeTurn w m y)))))))

@@ -3,7 +3,8 @@ ghost use mathlib.Core.Path.{_≡_};
 ghost use Rattle.filters.specs.Reply.{number};
 ghost use Rattle.model.specs.Answers.{settled, noMoment};
 ghost use Rattle.model.specs.Bounds.{modelOk};
-ghost use Rattle.turns.specs.Turn.{isCall, isJudged, isAsked, noRecord, startTurn, startedNumber, startedLeaves, startedRecord, finishedNumber, finishedLeaves, judgeTurn, askTurn, enterTurn, changeTurn, otherTurn};
+ghost use Rattle.turns.specs.Turn.{isJudged, isAsked, noRecord, startTurn, startedNumber, startedLeaves, finishedNumber, finishedLeaves, judgeTurn, askTurn, enterTurn, changeTurn};
+ghost use Rattle.turns.specs.Parts.{startedRecord, otherTurn};
 use calls::ask::ask;
 use calls::change::change;
 use calls::enter::enter;
@@ -33,7 +34,8 @@ pub struct Turn {
     pub event: [u64; 16],
 }
 
-// All calls but 1, 3 and 4, a send and an event's two, which a run makes for itself.
+// All calls but 1, 3 and 4, a send and an event's two, which a run makes for itself. A number that is no call's is
+// refused.
 pub fn carry_out(model: NetworkModel, cycle: Cycle, n: &[u64; 49]) -> Turn
     ensures { λ r. ⌜ r ≡ otherTurn (now (n .entry)) model cycle ⌝ }
 {
@@ -51,13 +53,6 @@ pub fn carry_out(model: NetworkModel, cycle: Cycle, n: &[u64; 49]) -> Turn
         return entered(model, cycle, n);
     }
     changed(model, cycle, n)
-}
-
-// Whether the number is a call's.
-pub fn is_call(call: u64) -> bool
-    ensures { λ r. ⌜ r ≡ isCall call ⌝ }
-{
-    (call <= 45) & !((call == 2) | (call == 39))
 }
 
 fn is_judged(call: u64) -> bool

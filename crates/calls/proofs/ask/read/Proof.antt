@@ -5,7 +5,7 @@ use Rattle.filters.specs.declared.time.Duration.{Duration}
 use Rattle.filters.specs.declared.time.Moment.{Moment}
 use Rattle.filters.specs.Reply.{number}
 use Rattle.model.specs.Answers.{noBandwidth, noLength, noMoment}
-use Rattle.calls.proofs.Same.{read-as}
+use Rattle.calls.proofs.Same.{settled-same, read-as}
 use borrow.Author.Needs.{needs}
 use borrow.Author.Tests.{ne-eqb}
 use Rattle.calls.specs.Ask.{readOf}
@@ -38,12 +38,17 @@ returns-6 c = rw (c .before .match .keys6) (c .total-bytes-acked .ensures .0, c 
 
 returns-7 : tie.Need-returns-7
 unfolding readOf
-returns-7 c = let r = c .before .match .rest in rw (ne-eqb _ 23 (r .0 .0 .0 .0 .0 .1), ne-eqb _ 24 (r .0 .0 .0 .0 .1), ne-eqb _ 25 (r .0 .0 .0 .1), ne-eqb _ 26 (r .0 .0 .1), ne-eqb _ 27 (r .0 .1), ne-eqb _ 28 (r .1)) (c .total-bytes-lost .ensures .0, c .total-bytes-lost .ensures .1)
+returns-7 c = rw (c .before .match .keys7) (c .total-bytes-lost .ensures .0, c .total-bytes-lost .ensures .1)
+
+returns-8 : tie.Need-returns-8
+unfolding readOf
+returns-8 c = let r = c .before .match .rest in rw (ne-eqb _ 23 (r .0 .0 .0 .0 .0 .0 .1), ne-eqb _ 24 (r .0 .0 .0 .0 .0 .1), ne-eqb _ 25 (r .0 .0 .0 .0 .1), ne-eqb _ 26 (r .0 .0 .0 .1), ne-eqb _ 27 (r .0 .0 .1), ne-eqb _ 28 (r .0 .1), ne-eqb _ 29 (r .1)) (c .refused .ensures .0, c .refused .ensures .1 ∙ settled-same _ _)
 
 pub read-spec : {M : Type 1} → statement M
 read-spec =
     tie.close
     (tie.spec
+    (λ c κs. search needs)
     (λ c κs. search needs)
     (λ c κs. search needs)
     (λ c κs. search needs)
@@ -61,4 +66,5 @@ read-spec =
     returns-4
     returns-5
     returns-6
-    returns-7)
+    returns-7
+    returns-8)

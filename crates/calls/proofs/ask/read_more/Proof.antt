@@ -4,7 +4,7 @@ use mathlib.Core.Path.{refl, ap, _∙_}
 use Rattle.filters.specs.Reply.{number}
 use Rattle.model.specs.Answers.{noGain}
 use Rattle.encoding.specs.Word.{flagWord, floatWord}
-use Rattle.calls.proofs.Same.{read-as, no-gain}
+use Rattle.calls.proofs.Same.{settled-same, read-as, no-gain}
 use borrow.Author.Needs.{needs}
 use borrow.Author.Tests.{ne-eqb}
 use Rattle.calls.specs.Ask.{readMore}
@@ -45,12 +45,17 @@ returns-8 c = rw (c .before .match .keys8) (c .rounds-with-queueing .ensures .0,
 
 returns-9 : tie.Need-returns-9
 unfolding readMore
-returns-9 c = let r = c .before .match .rest in rw (ne-eqb _ 30 (r .0 .0 .0 .0 .0 .0 .0 .1), ne-eqb _ 31 (r .0 .0 .0 .0 .0 .0 .1), ne-eqb _ 32 (r .0 .0 .0 .0 .0 .1), ne-eqb _ 33 (r .0 .0 .0 .0 .1), ne-eqb _ 34 (r .0 .0 .0 .1), ne-eqb _ 35 (r .0 .0 .1), ne-eqb _ 36 (r .0 .1), ne-eqb _ 37 (r .1)) (c .queueing-threshold-extra-bytes .ensures .0, c .queueing-threshold-extra-bytes .ensures .1)
+returns-9 c = rw (c .before .match .keys9) (c .queueing-threshold-extra-bytes .ensures .0, c .queueing-threshold-extra-bytes .ensures .1)
+
+returns-10 : tie.Need-returns-10
+unfolding readMore
+returns-10 c = let r = c .before .match .rest in rw (ne-eqb _ 30 (r .0 .0 .0 .0 .0 .0 .0 .0 .1), ne-eqb _ 31 (r .0 .0 .0 .0 .0 .0 .0 .1), ne-eqb _ 32 (r .0 .0 .0 .0 .0 .0 .1), ne-eqb _ 33 (r .0 .0 .0 .0 .0 .1), ne-eqb _ 34 (r .0 .0 .0 .0 .1), ne-eqb _ 35 (r .0 .0 .0 .1), ne-eqb _ 36 (r .0 .0 .1), ne-eqb _ 37 (r .0 .1), ne-eqb _ 38 (r .1)) (c .refused .ensures .0, c .refused .ensures .1 ∙ settled-same _ _)
 
 pub read-more-spec : {M : Type 1} → statement M
 read-more-spec =
     tie.close
     (tie.spec
+    (λ c κs. search needs)
     (λ c κs. search needs)
     (λ c κs. search needs)
     (λ c κs. search needs)
@@ -71,4 +76,5 @@ read-more-spec =
     returns-6
     returns-7
     returns-8
-    returns-9)
+    returns-9
+    returns-10)

@@ -10,7 +10,7 @@ use Rattle.calls.proofs.enter.enter.Tie as tie
 
 returns : tie.Need-returns
 unfolding enterOf
-returns c = rw (c .before .match .keys1) (c .enter-probe-down .ensures .0, (c .enter-probe-down .ensures .1 .0, c .enter-probe-down .ensures .1 .1))
+returns c = rw (c .before .before .match .keys1, ← c .before .down-at .ensures) (c .enter-probe-down .ensures .0, (c .enter-probe-down .ensures .1 .0, c .enter-probe-down .ensures .1 .1))
 
 returns-2 : tie.Need-returns-2
 unfolding enterOf
@@ -30,7 +30,11 @@ returns-5 c = rw (c .before .match .keys5) (c .exit-probe-down .ensures .0, (c .
 
 returns-6 : tie.Need-returns-6
 unfolding enterOf
-returns-6 c = let r = c .before .before .match .rest in rw (ne-eqb _ 40 (r .0 .0 .0 .0 .1), ne-eqb _ 41 (r .0 .0 .0 .1), ne-eqb _ 42 (r .0 .0 .1), ne-eqb _ 43 (r .0 .1), ne-eqb _ 44 (r .1)) (ap number (c .raised .ensures .0) ∙ c .before .raise-inflight-high-slope .ensures .0, (c .raised .ensures .1 .0 ∙ settled-same _ _, c .raised .ensures .1 .1 ∙ c .before .raise-inflight-high-slope .ensures .1))
+returns-6 c = rw (c .before .before .match .keys6) (ap number (c .raised .ensures .0) ∙ c .before .raise-inflight-high-slope .ensures .0, (c .raised .ensures .1 .0 ∙ settled-same _ _, c .raised .ensures .1 .1 ∙ c .before .raise-inflight-high-slope .ensures .1))
+
+returns-7 : tie.Need-returns-7
+unfolding enterOf
+returns-7 c = let r = c .before .match .rest in rw (ne-eqb _ 40 (r .0 .0 .0 .0 .0 .1), ne-eqb _ 41 (r .0 .0 .0 .0 .1), ne-eqb _ 42 (r .0 .0 .0 .1), ne-eqb _ 43 (r .0 .0 .1), ne-eqb _ 44 (r .0 .1), ne-eqb _ 45 (r .1)) (c .refused .ensures .0, (c .refused .ensures .1 .0 ∙ settled-same _ _, c .refused .ensures .1 .1 ∙ settled-same _ _))
 
 pub enter-spec : {M : Type 1} → statement M
 enter-spec =
@@ -43,9 +47,12 @@ enter-spec =
     (λ c κs. search needs)
     (λ c κs. search needs)
     (λ c κs. search needs)
+    (λ c κs. search needs)
+    (λ c κs. search needs)
     returns
     returns-2
     returns-3
     returns-4
     returns-5
-    returns-6)
+    returns-6
+    returns-7)

@@ -22,7 +22,11 @@ returns-3 c = rw (c .before .match .keys3) (c .has-bandwidth-growth .ensures .0,
 
 returns-4 : tie.Need-returns-4
 unfolding judgeOf
-returns-4 c = let r = c .before .before .match .rest in rw (ne-eqb _ 5 (r .0 .0 .1), ne-eqb _ 6 (r .0 .1), ne-eqb _ 7 (r .1)) (ap number (c .changed .ensures .0) ∙ c .before .check-persistent-queue .ensures .0, (c .changed .ensures .1 .0 ∙ c .before .check-persistent-queue .ensures .1, c .changed .ensures .1 .1 ∙ settled-same _ _))
+returns-4 c = rw (c .before .before .match .keys4) (ap number (c .changed .ensures .0) ∙ c .before .check-persistent-queue .ensures .0, (c .changed .ensures .1 .0 ∙ c .before .check-persistent-queue .ensures .1, c .changed .ensures .1 .1 ∙ settled-same _ _))
+
+returns-5 : tie.Need-returns-5
+unfolding judgeOf
+returns-5 c = let r = c .before .match .rest in rw (ne-eqb _ 5 (r .0 .0 .0 .1), ne-eqb _ 6 (r .0 .0 .1), ne-eqb _ 7 (r .0 .1), ne-eqb _ 9 (r .1)) (c .refused .ensures .0, (c .refused .ensures .1 .0 ∙ settled-same _ _, c .refused .ensures .1 .1 ∙ settled-same _ _))
 
 pub judge-spec : {M : Type 1} → statement M
 judge-spec =
@@ -34,7 +38,9 @@ judge-spec =
     (λ c κs. search needs)
     (λ c κs. search needs)
     (λ c κs. search needs)
+    (λ c κs. search needs)
     returns
     returns-2
     returns-3
-    returns-4)
+    returns-4
+    returns-5)

@@ -6,7 +6,7 @@ use Rattle.encoding.proofs.params.params_of.Tie as tie
 
 returns : tie.Need-returns
 unfolding paramsOf
-returns c = simp (c .before .before .before .before .before .float-of6 .ensures, c .before .before .before .before .before .before .before .float-of5 .ensures, c .before .before .before .before .before .before .before .before .before .float-of4 .ensures, c .before .before .before .before .before .before .before .before .before .before .before .float-of3 .ensures, c .before .before .before .before .before .before .before .before .before .before .before .before .before .float-of2 .ensures, c .before .before .before .before .before .before .before .before .before .before .before .before .before .before .before .float-of .ensures)
+returns c = simp (c .before .before .or-outside .ensures, c .before .before .before .before .flag-fits .ensures, c .before .before .before .before .before .before .before .before .float-of6 .ensures, c .before .before .before .before .before .before .before .before .before .before .float-of5 .ensures, c .before .before .before .before .before .before .before .before .before .before .before .before .float-of4 .ensures, c .before .before .before .before .before .before .before .before .before .before .before .before .before .before .float-of3 .ensures, c .before .before .before .before .before .before .before .before .before .before .before .before .before .before .before .before .float-of2 .ensures, c .before .before .before .before .before .before .before .before .before .before .before .before .before .before .before .before .before .before .float-of .ensures)
 
 pub params-of-spec : {M : Type 1} → statement M
-params-of-spec = tie.close (tie.spec (λ c. search needs) (λ c κs. search needs) (λ c. search needs) (λ c κs. search needs) (λ c. search needs) (λ c κs. search needs) (λ c. search needs) (λ c κs. search needs) (λ c. search needs) (λ c κs. search needs) (λ c. search needs) (λ c κs. search needs) (λ c. search needs) (λ c. search needs) (λ c. search needs) (λ c. search needs) (λ c. search needs) returns)
+params-of-spec = tie.close (tie.spec (λ c. search needs) (λ c κs. search needs) (λ c. search needs) (λ c κs. search needs) (λ c. search needs) (λ c κs. search needs) (λ c. search needs) (λ c κs. search needs) (λ c. search needs) (λ c κs. search needs) (λ c. search needs) (λ c κs. search needs) (λ c. search needs) (λ c. search needs) (λ c. search needs) (λ c κs. search needs) (λ c. search needs) (λ c κs. search needs) (λ c. search needs) (λ c. search needs) returns)

@@ -6,9 +6,9 @@ use Rattle.exports.proofs.model_run.model_reply.Tie as tie
 
 returns : tie.Need-returns
 unfolding modelRow
-returns c = rw (← c .before .before .before .has-unknown .ensures, ← c .before .before .encodes-none .ensures, ← c .before .refusal .ensures) (c .or-short .ensures)
+returns c = rw (← c .before .before .encodes-none .ensures, ← c .before .refusal .ensures) (c .or-short .ensures)
 
 pub model-reply-spec : {M : Type 1} → statement M
 model-reply-spec =
     tie.close
-    (tie.spec (λ c κs. search needs) (λ c κs. search needs) (λ c κs. search needs) (λ c. search needs) (λ c κs. search needs) returns)
+    (tie.spec (λ c κs. search needs) (λ c κs. search needs) (λ c. search needs) (λ c κs. search needs) returns)
