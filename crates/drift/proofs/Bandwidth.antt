@@ -115,8 +115,8 @@ module _ (beta : Float) (b : Parts (complement beta)) where
   next-kept (refill rounds now) s x same done h = tt
   next-kept (other c) s x same done h = same-kept (nextOf (other c) s .model .lower) (s .model .lower) x (other-same c s .lower) h
 
-  start-kept : (p : Params) (rtt : Duration) (now : Moment) → Kept (started p rtt now .model .lower .bandwidth) unset
-  unfolding started startModel settled modelNew
+  start-kept : (p : Params) (rtt : Duration) (now : Moment) → Kept (startModel p rtt now .lower .bandwidth) unset
+  unfolding startModel settled modelNew
   start-kept p rtt now = go (eqb (startNumber p rtt now) 0)
     where
       go : (t : Bool) → Kept (cond t (modelNew (p .cwnd) (p .pacing) (p .ignore) rtt now) (modelNew one one false noLength noMoment) .lower .bandwidth) unset
@@ -124,7 +124,7 @@ module _ (beta : Float) (b : Parts (complement beta)) where
       go false = tt
 
 pub bandwidth-drift : BandwidthDrift
-unfolding bandwidthLow
-bandwidth-drift beta b p rtt now calls begun same any =
-    follows beta b (run calls (started p rtt now) .model .lower .bandwidth) (exactRun bandwidthTurn (b .parts) calls (started p rtt now) unset)
-    (run-kept bandwidthTurn (b .parts) (λ s x. Kept beta b (s .model .lower .bandwidth) x) (HasBeta beta) (next-kept beta b) calls (started p rtt now) unset same (start-kept beta b p rtt now))
+unfolding bandwidthLow started
+bandwidth-drift beta b p rtt now y calls same any =
+    follows beta b (run calls (started p rtt now y) .model .lower .bandwidth) (exactRun bandwidthTurn (b .parts) calls (started p rtt now y) unset)
+    (run-kept bandwidthTurn (b .parts) (λ s x. Kept beta b (s .model .lower .bandwidth) x) (HasBeta beta) (next-kept beta b) calls (started p rtt now y) unset same (start-kept beta b p rtt now))

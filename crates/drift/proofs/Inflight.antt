@@ -133,8 +133,8 @@ module _ (beta : Float) (b : Parts (complement beta)) where
   next-kept (refill rounds now) s x same sizes h = refill-kept (s .model) (s .cycle) now x h
   next-kept (other c) s x same sizes h = let a = other-same c s in same-kept (nextOf (other c) s .model) (s .model) x (a .lower) (a .latest) h
 
-  start-kept : (p : Params) (rtt : Duration) (now : Moment) → Kept (started p rtt now .model) unset
-  unfolding started startModel settled modelNew
+  start-kept : (p : Params) (rtt : Duration) (now : Moment) → Kept (startModel p rtt now) unset
+  unfolding startModel settled modelNew
   start-kept p rtt now = go (eqb (startNumber p rtt now) 0)
     where
       go : (t : Bool) → Kept (cond t (modelNew (p .cwnd) (p .pacing) (p .ignore) rtt now) (modelNew one one false noLength noMoment)) unset
@@ -142,8 +142,8 @@ module _ (beta : Float) (b : Parts (complement beta)) where
       go false = record { small = omega arith; raw = refl }
 
 pub inflight-drift : InflightDrift
-unfolding inflightLow
-inflight-drift beta b p rtt now calls begun same sizes =
+unfolding inflightLow started
+inflight-drift beta b p rtt now y calls same sizes =
     let kept = run-kept inflightTurn (b .parts) (λ s x. Kept beta b (s .model) x) (λ c. HasBeta beta c × IsSmall c) (λ c s x p done. next-kept beta b c s x (p .0) (p .1)) in
-    follows beta b (run calls (started p rtt now) .model .lower .inflight) (exactRun inflightTurn (b .parts) calls (started p rtt now) unset)
-    (kept calls (started p rtt now) unset (both-along (HasBeta beta) IsSmall calls (started p rtt now) same sizes) (start-kept beta b p rtt now) .raw)
+    follows beta b (run calls (started p rtt now y) .model .lower .inflight) (exactRun inflightTurn (b .parts) calls (started p rtt now y) unset)
+    (kept calls (started p rtt now y) unset (both-along (HasBeta beta) IsSmall calls (started p rtt now y) same sizes) (start-kept beta b p rtt now) .raw)

@@ -11,12 +11,11 @@ use Rattle.filters.specs.declared.time.Moment.{Moment}
 use Rattle.model.specs.declared.network_model.NetworkModel.{NetworkModel}
 use Rattle.model.specs.declared.params.Params.{Params}
 use Rattle.model.specs.Answers.{settled}
-use Rattle.model.specs.Calls.{startNumber, startModel}
+use Rattle.model.specs.Calls.{startModel}
 use Rattle.events.specs.declared.record.Record.{Record}
 use Rattle.events.specs.declared.record.Sample.{Sample}
 use Rattle.events.specs.Event.{eventNumber, modelNext}
 use Rattle.phases.specs.declared.cycle.Cycle.{Cycle}
-use Rattle.phases.specs.Cycle.{freshCycle}
 use Rattle.drift.specs.Calls as Calls
 use Rattle.drift.specs.Calls.{Call, Other, State, otherNumber, otherNext, numberOf, nextOf, after, run, started}
 use Rattle.drift.specs.Exact.{Turn, unset, inflightTurn, bandwidthTurn, exactRun}
@@ -102,41 +101,39 @@ ran (c ∷ calls) s t r = ran calls (r .0) t (r .2) ∙ ap (run calls) (made c s
 start-same : {p p′ : Params} {d d′ : Duration} {t t′ : Moment} → p ≡ p′ → d ≡ d′ → t ≡ t′ → startModel p d t ≡ startModel p′ d′ t′
 start-same a b c = λ i. startModel (a i) (b i) (c i)
 
-begun : (p : Params) (rtt : Duration) (time : Moment) (s : State) → Begun p rtt time s → s ≡ started p rtt time
+begun : (p : Params) (rtt : Duration) (time : Moment) (s : State) → Begun p rtt time s → s ≡ started p rtt time (s .cycle)
 unfolding started
 begun p rtt time s r =
-    let m = r .0 .5 in
-    let c = r .1 .5 in
-    let model : s .model ≡ startModel p rtt time = m .1 ∙ r .0 .4 .1 ∙ start-same (λ i. m .0 i .0) (λ i. m .0 i .1 .0) (λ i. m .0 i .1 .1 .0) in
-    let cycle : s .cycle ≡ freshCycle time = c .1 ∙ r .1 .4 .1 ∙ ap freshCycle (λ i. c .0 i .0) in
-    λ i. record { model = model i; cycle = cycle i }
+    let m = r .5 in
+    let model : s .model ≡ startModel p rtt time = m .1 ∙ r .4 .1 ∙ start-same (λ i. m .0 i .0) (λ i. m .0 i .1 .0) (λ i. m .0 i .1 .1 .0) in
+    λ i. record { model = model i; cycle = s .cycle }
 
 -- what holds of a start and of where its run ends, over the definitions, holds of the code
 module _ (p : Params) (rtt : Duration) (time : Moment) (calls : List Call) (s t : State) (b : Begun p rtt time s) (r : Ran calls s t) where
-  returned : (P : State → State → Type 0) → P (started p rtt time) (run calls (started p rtt time)) → P s t
+  returned : (P : State → State → Type 0) → P (started p rtt time (s .cycle)) (run calls (started p rtt time (s .cycle))) → P s t
   returned P h = subst (λ (z : State). P s z) (sym (ran calls s t r)) (subst (λ (z : State). P z (run calls z)) (sym (begun p rtt time s b)) h)
 
-  along : (P : Call → Type 0) → Along P calls s → Along P calls (started p rtt time)
+  along : (P : Call → Type 0) → Along P calls s → Along P calls (started p rtt time (s .cycle))
   along P h = subst (λ (z : State). Along P calls z) (begun p rtt time s b) h
 
   module _ (turn : Call → State → Turn) (low : State → Low) (Q : Call → Type 0) where
-    code-drift : (u v : ℕ) → Drift u v turn low Q → (beta : Float) (f : Parts (complement beta)) → startNumber p rtt time ≡ 0 → Along (HasBeta beta) calls s → Along Q calls s
+    code-drift : (u v : ℕ) → Drift u v turn low Q → (beta : Float) (f : Parts (complement beta)) → Along (HasBeta beta) calls s → Along Q calls s
         → Follows u v (f .parts) (low t) (exactRun turn (f .parts) calls s unset)
-    code-drift u v drift beta f done same fine =
-        returned (λ s t. Follows u v (f .parts) (low t) (exactRun turn (f .parts) calls s unset)) (drift beta f p rtt time calls done (along (HasBeta beta) same) (along Q fine))
+    code-drift u v drift beta f same fine =
+        returned (λ s t. Follows u v (f .parts) (low t) (exactRun turn (f .parts) calls s unset)) (drift beta f p rtt time (s .cycle) calls (along (HasBeta beta) same) (along Q fine))
 
-    code-usual-drift : (h : ℕ) → UsualDrift h turn low Q → startNumber p rtt time ≡ 0 → Along (HasBeta usualBeta) calls s → Along Q calls s → Under h (low t) (exactRun turn usualParts calls s unset)
-    code-usual-drift h drift done same fine =
-        returned (λ s t. Under h (low t) (exactRun turn usualParts calls s unset)) (drift p rtt time calls done (along (HasBeta usualBeta) same) (along Q fine))
+    code-usual-drift : (h : ℕ) → UsualDrift h turn low Q → Along (HasBeta usualBeta) calls s → Along Q calls s → Under h (low t) (exactRun turn usualParts calls s unset)
+    code-usual-drift h drift same fine =
+        returned (λ s t. Under h (low t) (exactRun turn usualParts calls s unset)) (drift p rtt time (s .cycle) calls (along (HasBeta usualBeta) same) (along Q fine))
 
 pub code-inflight-drift : CodeInflightDrift
-code-inflight-drift beta f p rtt time calls s t done same fine b r = code-drift p rtt time calls s t b r inflightTurn inflightLow IsSmall 1 1 inflight-drift beta f done same fine
+code-inflight-drift beta f p rtt time calls s t same fine b r = code-drift p rtt time calls s t b r inflightTurn inflightLow IsSmall 1 1 inflight-drift beta f same fine
 
 pub code-bandwidth-drift : CodeBandwidthDrift
-code-bandwidth-drift beta f p rtt time calls s t done same fine b r = code-drift p rtt time calls s t b r bandwidthTurn bandwidthLow IsAny 4097 8192 bandwidth-drift beta f done same fine
+code-bandwidth-drift beta f p rtt time calls s t same fine b r = code-drift p rtt time calls s t b r bandwidthTurn bandwidthLow IsAny 4097 8192 bandwidth-drift beta f same fine
 
 pub code-usual-inflight-drift : CodeUsualInflightDrift
-code-usual-inflight-drift p rtt time calls s t done same fine b r = code-usual-drift p rtt time calls s t b r inflightTurn inflightLow IsSmall 334 usual-inflight-drift done same fine
+code-usual-inflight-drift p rtt time calls s t same fine b r = code-usual-drift p rtt time calls s t b r inflightTurn inflightLow IsSmall 334 usual-inflight-drift same fine
 
 pub code-usual-bandwidth-drift : CodeUsualBandwidthDrift
-code-usual-bandwidth-drift p rtt time calls s t done same fine b r = code-usual-drift p rtt time calls s t b r bandwidthTurn bandwidthLow IsAny 167 usual-bandwidth-drift done same fine
+code-usual-bandwidth-drift p rtt time calls s t same fine b r = code-usual-drift p rtt time calls s t b r bandwidthTurn bandwidthLow IsAny 167 usual-bandwidth-drift same fine

@@ -38,12 +38,12 @@ under u v h rate (at n) unset f = f
 under u v h rate (at n) (over num k) f = rate (n * 2 ^ (24 * k)) num (2 ^ (24 * k)) (f .by-rate)
 
 pub usual-inflight-drift : UsualInflightDrift
-usual-inflight-drift p rtt now calls begun same sizes = under 1 1 334 inflight-under (inflightLow (run calls (started p rtt now))) (exactRun inflightTurn usualParts calls (started p rtt now) unset)
-    (inflight-drift usualBeta usual p rtt now calls begun same sizes)
+usual-inflight-drift p rtt now y calls same sizes = under 1 1 334 inflight-under (inflightLow (run calls (started p rtt now y))) (exactRun inflightTurn usualParts calls (started p rtt now y) unset)
+    (inflight-drift usualBeta usual p rtt now y calls same sizes)
 
 pub usual-bandwidth-drift : UsualBandwidthDrift
-usual-bandwidth-drift p rtt now calls begun same any = under 4097 8192 167 bandwidth-under (bandwidthLow (run calls (started p rtt now))) (exactRun bandwidthTurn usualParts calls (started p rtt now) unset)
-    (bandwidth-drift usualBeta usual p rtt now calls begun same any)
+usual-bandwidth-drift p rtt now y calls same any = under 4097 8192 167 bandwidth-under (bandwidthLow (run calls (started p rtt now y))) (exactRun bandwidthTurn usualParts calls (started p rtt now y) unset)
+    (bandwidth-drift usualBeta usual p rtt now y calls same any)
 
 pub every-beta : EveryBeta
 unfolding within ofBits

@@ -15,7 +15,6 @@ use Rattle.events.specs.declared.record.Sample.{Sample}
 use Rattle.events.specs.Event as E
 use Rattle.events.specs.Judge as J
 use Rattle.phases.specs.declared.cycle.Cycle.{Cycle}
-use Rattle.phases.specs.Cycle.{freshCycle}
 use Rattle.phases.specs.Phases as P
 
 -- ---- every call that can change the model or the cycle, with its arguments: all of the public functions that test what they are given (docs/DECISIONS.md, 22, has the steps that don't).
@@ -118,6 +117,6 @@ unfoldable pub run : List Call → State → State
 run [] s = s
 run (c ∷ calls) s = run calls (after c s)
 
--- from a fresh model and a fresh cycle
-unfoldable pub started : Params → Duration → Moment → State
-started p rtt now = record { model = M.startModel p rtt now; cycle = freshCycle now }
+-- from a fresh model, that of a refused start too, beside any cycle
+unfoldable pub started : Params → Duration → Moment → Cycle → State
+started p rtt now y = record { model = M.startModel p rtt now; cycle = y }

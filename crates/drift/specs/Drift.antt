@@ -14,9 +14,9 @@ use Rattle.model.specs.declared.params.Params.{Params}
 use Rattle.model.specs.declared.state.MaybeBandwidth.{MaybeBandwidth}
 use Rattle.model.specs.declared.state.MaybeBandwidth.the-variants.{Unset, Set}
 use Rattle.model.specs.Bounds.{betaOk}
-use Rattle.model.specs.Calls.{startNumber}
 use Rattle.events.specs.declared.record.Record.{Record}
 use Rattle.events.specs.declared.record.Sample.{Sample}
+use Rattle.phases.specs.declared.cycle.Cycle.{Cycle}
 use Rattle.drift.specs.Calls as Calls
 use Rattle.drift.specs.Calls.{Call, State, numberOf, after, run, started}
 use Rattle.drift.specs.Exact.{Turn, Exact, unset, over, inflightTurn, bandwidthTurn, exactRun}
@@ -82,12 +82,12 @@ IsSmall = OfEvent (λ p e y. (e .window ≤ 2 ^ 24) × (y .inflight ≤ 2 ^ 24))
 abbrev pub IsAny : Call → Type 0
 IsAny c = Unit {0}
 
--- ---- the theorem: after any list of calls from a fresh state the number follows its exact run
+-- ---- the theorem: after any list of calls from a fresh model, beside any cycle, the number follows its exact run
 abbrev pub Drift : (u v : ℕ) → (Call → State → Turn) → (State → Low) → (Call → Type 0) → Type 0
 Drift u v turn low P =
-    (beta : Float) (b : Parts (complement beta)) (p : Params) (rtt : Duration) (now : Moment) (calls : List Call) →
-    let s = started p rtt now in
-    startNumber p rtt now ≡ 0 → Along (HasBeta beta) calls s → Along P calls s → Follows u v (b .parts) (low (run calls s)) (exactRun turn (b .parts) calls s unset)
+    (beta : Float) (b : Parts (complement beta)) (p : Params) (rtt : Duration) (now : Moment) (y : Cycle) (calls : List Call) →
+    let s = started p rtt now y in
+    Along (HasBeta beta) calls s → Along P calls s → Follows u v (b .parts) (low (run calls s)) (exactRun turn (b .parts) calls s unset)
 
 -- inflight_lo: less than k bytes, and less than 1 / (1 - b) bytes
 abbrev pub InflightDrift : Type 0
@@ -117,9 +117,9 @@ Under h (at n) (over num k) = Within (n * 2 ^ (24 * k) * 100) (num * 100) (h * 2
 
 abbrev pub UsualDrift : (hundredths : ℕ) → (Call → State → Turn) → (State → Low) → (Call → Type 0) → Type 0
 UsualDrift h turn low P =
-    (p : Params) (rtt : Duration) (now : Moment) (calls : List Call) →
-    let s = started p rtt now in
-    startNumber p rtt now ≡ 0 → Along (HasBeta usualBeta) calls s → Along P calls s → Under h (low (run calls s)) (exactRun turn usualParts calls s unset)
+    (p : Params) (rtt : Duration) (now : Moment) (y : Cycle) (calls : List Call) →
+    let s = started p rtt now y in
+    Along (HasBeta usualBeta) calls s → Along P calls s → Under h (low (run calls s)) (exactRun turn usualParts calls s unset)
 
 -- under 3.34 bytes
 abbrev pub UsualInflightDrift : Type 0

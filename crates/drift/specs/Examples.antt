@@ -10,6 +10,7 @@ use Rattle.filters.specs.declared.time.Moment.{Moment}
 use Rattle.events.specs.declared.record.MaybeLength.the-variants.{Missing}
 use Rattle.events.specs.declared.record.Record.{Record}
 use Rattle.events.specs.declared.record.Sample.{Sample}
+use Rattle.phases.specs.Cycle.{freshCycle}
 use Rattle.drift.specs.Calls.{Call, event, cap, clearInflight, cruise, refill, other, sent, finish, State, run, started}
 use Rattle.drift.specs.Exact.{Exact, unset, over, inflightTurn, bandwidthTurn, exactRun}
 use Rattle.drift.specs.Drift.{Low, none, at, inflightLow, bandwidthLow, usualBeta, usualParts}
@@ -65,7 +66,7 @@ lossy window rate zero = []
 lossy window rate (suc n) = lossy window rate n ++ (sends (suc n) ∷ acks window false (suc n) (suc n) (cond (eqb n 0) rate 1) ∷ [])
 
 abbrev fresh : State
-fresh = started params (record { 0 = 0 }) moment
+fresh = started params (record { 0 = 0 }) moment (freshCycle moment)
 
 -- ---- how far the stored number is from the exact one: below it, or above it, by more than so many tenths
 abbrev pub isBelow : (tenths : ℕ) → Low → Exact → Bool

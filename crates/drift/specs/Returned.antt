@@ -9,11 +9,9 @@ use Rattle.numbers.specs.Scaling.{complement, Parts}
 use Rattle.filters.specs.declared.time.Duration.{Duration}
 use Rattle.filters.specs.declared.time.Moment.{Moment}
 use Rattle.model.specs.declared.params.Params.{Params}
-use Rattle.model.specs.Calls.{startNumber}
 use Rattle.model.proofs.network_model.NetworkModel as model
 use Rattle.events.proofs.event as events
 use Rattle.events.proofs.judge as judge
-use Rattle.phases.proofs.cycle.Cycle as cycle
 use Rattle.phases.proofs.phases as phases
 use Rattle.drift.specs.Calls as Calls
 use Rattle.drift.specs.Calls.{Call, Other, State}
@@ -58,11 +56,9 @@ Made (Calls.cruise time) s t = Leaves phases.enter_probe_cruise.Reads.Learnt (λ
 Made (Calls.refill rounds time) s t = Leaves phases.enter_probe_refill.Reads.Learnt (λ κ. (s .model, (s .cycle, (rounds, (time, tt))))) (λ x. record { model = x .model; cycle = x .cycle }) t
 Made (Calls.other c) s t = MadeOther c s t
 
--- a fresh model and a fresh cycle
+-- a fresh model
 abbrev pub Begun : Params → Duration → Moment → State → Type 0
-Begun p rtt time s =
-    Returned model.new.Reads.Learnt (λ κ a x. (a ≡ (p, (rtt, (time, tt)))) × (s .model ≡ x .model))
-    × Returned cycle.new.Reads.Learnt (λ κ a x. (a ≡ (time, tt)) × (s .cycle ≡ x .cycle))
+Begun p rtt time s = Returned model.new.Reads.Learnt (λ κ a x. (a ≡ (p, (rtt, (time, tt)))) × (s .model ≡ x .model))
 
 -- ---- a run: each call on what the one before it returned
 abbrev pub Ran : List Call → State → State → Type 0
@@ -73,7 +69,7 @@ Ran (c ∷ calls) s t = (u : State) × Made c s u × Ran calls u t
 abbrev pub CodeDrift : (u v : ℕ) → (Call → State → Turn) → (State → Low) → (Call → Type 0) → Type 0
 CodeDrift u v turn low P =
     (beta : Float) (b : Parts (complement beta)) (p : Params) (rtt : Duration) (time : Moment) (calls : List Call) (s t : State) →
-    startNumber p rtt time ≡ 0 → Along (HasBeta beta) calls s → Along P calls s → Begun p rtt time s → Ran calls s t → Follows u v (b .parts) (low t) (exactRun turn (b .parts) calls s unset)
+    Along (HasBeta beta) calls s → Along P calls s → Begun p rtt time s → Ran calls s t → Follows u v (b .parts) (low t) (exactRun turn (b .parts) calls s unset)
 
 abbrev pub CodeInflightDrift : Type 0
 CodeInflightDrift = CodeDrift 1 1 inflightTurn inflightLow IsSmall
@@ -85,7 +81,7 @@ CodeBandwidthDrift = CodeDrift 4097 8192 bandwidthTurn bandwidthLow IsAny
 abbrev pub CodeUsualDrift : (hundredths : ℕ) → (Call → State → Turn) → (State → Low) → (Call → Type 0) → Type 0
 CodeUsualDrift h turn low P =
     (p : Params) (rtt : Duration) (time : Moment) (calls : List Call) (s t : State) →
-    startNumber p rtt time ≡ 0 → Along (HasBeta usualBeta) calls s → Along P calls s → Begun p rtt time s → Ran calls s t → Under h (low t) (exactRun turn usualParts calls s unset)
+    Along (HasBeta usualBeta) calls s → Along P calls s → Begun p rtt time s → Ran calls s t → Under h (low t) (exactRun turn usualParts calls s unset)
 
 abbrev pub CodeUsualInflightDrift : Type 0
 CodeUsualInflightDrift = CodeUsualDrift 334 inflightTurn inflightLow IsSmall
