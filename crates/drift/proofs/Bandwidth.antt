@@ -1,13 +1,14 @@
 -- bandwidth_lo follows the exact run (`bandwidth-drift`). Assumes nothing.
-use Prim.Native.Nat.{ℕ, min, _-_, _*_, _^_}
+use Prim.Native.Nat.{ℕ, min, _-_, _*_, _^_, _<_}
 use mathlib.Core.Bool.{Bool, true, false, cond}
 use mathlib.Core.List.{List}
 use mathlib.Core.Path.{_≡_, sym, subst}
 use native.Mathlib.Omega.{arith}
 use lib.Dec.{eqb}
 use lib.Ieee.{Float}
+use lib.Ieee.Exact.{HasValue}
 use borrow.Author.Tests.{leb-true}
-use Rattle.numbers.specs.Scaling.{complement, Parts}
+use Rattle.numbers.specs.Scaling.{complement, partsOf}
 use Rattle.numbers.proofs.ScaleLaws.{scale-f64-law}
 use Rattle.filters.specs.declared.bandwidth.Bandwidth.{Bandwidth}
 use Rattle.filters.specs.declared.time.Duration.{Duration}
@@ -30,47 +31,53 @@ use Rattle.events.specs.Event as E
 use Rattle.phases.specs.Phases.{restartedAt, cruiseModel, refillModel, leftModel}
 use Rattle.laws.proofs.Events.{event-model, event-sample, most-kept, most-max}
 use Rattle.drift.specs.Calls.{Call, event, cap, clearInflight, clearBandwidth, cruise, refill, other, State, numberOf, nextOf, run, started}
-use Rattle.drift.specs.Exact.{stays, reduces, Exact, unset, over, isReduced, bandwidthTurn, exactly, exactRun}
-use Rattle.drift.specs.Drift.{lowOf, bandwidthLow, Within, Follows, HasBeta, BandwidthDrift}
+use Rattle.drift.specs.Exact.{stays, clears, reduces, Exact, unset, over, isReduced, bandwidthTurn, exactly, exactRun}
+use Rattle.drift.specs.Drift.{lowOf, bandwidthLow, Nearer, Near, Follows, HasBeta, BandwidthDrift}
 use Rattle.drift.proofs.Others.{other-same, left-same}
 use Rattle.drift.proofs.Runs.{run-kept}
-use Rattle.drift.proofs.Sums.{Held, near, first, again}
+use Rattle.drift.proofs.Beta.{every-beta}
+use Rattle.drift.proofs.OneTurn.{first, again}
 
-module _ (beta : Float) (b : Parts (complement beta)) where
+module _ (beta : Float) (parts : ℕ) (value : HasValue (complement beta) false parts (2 ^ 24)) (not-all : parts < 2 ^ 24) where
   abbrev cut : Bandwidth → Bandwidth
   cut x = timesF32 x (complement beta)
 
   -- one cut of a bandwidth within its bound is off by less than 4097 / 8192
-  step : (x : Bandwidth) → bandwidthOk x ≡ true → Within (cut x .0 * 2 ^ 24 * 8192) (x .0 * b .parts * 8192) (2 ^ 24 * 4097)
+  step : (x : Bandwidth) → bandwidthOk x ≡ true → Nearer (cut x .0) (x .0 * parts) 24 1 4097 8192
   unfolding timesF32
   step x h =
-      let law = scale-f64-law (x .0) (b .parts) (2 ^ 24) (complement beta) (leb-true (x .0) (2 ^ 40) h) (omega arith) (omega (arith, b .not-all)) (b .value) .0 in
-      (omega (arith, law .not-over), omega (arith, law .not-short))
+      let law = scale-f64-law (x .0) parts (2 ^ 24) (complement beta) (leb-true (x .0) (2 ^ 40) h) (omega arith) (omega (arith, not-all)) value .0 in
+      record { not-over = omega (arith, law .not-over); not-short = omega (arith, law .not-short) }
 
   -- ---- what is kept
   abbrev Kept : MaybeBandwidth → Exact → Type 0
   Kept Unset unset = Unit {0}
-  Kept Unset (over num k) = ⊥
+  Kept Unset (over num exponent k) = ⊥
   Kept (Set x) unset = ⊥
-  Kept (Set x) (over num k) = Held 4097 8192 (b .parts) (x .0) num k
+  Kept (Set x) (over num exponent k) = Near 4097 8192 parts (x .0) num exponent k
 
-  follows : (l : MaybeBandwidth) (x : Exact) → Kept l x → Follows 4097 8192 (b .parts) (lowOf l) x
+  follows : (l : MaybeBandwidth) (x : Exact) → Kept l x → Follows 4097 8192 parts (lowOf l) x
   follows Unset unset h = tt
-  follows Unset (over num k) h = absurd h
+  follows Unset (over num exponent k) h = absurd h
   follows (Set y) unset h = absurd h
-  follows (Set y) (over num k) h = near 4097 8192 (b .parts) (y .0) num k (b .not-all) h
+  follows (Set y) (over num exponent k) h = h
 
   -- ---- the calls
   reduce-kept : (l : MaybeBandwidth) (seed latest : Bandwidth) (x : Exact) → maybeOk l ≡ true → bandwidthOk seed ≡ true → Kept l x
-      → Kept (Set (largerOf latest (cut (E.seedOf l seed)))) (exactly (b .parts) (reduces (seed .0) (latest .0)) x)
+      → Kept (Set (largerOf latest (cut (E.seedOf l seed)))) (exactly parts (reduces (seed .0) (latest .0)) x)
   unfolding exactly
-  reduce-kept Unset seed latest unset p q h = first 4097 8192 (b .parts) (seed .0) (cut seed .0) (latest .0) (step seed q)
-  reduce-kept Unset seed latest (over num k) p q h = absurd h
+  reduce-kept Unset seed latest unset p q h = first 4097 8192 parts not-all (seed .0) (cut seed .0) (latest .0) (omega arith) (step seed q)
+  reduce-kept Unset seed latest (over num exponent k) p q h = absurd h
   reduce-kept (Set y) seed latest unset p q h = absurd h
-  reduce-kept (Set y) seed latest (over num k) p q h = again 4097 8192 (b .parts) (y .0) (cut y .0) num k (latest .0) (step y p) h
+  reduce-kept (Set y) seed latest (over num exponent k) p q h = again 4097 8192 parts not-all (y .0) (cut y .0) num exponent k (latest .0) (omega arith) (step y p) h
+
+  clear-kept : (x : Exact) → Kept Unset (exactly parts clears x)
+  unfolding exactly
+  clear-kept unset = tt
+  clear-kept (over num exponent k) = tt
 
   event-kept : (m : NetworkModel) (p : Params) (e : Record) (s : Sample) (acked : List ℕ) (x : Exact) → p .beta ≡ beta → E.eventNumber m p e s acked ≡ 0 → Kept (m .lower .bandwidth) x
-      → Kept (E.modelNext m p e s acked .lower .bandwidth) (exactly (b .parts) (cond (isReduced m e s acked) (reduces (maxGet (E.mostNext m s) .0) (E.latestRaised (m .latest) s .bandwidth .0)) stays) x)
+      → Kept (E.modelNext m p e s acked .lower .bandwidth) (exactly parts (cond (isReduced m e s acked) (reduces (maxGet (E.mostNext m s) .0) (E.latestRaised (m .latest) s .bandwidth .0)) stays) x)
   unfolding modelTests E.sampleTests E.modelNext E.modelOf E.lowerNext E.lowerAfter E.lowerReduced E.recordNext E.recordOf E.mostNext isReduced exactly
   event-kept m p e s acked x same done h = go (E.acts (after .ended) (after .probing) (E.roundNext m after s .lost))
     where
@@ -85,11 +92,11 @@ module _ (beta : Float) (b : Parts (complement beta)) where
 
       go : (t : Bool) →
           Kept (cond t (E.lowerReduced (m .lower) (maxGet (E.mostNext m s)) (E.latestRaised (m .latest) s) (e .window) (complement (p .beta))) (m .lower) .bandwidth)
-          (exactly (b .parts) (cond t (reduces (maxGet (E.mostNext m s) .0) (E.latestRaised (m .latest) s .bandwidth .0)) stays) x)
+          (exactly parts (cond t (reduces (maxGet (E.mostNext m s) .0) (E.latestRaised (m .latest) s .bandwidth .0)) stays) x)
       go true =
           let most = maxGet (E.mostNext m s) in
           let latest = E.latestRaised (m .latest) s .bandwidth in
-          subst (λ (f : Float). Kept (Set (largerOf latest (timesF32 (E.seedOf (m .lower .bandwidth) most) (complement f)))) (exactly (b .parts) (reduces (most .0) (latest .0)) x)) (sym same)
+          subst (λ (f : Float). Kept (Set (largerOf latest (timesF32 (E.seedOf (m .lower .bandwidth) most) (complement f)))) (exactly parts (reduces (most .0) (latest .0)) x)) (sym same)
           (reduce-kept (m .lower .bandwidth) most latest x lo-ok most-ok h)
       go false = h
 
@@ -104,15 +111,15 @@ module _ (beta : Float) (b : Parts (complement beta)) where
       go true = h
       go false = h
 
-  next-kept : (c : Call) (s : State) (x : Exact) → HasBeta beta c → numberOf c s ≡ 0 → Kept (s .model .lower .bandwidth) x → Kept (nextOf c s .model .lower .bandwidth) (exactly (b .parts) (bandwidthTurn c s) x)
+  next-kept : (c : Call) (s : State) (x : Exact) → HasBeta beta c → numberOf c s ≡ 0 → Kept (s .model .lower .bandwidth) x → Kept (nextOf c s .model .lower .bandwidth) (exactly parts (bandwidthTurn c s) x)
   unfolding numberOf nextOf bandwidthTurn exactly capNext clearInflightNext clearBandwidthNext withLower cruiseModel withMoment refillModel restartedAt restartNext withGrowth withRounds withRound
   next-kept (event p e y acked) s x same done h = event-kept (s .model) p e y acked x same done h
   next-kept (cap bytes) s x same done h = capped-kept (s .model .lower) bytes x h
   next-kept clearInflight s x same done h = h
-  next-kept clearBandwidth s x same done h = tt
+  next-kept clearBandwidth s x same done h = clear-kept x
   next-kept (cruise now) s x same done h =
       let l = leftModel (s .model) (s .cycle) in capped-kept (l .lower) (l .high) x (same-kept (l .lower) (s .model .lower) x (left-same (s .model) (s .cycle) .lower) h)
-  next-kept (refill rounds now) s x same done h = tt
+  next-kept (refill rounds now) s x same done h = clear-kept x
   next-kept (other c) s x same done h = same-kept (nextOf (other c) s .model .lower) (s .model .lower) x (other-same c s .lower) h
 
   start-kept : (p : Params) (rtt : Duration) (now : Moment) → Kept (startModel p rtt now .lower .bandwidth) unset
@@ -125,6 +132,13 @@ module _ (beta : Float) (b : Parts (complement beta)) where
 
 pub bandwidth-drift : BandwidthDrift
 unfolding bandwidthLow started
-bandwidth-drift beta b p rtt now y calls same any =
-    follows beta b (run calls (started p rtt now y) .model .lower .bandwidth) (exactRun bandwidthTurn (b .parts) calls (started p rtt now y) unset)
-    (run-kept bandwidthTurn (b .parts) (λ s x. Kept beta b (s .model .lower .bandwidth) x) (HasBeta beta) (next-kept beta b) calls (started p rtt now y) unset same (start-kept beta b p rtt now))
+bandwidth-drift beta ok =
+    let b = every-beta beta ok in
+    let parts = partsOf (complement beta) in (
+      b .value,
+      λ p rtt now y calls same any.
+          let s = started p rtt now y in
+          let Keeps : State → Exact → Type 0 = λ s x. Kept beta parts (b .value) (b .not-all) (s .model .lower .bandwidth) x in
+          follows beta parts (b .value) (b .not-all) (run calls s .model .lower .bandwidth) (exactRun bandwidthTurn parts calls s unset)
+          (run-kept bandwidthTurn parts Keeps (HasBeta beta) (next-kept beta parts (b .value) (b .not-all)) calls s unset same (start-kept beta parts (b .value) (b .not-all) p rtt now)),
+    )

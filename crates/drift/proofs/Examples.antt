@@ -27,5 +27,5 @@ unfolding driftExamples scaled scaledF64 roundAway timesF32 Ieee.round Ieee.ofBi
 drift-examples = refl
 
 -- one instance of the bounds, computed: 910 against 1300 b
-pub near-example : Near 1 1 usualParts 910 (1300 * usualParts) 1
-near-example = record { counted = lit< tt; by-count = (lit< tt, lit< tt); by-rate = (lit< tt, lit< tt) }
+pub near-example : Near 1 1 usualParts 910 (1300 * usualParts) 24 1
+near-example = record { counted = lit< tt; by-count = record { not-over = lit< tt; not-short = lit< tt }; by-rate = record { not-over = lit< tt; not-short = lit< tt } }

@@ -1,5 +1,5 @@
 -- inflight_lo follows the exact run (`inflight-drift`). Assumes nothing.
-use Prim.Native.Nat.{ℕ, max, _-_, _*_, _^_, _≤_}
+use Prim.Native.Nat.{ℕ, max, _-_, _*_, _^_, _≤_, _<_}
 use mathlib.Core.Bool.{Bool, true, false, cond}
 use mathlib.Core.List.{List}
 use mathlib.Core.Path.{_≡_, refl, sym, subst}
@@ -7,8 +7,9 @@ use native.Mathlib.Nat.{mul-le-mul-left}
 use native.Mathlib.Omega.{arith}
 use lib.Dec.{eqb, ltb}
 use lib.Ieee.{Float}
+use lib.Ieee.Exact.{HasValue}
 use borrow.Author.Tests.{eq-eqb, ne-eqb}
-use Rattle.numbers.specs.Scaling.{scaled, complement, Parts}
+use Rattle.numbers.specs.Scaling.{scaled, complement, partsOf}
 use Rattle.numbers.proofs.ScaleLaws.{scale-law}
 use Rattle.filters.specs.declared.time.Duration.{Duration}
 use Rattle.filters.specs.declared.time.Moment.{Moment}
@@ -26,27 +27,30 @@ use Rattle.events.specs.Event as E
 use Rattle.phases.specs.declared.cycle.Cycle.{Cycle}
 use Rattle.phases.specs.Phases.{restartedAt, cruiseModel, refillModel, leftModel}
 use Rattle.drift.specs.Calls.{Call, event, cap, clearInflight, clearBandwidth, cruise, refill, other, State, nextOf, after, run, started}
-use Rattle.drift.specs.Exact.{stays, caps, reduces, Exact, unset, over, isReduced, inflightTurn, exactly, exactRun}
-use Rattle.drift.specs.Drift.{none, at, inflightLow, Within, Follows, HasBeta, IsSmall, InflightDrift}
+use Rattle.drift.specs.Exact.{stays, clears, caps, reduces, Exact, unset, over, isReduced, inflightTurn, exactly, exactRun}
+use Rattle.drift.specs.Drift.{none, at, inflightLow, Nearer, Near, Follows, HasBeta, IsSmall, InflightDrift}
 use Rattle.drift.proofs.Others.{other-same, left-same, left-high}
 use Rattle.drift.proofs.Runs.{run-kept, both-along}
-use Rattle.drift.proofs.Sums.{Held, near, first, again, cut-off}
+use Rattle.drift.proofs.Beta.{every-beta}
+use Rattle.drift.proofs.OneTurn.{first, again, cut-off}
 
-module _ (beta : Float) (b : Parts (complement beta)) where
+module _ (beta : Float) (parts : ℕ) (value : HasValue (complement beta) false parts (2 ^ 24)) (not-all : parts < 2 ^ 24) where
   abbrev cut : ℕ → ℕ
   cut n = scaled n (complement beta)
 
   -- one cut of at most 2^24 is off by less than 1, and not above what it cuts
-  step : (n : ℕ) → n ≤ 2 ^ 24 → Within (cut n * 2 ^ 24 * 1) (n * b .parts * 1) (2 ^ 24 * 1)
-  step n h = let law = scale-law n (b .parts) (2 ^ 24) (complement beta) h (omega arith) (omega (arith, b .not-all)) (b .value) in (omega (arith, law .not-over), omega (arith, law .not-short))
+  step : (n : ℕ) → n ≤ 2 ^ 24 → Nearer (cut n) (n * parts) 24 1 1 1
+  step n h =
+      let law = scale-law n parts (2 ^ 24) (complement beta) h (omega arith) (omega (arith, not-all)) value in
+      record { not-over = omega (arith, law .not-over); not-short = omega (arith, law .not-short) }
 
   not-above : (n : ℕ) → n ≤ 2 ^ 24 → cut n ≤ 2 ^ 24
-  not-above n h = omega (arith, step n h .0, mul-le-mul-left n (b .not-all))
+  not-above n h = omega (arith, step n h .not-over, mul-le-mul-left n not-all)
 
   -- ---- what is kept
   abbrev Raw : ℕ → Exact → Type 0
   Raw n unset = n ≡ 2 ^ 64 - 1
-  Raw n (over num k) = (n ≤ 2 ^ 24) × Held 1 1 (b .parts) n num k
+  Raw n (over num exponent k) = (n ≤ 2 ^ 24) × Near 1 1 parts n num exponent k
 
   record Kept (m : NetworkModel) (x : Exact) : Type 0 where
     pub small : m .latest .inflight ≤ 2 ^ 24
@@ -55,21 +59,27 @@ module _ (beta : Float) (b : Parts (complement beta)) where
   set : (n : ℕ) → n ≤ 2 ^ 24 → eqb n (2 ^ 64 - 1) ≡ false
   set n h = ne-eqb n (2 ^ 64 - 1) (λ e. omega (arith, e, h))
 
-  follows : (n : ℕ) (x : Exact) → Raw n x → Follows 1 1 (b .parts) (cond (eqb n (2 ^ 64 - 1)) none (at n)) x
+  follows : (n : ℕ) (x : Exact) → Raw n x → Follows 1 1 parts (cond (eqb n (2 ^ 64 - 1)) none (at n)) x
   follows n unset h = rw (eq-eqb n (2 ^ 64 - 1) h) tt
-  follows n (over num k) h = rw (set n (h .0)) (near 1 1 (b .parts) n num k (b .not-all) (h .1))
+  follows n (over num exponent k) h = rw (set n (h .0)) (h .1)
 
   -- ---- the turns
-  cap-raw : (l : Lower) (bytes : ℕ) (x : Exact) → Raw (l .inflight) x → Raw (lowerCapped l bytes .inflight) (exactly (b .parts) (caps bytes) x)
+  cap-raw : (l : Lower) (bytes : ℕ) (x : Exact) → Raw (l .inflight) x → Raw (lowerCapped l bytes .inflight) (exactly parts (caps bytes) x)
   unfolding lowerCapped exactly
   cap-raw l bytes unset h = rw (eq-eqb (l .inflight) (2 ^ 64 - 1) h) h
-  cap-raw l bytes (over num k) h = rw (set (l .inflight) (h .0)) (omega (arith, h .0), cut-off 1 1 (b .parts) (l .inflight) num k bytes (h .1))
+  cap-raw l bytes (over num exponent k) h =
+      rw (set (l .inflight) (h .0)) (omega (arith, h .0), cut-off 1 1 parts not-all (l .inflight) num exponent k bytes (omega arith) (h .1))
 
-  reduce-raw : (n seed latest : ℕ) (x : Exact) → seed ≤ 2 ^ 24 → latest ≤ 2 ^ 24 → Raw n x → Raw (max latest (cut (E.startOf n seed))) (exactly (b .parts) (reduces seed latest) x)
+  clear-raw : (x : Exact) → Raw (2 ^ 64 - 1) (exactly parts clears x)
   unfolding exactly
-  reduce-raw n seed latest unset p q h = rw (eq-eqb n (2 ^ 64 - 1) h) (omega (arith, q, not-above seed p), first 1 1 (b .parts) seed (cut seed) latest (step seed p))
-  reduce-raw n seed latest (over num k) p q h =
-      rw (set n (h .0)) (omega (arith, q, not-above n (h .0)), again 1 1 (b .parts) n (cut n) num k latest (step n (h .0)) (h .1))
+  clear-raw unset = refl
+  clear-raw (over num exponent k) = refl
+
+  reduce-raw : (n seed latest : ℕ) (x : Exact) → seed ≤ 2 ^ 24 → latest ≤ 2 ^ 24 → Raw n x → Raw (max latest (cut (E.startOf n seed))) (exactly parts (reduces seed latest) x)
+  unfolding exactly
+  reduce-raw n seed latest unset p q h = rw (eq-eqb n (2 ^ 64 - 1) h) (omega (arith, q, not-above seed p), first 1 1 parts not-all seed (cut seed) latest (omega arith) (step seed p))
+  reduce-raw n seed latest (over num exponent k) p q h =
+      rw (set n (h .0)) (omega (arith, q, not-above n (h .0)), again 1 1 parts not-all n (cut n) num exponent k latest (omega arith) (step n (h .0)) (h .1))
 
   -- ---- the calls
   raised-small : (l : Latest) (s : Sample) → l .inflight ≤ 2 ^ 24 → s .inflight ≤ 2 ^ 24 → E.latestRaised l s .inflight ≤ 2 ^ 24
@@ -86,7 +96,7 @@ module _ (beta : Float) (b : Parts (complement beta)) where
   after-small l false s p q = p
 
   event-kept : (m : NetworkModel) (p : Params) (e : Record) (s : Sample) (acked : List ℕ) (x : Exact) → p .beta ≡ beta → (e .window ≤ 2 ^ 24) × (s .inflight ≤ 2 ^ 24) → Kept m x
-      → Kept (E.modelNext m p e s acked) (exactly (b .parts) (cond (isReduced m e s acked) (reduces (e .window) (E.latestRaised (m .latest) s .inflight)) stays) x)
+      → Kept (E.modelNext m p e s acked) (exactly parts (cond (isReduced m e s acked) (reduces (e .window) (E.latestRaised (m .latest) s .inflight)) stays) x)
   unfolding E.modelNext E.modelOf E.lowerNext E.lowerAfter E.lowerReduced E.recordNext E.recordOf isReduced exactly
   event-kept m p e s acked x same sizes h =
       record { small = after-small (E.latestRaised (m .latest) s) (after .ended) s raised (sizes .1); raw = go (E.acts (after .ended) (after .probing) (E.roundNext m after s .lost)) }
@@ -99,8 +109,8 @@ module _ (beta : Float) (b : Parts (complement beta)) where
 
       go : (t : Bool) →
           Raw (cond t (E.lowerReduced (m .lower) (maxGet (E.mostNext m s)) (E.latestRaised (m .latest) s) (e .window) (complement (p .beta))) (m .lower) .inflight)
-          (exactly (b .parts) (cond t (reduces (e .window) (E.latestRaised (m .latest) s .inflight)) stays) x)
-      go true = rw same (reduce-raw (m .lower .inflight) (e .window) (E.latestRaised (m .latest) s .inflight) x (sizes .0) raised (h .raw))
+          (exactly parts (cond t (reduces (e .window) (E.latestRaised (m .latest) s .inflight)) stays) x)
+      go true = rw same (reduce-raw (m .lower .inflight) (e .window) (E.latestRaised (m .latest) s .inflight) x (omega (arith, sizes .0)) raised (h .raw))
       go false = h .raw
 
   -- a model that has the same lower bounds and latest samples
@@ -108,26 +118,26 @@ module _ (beta : Float) (b : Parts (complement beta)) where
   same-kept m old x p q h =
       record { small = subst (λ (l : Latest). l .inflight ≤ 2 ^ 24) (sym q) (h .small); raw = subst (λ (l : Lower). Raw (l .inflight) x) (sym p) (h .raw) }
 
-  cap-kept : (m : NetworkModel) (bytes : ℕ) (x : Exact) → Kept m x → Kept (capNext m bytes) (exactly (b .parts) (caps bytes) x)
+  cap-kept : (m : NetworkModel) (bytes : ℕ) (x : Exact) → Kept m x → Kept (capNext m bytes) (exactly parts (caps bytes) x)
   unfolding capNext withLower
   cap-kept m bytes x h = record { small = h .small; raw = cap-raw (m .lower) bytes x (h .raw) }
 
-  cruise-kept : (m : NetworkModel) (c : Cycle) (now : Moment) (x : Exact) → Kept m x → Kept (cruiseModel m c now) (exactly (b .parts) (caps (m .high)) x)
+  cruise-kept : (m : NetworkModel) (c : Cycle) (now : Moment) (x : Exact) → Kept m x → Kept (cruiseModel m c now) (exactly parts (caps (m .high)) x)
   unfolding cruiseModel withMoment
   cruise-kept m c now x h =
       let l = left-same m c in
       let k = cap-kept (leftModel m c) (leftModel m c .high) x (same-kept (leftModel m c) m x (l .lower) (l .latest) h) in
-      subst (λ (bytes : ℕ). Kept (withMoment (capNext (leftModel m c) (leftModel m c .high)) now) (exactly (b .parts) (caps bytes) x)) (left-high m c) (record { small = k .small; raw = k .raw })
+      subst (λ (bytes : ℕ). Kept (withMoment (capNext (leftModel m c) (leftModel m c .high)) now) (exactly parts (caps bytes) x)) (left-high m c) (record { small = k .small; raw = k .raw })
 
-  refill-kept : (m : NetworkModel) (c : Cycle) (now : Moment) (x : Exact) → Kept m x → Kept (refillModel m c now) unset
+  refill-kept : (m : NetworkModel) (c : Cycle) (now : Moment) (x : Exact) → Kept m x → Kept (refillModel m c now) (exactly parts clears x)
   unfolding refillModel restartedAt restartNext clearInflightNext clearBandwidthNext withLower withMoment withGrowth withRounds withRound
-  refill-kept m c now x h = record { small = subst (λ (l : Latest). l .inflight ≤ 2 ^ 24) (sym (left-same m c .latest)) (h .small); raw = refl }
+  refill-kept m c now x h = record { small = subst (λ (l : Latest). l .inflight ≤ 2 ^ 24) (sym (left-same m c .latest)) (h .small); raw = clear-raw x }
 
-  next-kept : (c : Call) (s : State) (x : Exact) → HasBeta beta c → IsSmall c → Kept (s .model) x → Kept (nextOf c s .model) (exactly (b .parts) (inflightTurn c s) x)
+  next-kept : (c : Call) (s : State) (x : Exact) → HasBeta beta c → IsSmall c → Kept (s .model) x → Kept (nextOf c s .model) (exactly parts (inflightTurn c s) x)
   unfolding nextOf inflightTurn exactly clearInflightNext clearBandwidthNext withLower
   next-kept (event p e y acked) s x same sizes h = event-kept (s .model) p e y acked x same sizes h
   next-kept (cap bytes) s x same sizes h = cap-kept (s .model) bytes x h
-  next-kept clearInflight s x same sizes h = record { small = h .small; raw = refl }
+  next-kept clearInflight s x same sizes h = record { small = h .small; raw = clear-raw x }
   next-kept clearBandwidth s x same sizes h = record { small = h .small; raw = h .raw }
   next-kept (cruise now) s x same sizes h = cruise-kept (s .model) (s .cycle) now x h
   next-kept (refill rounds now) s x same sizes h = refill-kept (s .model) (s .cycle) now x h
@@ -143,7 +153,14 @@ module _ (beta : Float) (b : Parts (complement beta)) where
 
 pub inflight-drift : InflightDrift
 unfolding inflightLow started
-inflight-drift beta b p rtt now y calls same sizes =
-    let kept = run-kept inflightTurn (b .parts) (λ s x. Kept beta b (s .model) x) (λ c. HasBeta beta c × IsSmall c) (λ c s x p done. next-kept beta b c s x (p .0) (p .1)) in
-    follows beta b (run calls (started p rtt now y) .model .lower .inflight) (exactRun inflightTurn (b .parts) calls (started p rtt now y) unset)
-    (kept calls (started p rtt now y) unset (both-along (HasBeta beta) IsSmall calls (started p rtt now y) same sizes) (start-kept beta b p rtt now) .raw)
+inflight-drift beta ok =
+    let b = every-beta beta ok in
+    let parts = partsOf (complement beta) in (
+      b .value,
+      λ p rtt now y calls same sizes.
+          let s = started p rtt now y in
+          let Keeps : State → Exact → Type 0 = λ s x. Kept beta parts (b .value) (b .not-all) (s .model) x in
+          let kept = run-kept inflightTurn parts Keeps (λ c. HasBeta beta c × IsSmall c) (λ c s x p done. next-kept beta parts (b .value) (b .not-all) c s x (p .0) (p .1)) in
+          follows beta parts (b .value) (b .not-all) (run calls s .model .lower .inflight) (exactRun inflightTurn parts calls s unset)
+          (kept calls s unset (both-along (HasBeta beta) IsSmall calls s same sizes) (start-kept beta parts (b .value) (b .not-all) p rtt now) .raw),
+    )

@@ -1,5 +1,6 @@
 -- Proofs of the drift.
-pub mod Sums
+pub mod OneTurn
+pub mod Beta
 pub mod Blind
 pub mod Others
 pub mod Runs

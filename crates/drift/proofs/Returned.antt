@@ -4,8 +4,7 @@ use mathlib.Core.Bool.{Bool, true, false, cond}
 use mathlib.Core.List.{List, [], _∷_}
 use mathlib.Core.Path.{_≡_, refl, sym, ap, subst, _∙_}
 use lib.Dec.{eqb}
-use lib.Ieee.{Float}
-use Rattle.numbers.specs.Scaling.{complement, Parts}
+use Rattle.numbers.specs.Scaling.{complement, partsOf}
 use Rattle.filters.specs.declared.time.Duration.{Duration}
 use Rattle.filters.specs.declared.time.Moment.{Moment}
 use Rattle.model.specs.declared.network_model.NetworkModel.{NetworkModel}
@@ -20,7 +19,7 @@ use Rattle.drift.specs.Calls as Calls
 use Rattle.drift.specs.Calls.{Call, Other, State, otherNumber, otherNext, numberOf, nextOf, after, run, started}
 use Rattle.drift.specs.Exact.{Turn, unset, inflightTurn, bandwidthTurn, exactRun}
 use Rattle.drift.specs.Drift.{Low, inflightLow, bandwidthLow, Follows, Along, HasBeta, IsSmall, IsAny, Drift, UsualDrift, Under, usualBeta, usualParts}
-use Rattle.drift.specs.Returned.{Leaves, MadeOther, Made, Begun, Ran, CodeInflightDrift, CodeBandwidthDrift, CodeUsualInflightDrift, CodeUsualBandwidthDrift}
+use Rattle.drift.specs.Returned.{Leaves, MadeOther, Made, Begun, Ran, CodeDrift, CodeUsualDrift, CodeInflightDrift, CodeBandwidthDrift, CodeUsualInflightDrift, CodeUsualBandwidthDrift}
 use Rattle.drift.proofs.Inflight.{inflight-drift}
 use Rattle.drift.proofs.Bandwidth.{bandwidth-drift}
 use Rattle.drift.proofs.Usual.{usual-inflight-drift, usual-bandwidth-drift}
@@ -116,24 +115,29 @@ module _ (p : Params) (rtt : Duration) (time : Moment) (calls : List Call) (s t 
   along : (P : Call → Type 0) → Along P calls s → Along P calls (started p rtt time (s .cycle))
   along P h = subst (λ (z : State). Along P calls z) (begun p rtt time s b) h
 
-  module _ (turn : Call → State → Turn) (low : State → Low) (Q : Call → Type 0) where
-    code-drift : (u v : ℕ) → Drift u v turn low Q → (beta : Float) (f : Parts (complement beta)) → Along (HasBeta beta) calls s → Along Q calls s
-        → Follows u v (f .parts) (low t) (exactRun turn (f .parts) calls s unset)
-    code-drift u v drift beta f same fine =
-        returned (λ s t. Follows u v (f .parts) (low t) (exactRun turn (f .parts) calls s unset)) (drift beta f p rtt time (s .cycle) calls (along (HasBeta beta) same) (along Q fine))
+module _ (turn : Call → State → Turn) (low : State → Low) (Q : Call → Type 0) where
+  code-drift : (u v : ℕ) → Drift u v turn low Q → CodeDrift u v turn low Q
+  code-drift u v drift beta ok =
+      let parts = partsOf (complement beta) in (
+        drift beta ok .0,
+        λ p rtt time calls s t same fine b r.
+            returned p rtt time calls s t b r (λ s t. Follows u v parts (low t) (exactRun turn parts calls s unset))
+            (drift beta ok .1 p rtt time (s .cycle) calls (along p rtt time calls s t b r (HasBeta beta) same) (along p rtt time calls s t b r Q fine)),
+      )
 
-    code-usual-drift : (h : ℕ) → UsualDrift h turn low Q → Along (HasBeta usualBeta) calls s → Along Q calls s → Under h (low t) (exactRun turn usualParts calls s unset)
-    code-usual-drift h drift same fine =
-        returned (λ s t. Under h (low t) (exactRun turn usualParts calls s unset)) (drift p rtt time (s .cycle) calls (along (HasBeta usualBeta) same) (along Q fine))
+  code-usual-drift : (h : ℕ) → UsualDrift h turn low Q → CodeUsualDrift h turn low Q
+  code-usual-drift h drift p rtt time calls s t same fine b r =
+      returned p rtt time calls s t b r (λ s t. Under h (low t) (exactRun turn usualParts calls s unset))
+      (drift p rtt time (s .cycle) calls (along p rtt time calls s t b r (HasBeta usualBeta) same) (along p rtt time calls s t b r Q fine))
 
 pub code-inflight-drift : CodeInflightDrift
-code-inflight-drift beta f p rtt time calls s t same fine b r = code-drift p rtt time calls s t b r inflightTurn inflightLow IsSmall 1 1 inflight-drift beta f same fine
+code-inflight-drift = code-drift inflightTurn inflightLow IsSmall 1 1 inflight-drift
 
 pub code-bandwidth-drift : CodeBandwidthDrift
-code-bandwidth-drift beta f p rtt time calls s t same fine b r = code-drift p rtt time calls s t b r bandwidthTurn bandwidthLow IsAny 4097 8192 bandwidth-drift beta f same fine
+code-bandwidth-drift = code-drift bandwidthTurn bandwidthLow IsAny 4097 8192 bandwidth-drift
 
 pub code-usual-inflight-drift : CodeUsualInflightDrift
-code-usual-inflight-drift p rtt time calls s t same fine b r = code-usual-drift p rtt time calls s t b r inflightTurn inflightLow IsSmall 334 usual-inflight-drift same fine
+code-usual-inflight-drift = code-usual-drift inflightTurn inflightLow IsSmall 334 usual-inflight-drift
 
 pub code-usual-bandwidth-drift : CodeUsualBandwidthDrift
-code-usual-bandwidth-drift p rtt time calls s t same fine b r = code-usual-drift p rtt time calls s t b r bandwidthTurn bandwidthLow IsAny 167 usual-bandwidth-drift same fine
+code-usual-bandwidth-drift = code-usual-drift bandwidthTurn bandwidthLow IsAny 167 usual-bandwidth-drift

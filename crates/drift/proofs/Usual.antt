@@ -1,53 +1,51 @@
 -- The drift at beta 0.3. Assumes nothing.
-use Prim.Native.Nat.{ℕ, _-_, _*_, _^_, _<_}
-use mathlib.Core.Path.{refl}
+use Prim.Native.Nat.{ℕ, _-_, _*_, _^_}
+use mathlib.Core.List.{List}
+use mathlib.Core.Path.{_≡_, refl, subst}
 use native.Mathlib.Omega.{arith}
-use lib.Dec.{lit<, lit≤}
-use mathlib.Core.Bool.{false}
-use lib.Ieee.{binary32, ofBits, sub, le}
-use denote.Floats.{passes}
-use Rattle.numbers.proofs.Complement.{complement-law}
+use lib.Ieee.{ofBits, sub, le, fits}
+use Rattle.numbers.specs.Scaling.{complement, partsOf}
 use Rattle.model.specs.Bounds.{within}
-use Rattle.model.proofs.Rows.{and-left, and-right}
-use lib.Ieee.Exact.{HasValue}
-use Rattle.numbers.specs.Scaling.{complement, Parts}
-use Rattle.drift.specs.Exact.{Exact, unset, over, inflightTurn, bandwidthTurn, exactRun}
-use Rattle.drift.specs.Calls.{run, started}
-use Rattle.drift.specs.Drift.{EveryBeta, Low, none, at, inflightLow, bandwidthLow, Within, Follows, usualBeta, usualParts, Under, UsualInflightDrift, UsualBandwidthDrift}
+use Rattle.drift.specs.Calls.{Call, State, run, started}
+use Rattle.drift.specs.Exact.{Turn, Exact, unset, over, inflightTurn, bandwidthTurn, exactRun}
+use Rattle.drift.specs.Drift.{IsBeta, Low, none, at, inflightLow, bandwidthLow, Nearer, Follows, usualBeta, usualParts, Under, UsualInflightDrift, UsualBandwidthDrift}
 use Rattle.drift.proofs.Inflight.{inflight-drift}
 use Rattle.drift.proofs.Bandwidth.{bandwidth-drift}
 
-usual-value : HasValue (complement usualBeta) false usualParts (2 ^ 24)
+usual-parts : partsOf (complement usualBeta) ≡ usualParts
 unfolding ofBits sub
-usual-value = (refl, refl)
+usual-parts = refl
 
-abbrev usual : Parts (complement usualBeta)
-usual = record { parts = usualParts; value = usual-value; some = lit< tt; not-all = lit< tt; at-least = lit≤ tt; at-most = lit≤ tt }
+usual-beta : IsBeta usualBeta
+unfolding ofBits within le fits
+usual-beta = record { format = tt; range = refl }
 
-inflight-under : (a num d : ℕ) → Within (a * 1 * (2 ^ 24 - usualParts)) (num * 1 * (2 ^ 24 - usualParts)) (2 ^ 24 * 1 * d) → Within (a * 100) (num * 100) (334 * d)
-inflight-under a num d h = (omega (arith, h .0), omega (arith, h .1))
+inflight-under : (n num exponent : ℕ) → Nearer n num exponent (2 ^ 24) 1 (1 * (2 ^ 24 - usualParts)) → Nearer n num exponent 334 1 100
+inflight-under n num exponent h = record { not-over = omega (arith, h .not-over); not-short = omega (arith, h .not-short) }
 
-bandwidth-under : (a num d : ℕ) → Within (a * 8192 * (2 ^ 24 - usualParts)) (num * 8192 * (2 ^ 24 - usualParts)) (2 ^ 24 * 4097 * d) → Within (a * 100) (num * 100) (167 * d)
-bandwidth-under a num d h = (omega (arith, h .0), omega (arith, h .1))
+bandwidth-under : (n num exponent : ℕ) → Nearer n num exponent (2 ^ 24) 4097 (8192 * (2 ^ 24 - usualParts)) → Nearer n num exponent 167 1 100
+bandwidth-under n num exponent h = record { not-over = omega (arith, h .not-over); not-short = omega (arith, h .not-short) }
 
-under : (u v h : ℕ) → ((a num d : ℕ) → Within (a * v * (2 ^ 24 - usualParts)) (num * v * (2 ^ 24 - usualParts)) (2 ^ 24 * u * d) → Within (a * 100) (num * 100) (h * d))
-    → (l : Low) (x : Exact) → Follows u v usualParts l x → Under h l x
-under u v h rate none unset f = tt
-under u v h rate none (over num k) f = f
-under u v h rate (at n) unset f = f
-under u v h rate (at n) (over num k) f = rate (n * 2 ^ (24 * k)) num (2 ^ (24 * k)) (f .by-rate)
+-- with the parts as they are computed from beta
+module _ (u v h : ℕ) (rate : (n num exponent : ℕ) → Nearer n num exponent (2 ^ 24) u (v * (2 ^ 24 - usualParts)) → Nearer n num exponent h 1 100) where
+  under : (l : Low) (x : Exact) → Follows u v usualParts l x → Under h l x
+  under none unset f = tt
+  under none (over num exponent k) f = f
+  under (at n) unset f = f
+  under (at n) (over num exponent k) f = rate n num exponent (f .by-rate)
+
+  usual : (turn : Call → State → Turn) (l : Low) (calls : List Call) (s : State)
+      → Follows u v (partsOf (complement usualBeta)) l (exactRun turn (partsOf (complement usualBeta)) calls s unset)
+      → Under h l (exactRun turn usualParts calls s unset)
+  usual turn l calls s f =
+      under l (exactRun turn usualParts calls s unset) (subst (λ (parts : ℕ). Follows u v parts l (exactRun turn parts calls s unset)) usual-parts f)
 
 pub usual-inflight-drift : UsualInflightDrift
-usual-inflight-drift p rtt now y calls same sizes = under 1 1 334 inflight-under (inflightLow (run calls (started p rtt now y))) (exactRun inflightTurn usualParts calls (started p rtt now y) unset)
-    (inflight-drift usualBeta usual p rtt now y calls same sizes)
+usual-inflight-drift p rtt now y calls same sizes =
+    let s = started p rtt now y in
+    usual 1 1 334 inflight-under inflightTurn (inflightLow (run calls s)) calls s (inflight-drift usualBeta usual-beta .1 p rtt now y calls same sizes)
 
 pub usual-bandwidth-drift : UsualBandwidthDrift
-usual-bandwidth-drift p rtt now y calls same any = under 4097 8192 167 bandwidth-under (bandwidthLow (run calls (started p rtt now y))) (exactRun bandwidthTurn usualParts calls (started p rtt now y) unset)
-    (bandwidth-drift usualBeta usual p rtt now y calls same any)
-
-pub every-beta : EveryBeta
-unfolding within ofBits
-every-beta beta f ok =
-    let low = le (ofBits binary32 0x3a80_0000) beta in
-    let high = le beta (ofBits binary32 0x3f7f_c000) in
-    complement-law beta f (passes low (and-left low high ok)) (passes high (and-right low high ok))
+usual-bandwidth-drift p rtt now y calls same any =
+    let s = started p rtt now y in
+    usual 4097 8192 167 bandwidth-under bandwidthTurn (bandwidthLow (run calls s)) calls s (bandwidth-drift usualBeta usual-beta .1 p rtt now y calls same any)

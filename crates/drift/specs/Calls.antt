@@ -1,4 +1,5 @@
--- Runs: any list of calls on a model and a cycle, over the definitions that the code is proved equal to. A refused call counts as not made.
+-- Runs: any list of calls on a model and a cycle, over the definitions that the code is proved equal to. A refused call
+-- counts as not made.
 use Prim.Native.Nat.{ℕ}
 use mathlib.Core.Bool.{Bool, false}
 use mathlib.Core.List.{List, [], _∷_}
@@ -17,8 +18,8 @@ use Rattle.events.specs.Judge as J
 use Rattle.phases.specs.declared.cycle.Cycle.{Cycle}
 use Rattle.phases.specs.Phases as P
 
--- ---- every call that can change the model or the cycle, with its arguments: all of the public functions that test what they are given (docs/DECISIONS.md, 22, has the steps that don't).
--- First those whose rules name no lower bound
+-- ---- every call that can change the model or the cycle, with its arguments: all of the public functions that test
+-- what they are given (docs/DECISIONS.md, 22, has the steps that don't). First those whose rules name no lower bound
 pub data Other : Type 0 where
   sent : (now : Moment) (inflight packet bytes : ℕ) → Other
   finish : Record → Other
@@ -95,7 +96,8 @@ otherNext (cwnd gain) s = onModel s (M.cwndNext (s .model) gain)
 otherNext (high bytes) s = onModel s (M.withHigh (s .model) bytes)
 otherNext advance s = onModel s (M.advanceNext (s .model))
 otherNext (postpone d) s = onModel s (M.postponeNext (s .model) d)
-otherNext (down p hi risky now) s = record { model = P.restartedAt (s .model) now; cycle = P.downCycle (s .cycle) p hi risky now }
+otherNext (down p hi risky now) s =
+    record { model = P.restartedAt (s .model) now; cycle = P.downCycle (s .cycle) p hi risky now }
 otherNext (up now window) s = record { model = P.restartedAt (s .model) now; cycle = P.upCycle (s .cycle) now window }
 otherNext exit s = record { model = P.exitModel (s .model) (s .cycle); cycle = P.exitCycle (s .cycle) }
 otherNext (slope window) s = record { model = s .model; cycle = P.slopeCycle (s .cycle) window }
@@ -106,7 +108,8 @@ nextOf (cap bytes) s = onModel s (M.capNext (s .model) bytes)
 nextOf clearInflight s = onModel s (M.clearInflightNext (s .model))
 nextOf clearBandwidth s = onModel s (M.clearBandwidthNext (s .model))
 nextOf (cruise now) s = record { model = P.cruiseModel (s .model) (s .cycle) now; cycle = P.cruiseCycle (s .cycle) now }
-nextOf (refill rounds now) s = record { model = P.refillModel (s .model) (s .cycle) now; cycle = P.refillCycle (s .cycle) rounds now }
+nextOf (refill rounds now) s =
+    record { model = P.refillModel (s .model) (s .cycle) now; cycle = P.refillCycle (s .cycle) rounds now }
 nextOf (other c) s = otherNext c s
 
 -- ---- a run

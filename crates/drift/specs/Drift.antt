@@ -1,13 +1,35 @@
--- The theorem, in words. Let b be the float 1 - beta, and x the exact value: the same rules on exact fractions. inflight_lo is unset exactly where x is. Where it is set, after k
--- reductions since it was last unset, |inflight_lo - x| < k and |inflight_lo - x| < 1 / (1 - b). bandwidth_lo has the same with 4097 / 8192 = 1/2 + 2^-13 for 1.
--- Statements only; proofs/ proves them. `a × b` is "a and b", `⊥` is "never", `x .f` is the field f of x, and a function's arguments follow it without brackets.
+-- How far inflight_lo and bandwidth_lo can have moved. Statements only; proofs/ proves them.
+--
+-- In words. beta is the share that a loss takes off, b the float 1 - beta: a reduction multiplies a lower bound by b
+-- and rounds. The exact value x comes of the same rules on exact fractions (Exact.antt), in the same run, and k counts
+-- the reductions since it was last unset. Start a model, whether the start is refused or not, beside any cycle. Make
+-- any calls, in any order; a refused one counts as not made. Let every accepted event have this beta and, for
+-- inflight_lo, a window and an inflight sample of at most 2^24 bytes. Then inflight_lo is unset exactly where x is.
+-- Where it is set,
+--     |inflight_lo - x| < k    and    |inflight_lo - x| < 1 / (1 - b).
+-- bandwidth_lo has the same with 4097 / 8192 = 1/2 + 2^-13 in place of 1, for all windows and samples.
+--
+-- In symbols. `ℕ` is the whole numbers from 0, and `a - b` of them is 0 where b is larger. `f x y` is f of x and y:
+-- arguments have no brackets around them. `x : A` says that x is of the kind A. `(x : A) → B` reads "for every x of
+-- the kind A, B", and `A → B` "if A, then B"; between kinds of values it is a function from A to B. `A × B` is "A and
+-- B", `a ≡ b` "a equals b", `⊥` "never", `Unit` "nothing is asked". `T t` says that the test t gives true; `eqb a b` is
+-- the test whether a equals b. `cond t a b` is a where t is true, and b elsewhere. `x .f` is the field f of x. `λ x. A`
+-- is A as a function of x. `let x = a in B` is B, in which x stands for a. `Type 0` is the kind of statements. `[]` is
+-- the empty list, `c ∷ calls` a list whose first is c. `fits binary32 x` tests whether x is an f32, `ofBits` reads one
+-- from its bits, and `HasValue x false a c` says that x is finite, not negative, and a / c in size. `unfoldable`,
+-- `abbrev` and `pub` say who may look inside a name, and add nothing to what it means.
+--
+-- `Near` in numbers. inflight_lo is unset and the window is 1300 bytes. At beta 0.3 b is 11744051 / 2^24, and the
+-- first reduction stores 910. The exact value is 1300 * 11744051 / 2^24 = 909.99998.., so it is `over num 24 1` with
+-- num = 1300 * 11744051 = 15267266300. `by-count` says |910 * 2^24 - num| < 1 * 2^24: that is 260 < 16777216.
 use Prim.Native.Nat.{ℕ, _+_, _-_, _*_, _^_, _≤_, _<_}
-use mathlib.Core.Bool.{cond, true}
+use mathlib.Core.Bool.{cond, true, false}
 use mathlib.Core.List.{List, [], _∷_}
 use mathlib.Core.Path.{_≡_}
 use lib.Dec.{T, eqb}
 use lib.Ieee.{Float, binary32, ofBits, fits}
-use Rattle.numbers.specs.Scaling.{complement, Parts}
+use lib.Ieee.Exact.{HasValue}
+use Rattle.numbers.specs.Scaling.{complement, partsOf}
 use Rattle.filters.specs.declared.time.Duration.{Duration}
 use Rattle.filters.specs.declared.time.Moment.{Moment}
 use Rattle.model.specs.declared.params.Params.{Params}
@@ -26,6 +48,7 @@ pub data Low : Type 0 where
   none : Low
   at : ℕ → Low
 
+-- inflight_lo is unset where it is 2^64 - 1
 unfoldable pub inflightLow : State → Low
 inflightLow s = let n = s .model .lower .inflight in cond (eqb n (2 ^ 64 - 1)) none (at n)
 
@@ -37,24 +60,25 @@ unfoldable pub bandwidthLow : State → Low
 bandwidthLow s = lowOf (s .model .lower .bandwidth)
 
 -- ---- how near it is. All is multiplied out, so that every number is whole
--- |a - b| < c
-abbrev pub Within : (a b c : ℕ) → Type 0
-Within a b c = (a < b + c) × (b < a + c)
+-- |n - num / 2^exponent| < times * u / v, multiplied by 2^exponent and by v
+pub record Nearer (n num exponent times u v : ℕ) : Type 0 where
+  pub not-over : n * 2 ^ exponent * v < num * v + times * u * 2 ^ exponent
+  pub not-short : num * v < n * 2 ^ exponent * v + times * u * 2 ^ exponent
 
--- n is stored, num / 2^(24 k) is exact, and k reductions were made by b = parts / 2^24, each of them off by less than u / v
-pub record Near (u v parts n num k : ℕ) : Type 0 where
+-- n is stored, num / 2^exponent is exact, and k reductions were made by b = parts / 2^24, each off by less than u / v
+pub record Near (u v parts n num exponent k : ℕ) : Type 0 where
   pub counted : 0 < k
   -- |n - exact| < k * u / v
-  pub by-count : Within (n * 2 ^ (24 * k) * v) (num * v) (k * u * 2 ^ (24 * k))
-  -- |n - exact| < (u / v) / (1 - b)
-  pub by-rate : Within (n * 2 ^ (24 * k) * v * (2 ^ 24 - parts)) (num * v * (2 ^ 24 - parts)) (2 ^ 24 * u * 2 ^ (24 * k))
+  pub by-count : Nearer n num exponent k u v
+  -- |n - exact| < (u / v) / (1 - b), where 1 - b is (2^24 - parts) / 2^24
+  pub by-rate : Nearer n num exponent (2 ^ 24) u (v * (2 ^ 24 - parts))
 
 -- the stored one is set exactly where the exact one is, and then near it
 abbrev pub Follows : (u v parts : ℕ) → Low → Exact → Type 0
 Follows u v parts none unset = Unit {0}
-Follows u v parts none (over num k) = ⊥
+Follows u v parts none (over num exponent k) = ⊥
 Follows u v parts (at n) unset = ⊥
-Follows u v parts (at n) (over num k) = Near u v parts n num k
+Follows u v parts (at n) (over num exponent k) = Near u v parts n num exponent k
 
 -- ---- the runs: P holds of every call that is done
 abbrev pub Along : (Call → Type 0) → List Call → State → Type 0
@@ -82,12 +106,23 @@ IsSmall = OfEvent (λ p e y. (e .window ≤ 2 ^ 24) × (y .inflight ≤ 2 ^ 24))
 abbrev pub IsAny : Call → Type 0
 IsAny c = Unit {0}
 
--- ---- the theorem: after any list of calls from a fresh model, beside any cycle, the number follows its exact run
+-- an f32 that document 01 allows as beta: "beta from 1/1024 to 1023/1024"
+pub record IsBeta (beta : Float) : Type 0 where
+  pub format : T (fits binary32 beta)
+  pub range : betaOk beta ≡ true
+
+-- ---- the theorem: b is exactly parts / 2^24, and after any list of calls from a fresh model, beside any cycle y, the
+-- number follows its exact run. u / v bounds what one reduction is off, `turn` is what a call does to the number, `low`
+-- the number as it is stored, P what is asked of every accepted event besides beta
 abbrev pub Drift : (u v : ℕ) → (Call → State → Turn) → (State → Low) → (Call → Type 0) → Type 0
 Drift u v turn low P =
-    (beta : Float) (b : Parts (complement beta)) (p : Params) (rtt : Duration) (now : Moment) (y : Cycle) (calls : List Call) →
+    (beta : Float) → IsBeta beta →
+    let parts = partsOf (complement beta) in
+    HasValue (complement beta) false parts (2 ^ 24)
+    × ((p : Params) (rtt : Duration) (now : Moment) (y : Cycle) (calls : List Call) →
     let s = started p rtt now y in
-    Along (HasBeta beta) calls s → Along P calls s → Follows u v (b .parts) (low (run calls s)) (exactRun turn (b .parts) calls s unset)
+    Along (HasBeta beta) calls s → Along P calls s →
+    Follows u v parts (low (run calls s)) (exactRun turn parts calls s unset))
 
 -- inflight_lo: less than k bytes, and less than 1 / (1 - b) bytes
 abbrev pub InflightDrift : Type 0
@@ -96,10 +131,6 @@ InflightDrift = Drift 1 1 inflightTurn inflightLow IsSmall
 -- bandwidth_lo: with 4097 / 8192 bits per second for each reduction
 abbrev pub BandwidthDrift : Type 0
 BandwidthDrift = Drift 4097 8192 bandwidthTurn bandwidthLow IsAny
-
--- every f32 beta that document 01 allows gives such a b
-abbrev pub EveryBeta : Type 0
-EveryBeta = (beta : Float) → T (fits binary32 beta) → betaOk beta ≡ true → Parts (complement beta)
 
 -- ---- at beta 0.3, the f32 with the bits 3E99999A, b is 11744051 / 2^24
 abbrev pub usualBeta : Float
@@ -111,15 +142,16 @@ usualParts = 11744051
 -- the stored one differs from the exact one by less than so many hundredths
 abbrev pub Under : (hundredths : ℕ) → Low → Exact → Type 0
 Under h none unset = Unit {0}
-Under h none (over num k) = ⊥
+Under h none (over num exponent k) = ⊥
 Under h (at n) unset = ⊥
-Under h (at n) (over num k) = Within (n * 2 ^ (24 * k) * 100) (num * 100) (h * 2 ^ (24 * k))
+Under h (at n) (over num exponent k) = Nearer n num exponent h 1 100
 
 abbrev pub UsualDrift : (hundredths : ℕ) → (Call → State → Turn) → (State → Low) → (Call → Type 0) → Type 0
 UsualDrift h turn low P =
     (p : Params) (rtt : Duration) (now : Moment) (y : Cycle) (calls : List Call) →
     let s = started p rtt now y in
-    Along (HasBeta usualBeta) calls s → Along P calls s → Under h (low (run calls s)) (exactRun turn usualParts calls s unset)
+    Along (HasBeta usualBeta) calls s → Along P calls s →
+    Under h (low (run calls s)) (exactRun turn usualParts calls s unset)
 
 -- under 3.34 bytes
 abbrev pub UsualInflightDrift : Type 0

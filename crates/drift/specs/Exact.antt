@@ -1,4 +1,5 @@
--- The lower bounds by the same rules on exact fractions. Every factor b of the domain is a whole number of parts of 2^-24 (`Parts`), so after k reductions the fraction is a numerator over 2^(24 k).
+-- The lower bounds by the same rules on exact fractions. Every factor b of the domain is a whole number of parts of
+-- 2^-24 (`ComplementLaw`, crates/numbers/specs/Scaling.antt), so the fraction is a numerator over a power of two.
 use Prim.Native.Nat.{ℕ, min, max, _+_, _*_, _^_}
 use mathlib.Core.Bool.{Bool, cond}
 use mathlib.Core.List.{List, [], _∷_}
@@ -28,7 +29,9 @@ isReduced m e x acked = let r = recordNext m e x acked in acts (r .ended) (r .pr
 
 -- inflight_lo: the seed is the window, the latest the largest inflight sampled
 unfoldable pub inflightTurn : Call → State → Turn
-inflightTurn (Calls.event p e x acked) s = cond (isReduced (s .model) e x acked) (reduces (e .window) (latestRaised (s .model .latest) x .inflight)) stays
+inflightTurn (Calls.event p e x acked) s =
+    let latest = latestRaised (s .model .latest) x .inflight in
+    cond (isReduced (s .model) e x acked) (reduces (e .window) latest) stays
 inflightTurn (Calls.cap bytes) s = caps bytes
 inflightTurn Calls.clearInflight s = clears
 inflightTurn Calls.clearBandwidth s = stays
@@ -38,7 +41,10 @@ inflightTurn (Calls.other c) s = stays
 
 -- bandwidth_lo: the seed is the largest bandwidth, the latest the largest bandwidth sampled. No call caps it
 unfoldable pub bandwidthTurn : Call → State → Turn
-bandwidthTurn (Calls.event p e x acked) s = cond (isReduced (s .model) e x acked) (reduces (maxGet (mostNext (s .model) x) .0) (latestRaised (s .model .latest) x .bandwidth .0)) stays
+bandwidthTurn (Calls.event p e x acked) s =
+    let most = maxGet (mostNext (s .model) x) .0 in
+    let latest = latestRaised (s .model .latest) x .bandwidth .0 in
+    cond (isReduced (s .model) e x acked) (reduces most latest) stays
 bandwidthTurn (Calls.cap bytes) s = stays
 bandwidthTurn Calls.clearInflight s = stays
 bandwidthTurn Calls.clearBandwidth s = clears
@@ -46,25 +52,30 @@ bandwidthTurn (Calls.cruise now) s = stays
 bandwidthTurn (Calls.refill rounds now) s = clears
 bandwidthTurn (Calls.other c) s = stays
 
--- neither turn depends on the lower bounds that are stored. (Whether a call is done does: it tests that they are within their bounds)
+-- neither turn depends on the lower bounds that are stored. (Whether a call is done does: it tests that they are
+-- within their bounds)
 abbrev pub Blind : (Call → State → Turn) → Type 0
-Blind turn = (c : Call) (s : State) (l : Lower) → turn c (record { model = withLower (s .model) l; cycle = s .cycle }) ≡ turn c s
+Blind turn =
+    (c : Call) (s : State) (l : Lower) →
+    turn c (record { model = withLower (s .model) l; cycle = s .cycle }) ≡ turn c s
 
--- ---- the exact value: unset, or num / 2^(24 k), where k counts the reductions since it was last unset
+-- ---- the exact value: unset, or num / 2^exponent, where k counts the reductions since it was last unset
 pub data Exact : Type 0 where
   unset : Exact
-  over : (num k : ℕ) → Exact
+  over : (num exponent k : ℕ) → Exact
 
 -- one turn with b = parts / 2^24. The first reduction after unset counts; a cap is none; a clear starts k again
 unfoldable pub exactly : (parts : ℕ) → Turn → Exact → Exact
 exactly parts stays x = x
 exactly parts clears x = unset
 exactly parts (caps bytes) unset = unset
-exactly parts (caps bytes) (over num k) = over (min (bytes * 2 ^ (24 * k)) num) k
-exactly parts (reduces seed latest) unset = over (max (latest * 2 ^ 24) (seed * parts)) 1
-exactly parts (reduces seed latest) (over num k) = over (max (latest * 2 ^ (24 * (k + 1))) (num * parts)) (k + 1)
+exactly parts (caps bytes) (over num exponent k) = over (min (bytes * 2 ^ exponent) num) exponent k
+exactly parts (reduces seed latest) unset = over (max (latest * 2 ^ 24) (seed * parts)) 24 1
+exactly parts (reduces seed latest) (over num exponent k) =
+    over (max (latest * 2 ^ (exponent + 24)) (num * parts)) (exponent + 24) (k + 1)
 
 -- the exact run beside a run: a call makes its turn where it is done
 unfoldable pub exactRun : (Call → State → Turn) → (parts : ℕ) → List Call → State → Exact → Exact
 exactRun turn parts [] s x = x
-exactRun turn parts (c ∷ calls) s x = exactRun turn parts calls (after c s) (exactly parts (settled (numberOf c s) (turn c s) stays) x)
+exactRun turn parts (c ∷ calls) s x =
+    let made = settled (numberOf c s) (turn c s) stays in exactRun turn parts calls (after c s) (exactly parts made x)

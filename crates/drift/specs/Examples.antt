@@ -1,6 +1,6 @@
 -- That the statements of specs/Drift.antt are not empty, and that a premise is needed: runs at beta 0.3, worked out.
 use Prim.Native.Nat.{ℕ, zero, suc, _+_, _*_, _^_}
-use mathlib.Core.Bool.{Bool, true, false, cond}
+use mathlib.Core.Bool.{Bool, true, false, cond, _&&_}
 use mathlib.Core.List.{List, [], _∷_, _++_}
 use lib.Dec.{eqb, ltb}
 use Rattle.model.specs.declared.params.Params.{Params}
@@ -17,7 +17,20 @@ use Rattle.drift.specs.Drift.{Low, none, at, inflightLow, bandwidthLow, 
 
 -- ---- a run of lossy rounds: in each a packet is sent, and an event acks it and loses a byte
 abbrev params : Params
-params = record { beta = usualBeta; loss = one; headroom = one; growth = one; cwnd = one; pacing = one; rounds = 3; queueing = 0; period = record { 0 = 0 }; base = record { 0 = 0 }; ignore = true }
+params =
+    record {
+      beta = usualBeta;
+      loss = one;
+      headroom = one;
+      growth = one;
+      cwnd = one;
+      pacing = one;
+      rounds = 3;
+      queueing = 0;
+      period = record { 0 = 0 };
+      base = record { 0 = 0 };
+      ignore = true;
+    }
 
 abbrev pub moment : Moment
 moment = record { 0 = 0 }
@@ -63,7 +76,8 @@ acks window probing n lost rate = event params (told window probing false) (hear
 -- the first sample of the bandwidth is `rate`, every later one 1
 abbrev pub lossy : (window rate rounds : ℕ) → List Call
 lossy window rate zero = []
-lossy window rate (suc n) = lossy window rate n ++ (sends (suc n) ∷ acks window false (suc n) (suc n) (cond (eqb n 0) rate 1) ∷ [])
+lossy window rate (suc n) =
+    lossy window rate n ++ (sends (suc n) ∷ acks window false (suc n) (suc n) (cond (eqb n 0) rate 1) ∷ [])
 
 abbrev fresh : State
 fresh = started params (record { 0 = 0 }) moment (freshCycle moment)
@@ -72,20 +86,25 @@ fresh = started params (record { 0 = 0 }) moment (freshCycle moment)
 abbrev pub isBelow : (tenths : ℕ) → Low → Exact → Bool
 isBelow t none x = false
 isBelow t (at n) unset = false
-isBelow t (at n) (over num k) = ltb (n * 2 ^ (24 * k) * 10 + t * 2 ^ (24 * k)) (num * 10)
+isBelow t (at n) (over num exponent k) = ltb (n * 2 ^ exponent * 10 + t * 2 ^ exponent) (num * 10)
 
 abbrev pub isAbove : (tenths : ℕ) → Low → Exact → Bool
 isAbove t none x = false
 isAbove t (at n) unset = false
-isAbove t (at n) (over num k) = ltb (num * 10 + t * 2 ^ (24 * k)) (n * 2 ^ (24 * k) * 10)
+isAbove t (at n) (over num exponent k) = ltb (num * 10 + t * 2 ^ exponent) (n * 2 ^ exponent * 10)
+
+-- exactly so: num / 2^exponent, after k reductions
+abbrev isOver : (num exponent k : ℕ) → Exact → Bool
+isOver num exponent k unset = false
+isOver num exponent k (over a e c) = eqb a num && eqb e exponent && eqb c k
+
+abbrev isUnset : Exact → Bool
+isUnset unset = true
+isUnset (over num exponent k) = false
 
 abbrev reductions : Exact → ℕ
 reductions unset = 0
-reductions (over num k) = k
-
-abbrev numerator : Exact → ℕ
-numerator unset = 0
-numerator (over num k) = num
+reductions (over num exponent k) = k
 
 abbrev low : List Call → Low
 low calls = inflightLow (run calls fresh)
@@ -103,9 +122,18 @@ deep = lossy 14744309 1 19
 abbrev fast : List Call
 fast = lossy 1300 196960228154 20
 
--- after 19 rounds: an event that is refused (its window is out of bounds), one while probing, one without a loss, and a cap by inflight_hi, which is unset
+-- after 19 rounds: an event that is refused (its window is out of bounds), one while probing, one without a loss, and a
+-- cap by inflight_hi, which is unset
 abbrev quiet : List Call
-quiet = acks (2 ^ 41) false 20 20 1 ∷ sends 20 ∷ acks 1300 true 20 20 1 ∷ other (finish (told 0 false true)) ∷ sends 21 ∷ acks 1300 false 21 20 1 ∷ cruise moment ∷ []
+quiet =
+    acks (2 ^ 41) false 20 20 1
+    ∷ sends 20
+    ∷ acks 1300 true 20 20 1
+    ∷ other (finish (told 0 false true))
+    ∷ sends 21
+    ∷ acks 1300 false 21 20 1
+    ∷ cruise moment
+    ∷ []
 
 unfoldable pub driftExamples : List Bool
 driftExamples =
@@ -115,18 +143,22 @@ driftExamples =
     -- 1300 bytes become 910 in one reduction: above the exact value
     ∷ isAbove 0 (low (lossy 1300 1 1)) (exact (lossy 1300 1 1))
     -- the exact values after one and two reductions
-    ∷ eqb (numerator (exact (lossy 1300 1 1))) (1300 * usualParts)
-    ∷ eqb (numerator (exact (lossy 1300 1 2))) (1300 * usualParts * usualParts)
-    ∷ eqb (reductions (exact (lossy 1300 1 2))) 2
+    ∷ isOver (1300 * usualParts) 24 1 (exact (lossy 1300 1 1))
+    ∷ isOver (1300 * usualParts * usualParts) 48 2 (exact (lossy 1300 1 2))
+    -- 1097 bytes become 536 in two reductions: more than 1.5 bytes below, so that k - 1 is no bound
+    ∷ eqb (reductions (exact (lossy 1097 1 2))) 2
+    ∷ isBelow 15 (low (lossy 1097 1 2)) (exact (lossy 1097 1 2))
     -- 16,777,223 bytes, above 2^24: one reduction, and more than 1 byte off
     ∷ eqb (reductions (exact (lossy 16777223 1 1))) 1
     ∷ isAbove 10 (low (lossy 16777223 1 1)) (exact (lossy 16777223 1 1))
-    -- a cap is no reduction, nor is anything in the quiet calls; a clear starts the count again
-    ∷ eqb (reductions (exact (deep ++ (cap 5 ∷ [])))) 19
+    -- a cap to 5 bytes leaves the exponent, 19 * 24, and the count as they were
+    ∷ isOver (5 * 2 ^ 456) 456 19 (exact (deep ++ (cap 5 ∷ [])))
+    -- nothing in the quiet calls is a reduction; a clear starts the count again
     ∷ eqb (reductions (exact (deep ++ quiet))) 19
-    ∷ eqb (reductions (exact (deep ++ (clearInflight ∷ sends 20 ∷ acks 1300 false 20 20 1 ∷ [])))) 1
-    ∷ eqb (reductions (exact (deep ++ (refill 0 moment ∷ [])))) 0
-    -- 196,960,228,154 bits per second: after 20 reductions, of which the first two don't lower it, more than 1.4 below the exact value
+    ∷ isOver (1300 * usualParts) 24 1 (exact (deep ++ (clearInflight ∷ sends 20 ∷ acks 1300 false 20 20 1 ∷ [])))
+    ∷ isUnset (exact (deep ++ (refill 0 moment ∷ [])))
+    -- 196,960,228,154 bits per second: after 20 reductions, of which the first two don't lower it, more than 1.4 below
+    -- the exact value
     ∷ eqb (reductions (bandwidth fast)) 20
     ∷ isBelow 14 (bandwidthLow (run fast fresh)) (bandwidth fast)
     ∷ []

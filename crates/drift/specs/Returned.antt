@@ -1,11 +1,13 @@
--- The same of the code: a run made by the public functions themselves, of which no more is known than their contracts. A contract is `Reads.Learnt` of its function, as the checker reads it: so
--- this page cites the modules that hold them.
-use Prim.Native.Nat.{ℕ}
+-- The same of the code: a run made by the public functions themselves, of which no more is known than their contracts.
+-- A contract is `Reads.Learnt` of its function, as the checker reads it: so this page cites the modules that hold them.
+use Prim.Native.Nat.{ℕ, _^_}
+use mathlib.Core.Bool.{false}
 use mathlib.Core.List.{List, [], _∷_}
 use mathlib.Core.Path.{_≡_}
 use denote.Ref.{now}
 use lib.Ieee.{Float}
-use Rattle.numbers.specs.Scaling.{complement, Parts}
+use lib.Ieee.Exact.{HasValue}
+use Rattle.numbers.specs.Scaling.{complement, partsOf}
 use Rattle.filters.specs.declared.time.Duration.{Duration}
 use Rattle.filters.specs.declared.time.Moment.{Moment}
 use Rattle.model.specs.declared.params.Params.{Params}
@@ -16,44 +18,95 @@ use Rattle.phases.proofs.phases as phases
 use Rattle.drift.specs.Calls as Calls
 use Rattle.drift.specs.Calls.{Call, Other, State}
 use Rattle.drift.specs.Exact.{Turn, unset, inflightTurn, bandwidthTurn, exactRun}
-use Rattle.drift.specs.Drift.{Low, inflightLow, bandwidthLow, Follows, Along, HasBeta, IsSmall, IsAny, usualBeta, usualParts, Under}
+use Rattle.drift.specs.Drift.{Low, inflightLow, bandwidthLow, Follows, Along, HasBeta, IsSmall, IsAny, IsBeta, usualBeta, usualParts, Under}
 
--- P of some arguments and of a reply to them that the contract allows. That there is one for all arguments is what the checker proves of each function
-abbrev pub Returned : {K : Type 0} {A E : K → Type 0} {R : Type 0} → ((κ : K) → A κ → R → E κ → Type 0) → ((κ : K) → A κ → R → Type 0) → Type 0
+-- P of some arguments and of a reply to them that the contract allows. That there is one for all arguments is what the
+-- checker proves of each function
+abbrev pub Returned : {K : Type 0} {A E : K → Type 0} {R : Type 0} →
+    ((κ : K) → A κ → R → E κ → Type 0) → ((κ : K) → A κ → R → Type 0) → Type 0
 Returned {K} {A} {E} {R} learnt P = (κ : K) × (a : A κ) × (x : R) × (e : E κ) × learnt κ a x e × P κ a x
 
 -- a reply to these arguments, which makes this state
-abbrev pub Leaves : {K : Type 0} {A E : K → Type 0} {R : Type 0} → ((κ : K) → A κ → R → E κ → Type 0) → ((κ : K) → A κ) → (R → State) → State → Type 0
+abbrev pub Leaves : {K : Type 0} {A E : K → Type 0} {R : Type 0} →
+    ((κ : K) → A κ → R → E κ → Type 0) → ((κ : K) → A κ) → (R → State) → State → Type 0
 Leaves learnt args left t = Returned learnt (λ κ a x. (a ≡ args κ) × (t ≡ left x))
 
 -- ---- a call by the public function of its name: the state s becomes t
 abbrev pub MadeOther : Other → State → State → Type 0
-MadeOther (Calls.sent time inflight packet bytes) s t = Leaves model.on_packet_sent.Reads.Learnt (λ κ. (s .model, (time, (inflight, (packet, (bytes, tt)))))) (λ x. record { model = x .model; cycle = s .cycle }) t
-MadeOther (Calls.finish e) s t = Leaves judge.on_congestion_event_finish.Reads.Learnt (λ κ. (s .model, (e, tt))) (λ x. record { model = x .model; cycle = s .cycle }) t
-MadeOther (Calls.expire p e) s t = Leaves judge.maybe_expire_min_rtt.Reads.Learnt (λ κ. (s .model, (p, (e, tt)))) (λ x. record { model = x .model; cycle = s .cycle }) t
-MadeOther (Calls.growth p e) s t = Leaves judge.has_bandwidth_growth.Reads.Learnt (λ κ. (s .model, (p, (e, tt)))) (λ x. record { model = x .model; cycle = s .cycle }) t
-MadeOther (Calls.queue p gain) s t = Leaves judge.check_persistent_queue.Reads.Learnt (λ κ. (s .model, (p, (gain, tt)))) (λ x. record { model = x .model; cycle = s .cycle }) t
-MadeOther Calls.restart s t = Leaves model.restart_round_early.Reads.Learnt (λ κ. (s .model, tt)) (λ x. record { model = x .model; cycle = s .cycle }) t
-MadeOther Calls.reached s t = Leaves model.set_full_bandwidth_reached.Reads.Learnt (λ κ. (s .model, tt)) (λ x. record { model = x .model; cycle = s .cycle }) t
-MadeOther (Calls.pacing gain) s t = Leaves model.set_pacing_gain.Reads.Learnt (λ κ. (s .model, (gain, tt))) (λ x. record { model = x .model; cycle = s .cycle }) t
-MadeOther (Calls.cwnd gain) s t = Leaves model.set_cwnd_gain.Reads.Learnt (λ κ. (s .model, (gain, tt))) (λ x. record { model = x .model; cycle = s .cycle }) t
-MadeOther (Calls.high bytes) s t = Leaves model.set_inflight_hi.Reads.Learnt (λ κ. (s .model, (bytes, tt))) (λ x. record { model = x .model; cycle = s .cycle }) t
-MadeOther Calls.advance s t = Leaves model.advance_max_bandwidth_filter.Reads.Learnt (λ κ. (s .model, tt)) (λ x. record { model = x .model; cycle = s .cycle }) t
-MadeOther (Calls.postpone d) s t = Leaves model.postpone_min_rtt_timestamp.Reads.Learnt (λ κ. (s .model, (d, tt))) (λ x. record { model = x .model; cycle = s .cycle }) t
-MadeOther (Calls.down p hi risky time) s t = Leaves phases.enter_probe_down.Reads.Learnt (λ κ. (s .model, (s .cycle, (p, (hi, (risky, (time, tt))))))) (λ x. record { model = x .model; cycle = x .cycle }) t
-MadeOther (Calls.up time window) s t = Leaves phases.enter_probe_up.Reads.Learnt (λ κ. (s .model, (s .cycle, (time, (window, tt))))) (λ x. record { model = x .model; cycle = x .cycle }) t
-MadeOther Calls.exit s t = Leaves phases.exit_probe_down.Reads.Learnt (λ κ. (s .model, (s .cycle, tt))) (λ x. record { model = x .model; cycle = x .cycle }) t
-MadeOther (Calls.slope window) s t = Leaves phases.raise_inflight_high_slope.Reads.Learnt (λ κ. (s .cycle, (window, tt))) (λ x. record { model = s .model; cycle = x .cycle }) t
+MadeOther (Calls.sent time inflight packet bytes) s t =
+    Leaves model.on_packet_sent.Reads.Learnt (λ κ. (s .model, (time, (inflight, (packet, (bytes, tt))))))
+    (λ x. record { model = x .model; cycle = s .cycle }) t
+MadeOther (Calls.finish e) s t =
+    Leaves judge.on_congestion_event_finish.Reads.Learnt (λ κ. (s .model, (e, tt)))
+    (λ x. record { model = x .model; cycle = s .cycle }) t
+MadeOther (Calls.expire p e) s t =
+    Leaves judge.maybe_expire_min_rtt.Reads.Learnt (λ κ. (s .model, (p, (e, tt))))
+    (λ x. record { model = x .model; cycle = s .cycle }) t
+MadeOther (Calls.growth p e) s t =
+    Leaves judge.has_bandwidth_growth.Reads.Learnt (λ κ. (s .model, (p, (e, tt))))
+    (λ x. record { model = x .model; cycle = s .cycle }) t
+MadeOther (Calls.queue p gain) s t =
+    Leaves judge.check_persistent_queue.Reads.Learnt (λ κ. (s .model, (p, (gain, tt))))
+    (λ x. record { model = x .model; cycle = s .cycle }) t
+MadeOther Calls.restart s t =
+    Leaves model.restart_round_early.Reads.Learnt (λ κ. (s .model, tt))
+    (λ x. record { model = x .model; cycle = s .cycle }) t
+MadeOther Calls.reached s t =
+    Leaves model.set_full_bandwidth_reached.Reads.Learnt (λ κ. (s .model, tt))
+    (λ x. record { model = x .model; cycle = s .cycle }) t
+MadeOther (Calls.pacing gain) s t =
+    Leaves model.set_pacing_gain.Reads.Learnt (λ κ. (s .model, (gain, tt)))
+    (λ x. record { model = x .model; cycle = s .cycle }) t
+MadeOther (Calls.cwnd gain) s t =
+    Leaves model.set_cwnd_gain.Reads.Learnt (λ κ. (s .model, (gain, tt)))
+    (λ x. record { model = x .model; cycle = s .cycle }) t
+MadeOther (Calls.high bytes) s t =
+    Leaves model.set_inflight_hi.Reads.Learnt (λ κ. (s .model, (bytes, tt)))
+    (λ x. record { model = x .model; cycle = s .cycle }) t
+MadeOther Calls.advance s t =
+    Leaves model.advance_max_bandwidth_filter.Reads.Learnt (λ κ. (s .model, tt))
+    (λ x. record { model = x .model; cycle = s .cycle }) t
+MadeOther (Calls.postpone d) s t =
+    Leaves model.postpone_min_rtt_timestamp.Reads.Learnt (λ κ. (s .model, (d, tt)))
+    (λ x. record { model = x .model; cycle = s .cycle }) t
+MadeOther (Calls.down p hi risky time) s t =
+    Leaves phases.enter_probe_down.Reads.Learnt (λ κ. (s .model, (s .cycle, (p, (hi, (risky, (time, tt)))))))
+    (λ x. record { model = x .model; cycle = x .cycle }) t
+MadeOther (Calls.up time window) s t =
+    Leaves phases.enter_probe_up.Reads.Learnt (λ κ. (s .model, (s .cycle, (time, (window, tt)))))
+    (λ x. record { model = x .model; cycle = x .cycle }) t
+MadeOther Calls.exit s t =
+    Leaves phases.exit_probe_down.Reads.Learnt (λ κ. (s .model, (s .cycle, tt)))
+    (λ x. record { model = x .model; cycle = x .cycle }) t
+MadeOther (Calls.slope window) s t =
+    Leaves phases.raise_inflight_high_slope.Reads.Learnt (λ κ. (s .cycle, (window, tt)))
+    (λ x. record { model = s .model; cycle = x .cycle }) t
 
 abbrev pub Made : Call → State → State → Type 0
 Made (Calls.event p e y acked) s t =
     Returned events.on_congestion_event_start.Reads.Learnt
-    (λ κ a x. (a .0 ≡ s .model) × (a .1 .0 ≡ p) × (a .1 .1 .0 ≡ e) × (a .1 .1 .1 .0 ≡ y) × (now (a .1 .1 .1 .1 .0) ≡ acked) × (t ≡ record { model = x .model; cycle = s .cycle }))
-Made (Calls.cap bytes) s t = Leaves model.cap_inflight_lo.Reads.Learnt (λ κ. (s .model, (bytes, tt))) (λ x. record { model = x .model; cycle = s .cycle }) t
-Made Calls.clearInflight s t = Leaves model.clear_inflight_lo.Reads.Learnt (λ κ. (s .model, tt)) (λ x. record { model = x .model; cycle = s .cycle }) t
-Made Calls.clearBandwidth s t = Leaves model.clear_bandwidth_lo.Reads.Learnt (λ κ. (s .model, tt)) (λ x. record { model = x .model; cycle = s .cycle }) t
-Made (Calls.cruise time) s t = Leaves phases.enter_probe_cruise.Reads.Learnt (λ κ. (s .model, (s .cycle, (time, tt)))) (λ x. record { model = x .model; cycle = x .cycle }) t
-Made (Calls.refill rounds time) s t = Leaves phases.enter_probe_refill.Reads.Learnt (λ κ. (s .model, (s .cycle, (rounds, (time, tt))))) (λ x. record { model = x .model; cycle = x .cycle }) t
+    (λ κ a x.
+    (a .0 ≡ s .model)
+    × (a .1 .0 ≡ p)
+    × (a .1 .1 .0 ≡ e)
+    × (a .1 .1 .1 .0 ≡ y)
+    × (now (a .1 .1 .1 .1 .0) ≡ acked)
+    × (t ≡ record { model = x .model; cycle = s .cycle }))
+Made (Calls.cap bytes) s t =
+    Leaves model.cap_inflight_lo.Reads.Learnt (λ κ. (s .model, (bytes, tt)))
+    (λ x. record { model = x .model; cycle = s .cycle }) t
+Made Calls.clearInflight s t =
+    Leaves model.clear_inflight_lo.Reads.Learnt (λ κ. (s .model, tt))
+    (λ x. record { model = x .model; cycle = s .cycle }) t
+Made Calls.clearBandwidth s t =
+    Leaves model.clear_bandwidth_lo.Reads.Learnt (λ κ. (s .model, tt))
+    (λ x. record { model = x .model; cycle = s .cycle }) t
+Made (Calls.cruise time) s t =
+    Leaves phases.enter_probe_cruise.Reads.Learnt (λ κ. (s .model, (s .cycle, (time, tt))))
+    (λ x. record { model = x .model; cycle = x .cycle }) t
+Made (Calls.refill rounds time) s t =
+    Leaves phases.enter_probe_refill.Reads.Learnt (λ κ. (s .model, (s .cycle, (rounds, (time, tt)))))
+    (λ x. record { model = x .model; cycle = x .cycle }) t
 Made (Calls.other c) s t = MadeOther c s t
 
 -- a fresh model
@@ -68,8 +121,12 @@ Ran (c ∷ calls) s t = (u : State) × Made c s u × Ran calls u t
 -- ---- the theorems of specs/Drift.antt, of the states that the public functions return
 abbrev pub CodeDrift : (u v : ℕ) → (Call → State → Turn) → (State → Low) → (Call → Type 0) → Type 0
 CodeDrift u v turn low P =
-    (beta : Float) (b : Parts (complement beta)) (p : Params) (rtt : Duration) (time : Moment) (calls : List Call) (s t : State) →
-    Along (HasBeta beta) calls s → Along P calls s → Begun p rtt time s → Ran calls s t → Follows u v (b .parts) (low t) (exactRun turn (b .parts) calls s unset)
+    (beta : Float) → IsBeta beta →
+    let parts = partsOf (complement beta) in
+    HasValue (complement beta) false parts (2 ^ 24)
+    × ((p : Params) (rtt : Duration) (time : Moment) (calls : List Call) (s t : State) →
+    Along (HasBeta beta) calls s → Along P calls s → Begun p rtt time s → Ran calls s t →
+    Follows u v parts (low t) (exactRun turn parts calls s unset))
 
 abbrev pub CodeInflightDrift : Type 0
 CodeInflightDrift = CodeDrift 1 1 inflightTurn inflightLow IsSmall
@@ -81,7 +138,8 @@ CodeBandwidthDrift = CodeDrift 4097 8192 bandwidthTurn bandwidthLow IsAny
 abbrev pub CodeUsualDrift : (hundredths : ℕ) → (Call → State → Turn) → (State → Low) → (Call → Type 0) → Type 0
 CodeUsualDrift h turn low P =
     (p : Params) (rtt : Duration) (time : Moment) (calls : List Call) (s t : State) →
-    Along (HasBeta usualBeta) calls s → Along P calls s → Begun p rtt time s → Ran calls s t → Under h (low t) (exactRun turn usualParts calls s unset)
+    Along (HasBeta usualBeta) calls s → Along P calls s → Begun p rtt time s → Ran calls s t →
+    Under h (low t) (exactRun turn usualParts calls s unset)
 
 abbrev pub CodeUsualInflightDrift : Type 0
 CodeUsualInflightDrift = CodeUsualDrift 334 inflightTurn inflightLow IsSmall

@@ -7,7 +7,7 @@ use native.Mathlib.Omega.{arith}
 use lib.Dec.{T, leb, ltb, eqb}
 use lib.Ieee.{Float, binary32, fits, le, ofBits}
 use borrow.Author.Tests.{leb-true, le-leb, ltb-false, not-false}
-use Rattle.numbers.specs.Scaling.{scaled, scaledF64, complement, Parts}
+use Rattle.numbers.specs.Scaling.{scaled, scaledF64, complement, partsOf, Parts}
 use Rattle.numbers.proofs.ScaleLaws.{scale-bound, scale-f64-law}
 use Rattle.numbers.proofs.Complement.{complement-law}
 use Rattle.filters.specs.declared.bandwidth.Bandwidth.{Bandwidth}
@@ -87,17 +87,17 @@ latest-kept l t s h b n =
 
 -- ---- the lower bounds: the factor is at most 1
 module _ (b : Float) (v : Parts b) where
-  at-most-one : v .parts ≤ 2 ^ 24
+  at-most-one : partsOf b ≤ 2 ^ 24
   at-most-one = omega (arith, v .not-all)
 
   slower-kept : (x : Bandwidth) → bandwidthOk x ≡ true → bandwidthOk (timesF32 x b) ≡ true
   unfolding timesF32
   slower-kept x h =
       let n = leb-true (x .0) (2 ^ 40) h in
-      le-leb (scaledF64 (x .0) b) (2 ^ 40) (omega (arith, scale-f64-law (x .0) (v .parts) (2 ^ 24) b n (omega arith) at-most-one (v .value) .1))
+      le-leb (scaledF64 (x .0) b) (2 ^ 40) (omega (arith, scale-f64-law (x .0) (partsOf b) (2 ^ 24) b n (omega arith) at-most-one (v .value) .1))
 
   cut-kept : (n : ℕ) → bytesOk n ≡ true → bytesOk (scaled n b) ≡ true
-  cut-kept n h = le-leb (scaled n b) (2 ^ 40) (scale-bound n (v .parts) (2 ^ 24) b (leb-true n (2 ^ 40) h) (omega arith) at-most-one (v .value))
+  cut-kept n h = le-leb (scaled n b) (2 ^ 40) (scale-bound n (partsOf b) (2 ^ 24) b (leb-true n (2 ^ 40) h) (omega arith) at-most-one (v .value))
 
 set-or : (n : ℕ) → bytesOrUnsetOk n ≡ true → eqb n (2 ^ 64 - 1) ≡ false → bytesOk n ≡ true
 set-or n h k = go (bytesOk n) (eqb n (2 ^ 64 - 1)) h k

@@ -5,7 +5,7 @@ use mathlib.Core.Logic.{inl, inr}
 use mathlib.Core.Bool.{true, false}
 use Prim.Native.Nat.{ℕ, zero, suc, _-_, _*_, _/_, _^_, _≤_, _<_}
 use native.Mathlib.Nat.{le-trans, lt-of-le-of-lt, sub-le, sub-add-cancel, mul-one, one-mul, mul-assoc, mul-comm, mul-left-comm, mul-pos, mul-le-mul-right}
-use native.Mathlib.Nat.{mul-lt-mul-of-pos-right, le-div-iff-mul-le, div-lt-iff-lt-mul}
+use native.Mathlib.Nat.{mul-lt-mul-of-pos-right, le-div-iff-mul-le, div-lt-iff-lt-mul, div-eq-of-eq-mul-left}
 use native.Mathlib.Omega.{arith}
 use lib.IntN.{ℤ, pos, negsuc}
 use lib.Dec.{T, lit≤, lit<}
@@ -17,7 +17,7 @@ use lib.Ieee.Order.{round-mono}
 use lib.Ieee.Scale.{grid, round-val}
 use lib.Ieee.Positive.{positive, between, le→cross}
 use borrow.Author.Tests.{le-ltb}
-use Rattle.numbers.specs.Scaling.{complement, Parts, ComplementLaw}
+use Rattle.numbers.specs.Scaling.{complement, partsOf, Parts, ComplementLaw}
 use Rattle.numbers.proofs.Closest.{le-or-lt, closest-le}
 use Rattle.numbers.proofs.Rounding.{same-value, size-is, format-digits}
 use Rattle.numbers.proofs.Between.{values-le, units-value}
@@ -26,6 +26,16 @@ use Rattle.numbers.proofs.Between.{values-le, units-value}
 complement-is : (m : ℕ) (e : ℤ) → m * up e ≤ down e → complement (fin false m e) ≡ round binary32 false (down e - m * up e) (down e)
 unfolding sub add neg sum
 complement-is m e h = simp (one-mul, mul-one, le-ltb (down e) (m * up e) h)
+
+-- ---- the parts of a float that is a whole number of them
+down-pos : (e : ℤ) → 0 < down e
+down-pos (pos k) = lit< tt
+down-pos (negsuc k) = pow-pos (suc k)
+
+parts-are : (x : Float) (parts : ℕ) → HasValue x false parts (2 ^ 24) → partsOf x ≡ parts
+parts-are nan parts h = absurd h
+parts-are (inf s) parts h = absurd h
+parts-are (fin s m e) parts h = div-eq-of-eq-mul-left (down-pos e) (h .1)
 
 -- ---- beta is m / 2 ^ suc j
 module _ (m j : ℕ) (few : m < 2 ^ 24) (L : 2 ^ suc j ≤ m * 1024) (H : m * 1024 ≤ 1023 * 2 ^ suc j) where
@@ -73,7 +83,14 @@ module _ (m j : ℕ) (few : m < 2 ^ 24) (L : 2 ^ suc j ≤ m * 1024) (H : m * 10
       let high : v .0 * 1024 ≤ 1023 * 2 ^ 24 =
       values-le b (round binary32 false 1023 1024) (v .0) (2 ^ 24) 1023 1024 (v .1) (units-value binary32 10 1023 (lit≤ tt) (lit≤ tt))
       (round-mono binary32 (c - m) c 1023 1024 (pow-pos (suc j)) (lit< tt) (omega arith)) in
-      record { parts = v .0; value = v .1; some = omega arith; not-all = omega arith; at-least = low; at-most = high }
+      let are = parts-are b (v .0) (v .1) in
+      record {
+        value = rw are (v .1);
+        some = omega (arith, are, low);
+        not-all = omega (arith, are, high);
+        at-least = omega (arith, are, low);
+        at-most = omega (arith, are, high);
+      }
 
 -- ---- every beta of the domain is such a fraction
 pub complement-law : ComplementLaw

@@ -5,7 +5,7 @@ use mathlib.Core.Logic.{_⊎_}
 use mathlib.Core.Bool.{false}
 use lib.IntN.{pos, negsuc}
 use lib.Dec.{T}
-use lib.Ieee.{Float, fin, binary32, binary64, mul, sub, le, fits}
+use lib.Ieee.{Float, nan, inf, fin, up, down, binary32, binary64, mul, sub, le, fits}
 use lib.Ieee.Exact.{HasValue}
 use Rattle.numbers.specs.IntToFloat.{intToFloat}
 use Rattle.numbers.specs.FloatToInt.{floatToInt, roundAway}
@@ -48,15 +48,23 @@ ScaleF64Law = (n a c : ℕ) (g : Float) → n ≤ 2 ^ 40 → 0 < c → a ≤ c �
 abbrev pub complement : Float → Float
 complement beta = sub binary32 (fin false 1 (pos 0)) beta
 
--- b is a whole number of 2 ^ -24 parts, at least 1/1024 and at most 1023/1024
+-- 2 ^ 24 times the size of a float, without its fraction. `up e / down e` is 2 ^ e, so `fin s m e` has the size
+-- m * up e / down e. A NaN and an infinity have no size, and 0 stands for it
+abbrev pub partsOf : Float → ℕ
+partsOf nan = 0
+partsOf (inf s) = 0
+partsOf (fin s m e) = m * up e * 2 ^ 24 / down e
+
+-- b is exactly so many parts of 2 ^ -24: more than none, and less than all. It is at least 1/1024 and at most 1023/1024
 pub record Parts (b : Float) : Type 0 where
-  pub parts : ℕ
-  pub value : HasValue b false parts (2 ^ 24)
-  pub some : 0 < parts
-  pub not-all : parts < 2 ^ 24
-  pub at-least : 2 ^ 24 ≤ parts * 1024
-  pub at-most : parts * 1024 ≤ 1023 * 2 ^ 24
+  pub value : HasValue b false (partsOf b) (2 ^ 24)
+  pub some : 0 < partsOf b
+  pub not-all : partsOf b < 2 ^ 24
+  pub at-least : 2 ^ 24 ≤ partsOf b * 1024
+  pub at-most : partsOf b * 1024 ≤ 1023 * 2 ^ 24
 
 -- for every f32 beta from 1/1024, `fin false 1 (negsuc 9)`, to 1023/1024
 abbrev pub ComplementLaw : Type 0
-ComplementLaw = (beta : Float) → T (fits binary32 beta) → T (le (fin false 1 (negsuc 9)) beta) → T (le beta (fin false 1023 (negsuc 9))) → Parts (complement beta)
+ComplementLaw =
+    (beta : Float) → T (fits binary32 beta) → T (le (fin false 1 (negsuc 9)) beta) →
+    T (le beta (fin false 1023 (negsuc 9))) → Parts (complement beta)
