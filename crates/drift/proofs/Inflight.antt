@@ -110,7 +110,7 @@ module _ (beta : Float) (parts : ℕ) (value : HasValue (complement beta) false 
       go : (t : Bool) →
           Raw (cond t (E.lowerReduced (m .lower) (maxGet (E.mostNext m s)) (E.latestRaised (m .latest) s) (e .window) (complement (p .beta))) (m .lower) .inflight)
           (exactly parts (cond t (reduces (e .window) (E.latestRaised (m .latest) s .inflight)) stays) x)
-      go true = rw same (reduce-raw (m .lower .inflight) (e .window) (E.latestRaised (m .latest) s .inflight) x (omega (arith, sizes .0)) raised (h .raw))
+      go true = rw same (reduce-raw (m .lower .inflight) (e .window) (E.latestRaised (m .latest) s .inflight) x (sizes .0) raised (h .raw))
       go false = h .raw
 
   -- a model that has the same lower bounds and latest samples
@@ -135,7 +135,7 @@ module _ (beta : Float) (parts : ℕ) (value : HasValue (complement beta) false 
 
   next-kept : (c : Call) (s : State) (x : Exact) → HasBeta beta c → IsSmall c → Kept (s .model) x → Kept (nextOf c s .model) (exactly parts (inflightTurn c s) x)
   unfolding nextOf inflightTurn exactly clearInflightNext clearBandwidthNext withLower
-  next-kept (event p e y acked) s x same sizes h = event-kept (s .model) p e y acked x same sizes h
+  next-kept (event p e y acked) s x same sizes h = event-kept (s .model) p e y acked x same (omega (arith, sizes .0), omega (arith, sizes .1)) h
   next-kept (cap bytes) s x same sizes h = cap-kept (s .model) bytes x h
   next-kept clearInflight s x same sizes h = record { small = h .small; raw = clear-raw x }
   next-kept clearBandwidth s x same sizes h = record { small = h .small; raw = h .raw }
