@@ -28,11 +28,12 @@ use Rattle.model.proofs.Rows.{and-left, all-at}
 use Rattle.events.specs.declared.record.Record.{Record}
 use Rattle.events.specs.declared.record.Sample.{Sample}
 use Rattle.events.specs.Event as E
+use Rattle.phases.specs.declared.cycle.Cycle.{Cycle}
 use Rattle.phases.specs.Phases.{restartedAt, cruiseModel, refillModel, leftModel}
 use Rattle.laws.proofs.Events.{event-model, event-sample, most-kept, most-max}
 use Rattle.drift.specs.Calls.{Call, event, cap, clearInflight, clearBandwidth, cruise, refill, other, State, numberOf, nextOf, run, started}
 use Rattle.drift.specs.Exact.{stays, clears, reduces, Exact, unset, over, isReduced, bandwidthTurn, exactly, exactRun}
-use Rattle.drift.specs.Drift.{lowOf, bandwidthLow, Nearer, Near, Follows, HasBeta, BandwidthDrift}
+use Rattle.drift.specs.Drift.{lowOf, bandwidthLow, Nearer, Near, Follows, Along, HasBeta, IsAny, BandwidthDrift}
 use Rattle.drift.proofs.Others.{other-same, left-same}
 use Rattle.drift.proofs.Runs.{run-kept}
 use Rattle.drift.proofs.Beta.{every-beta}
@@ -130,15 +131,13 @@ module _ (beta : Float) (parts : ℕ) (value : HasValue (complement beta) false 
       go true = tt
       go false = tt
 
+  drift : (p : Params) (rtt : Duration) (now : Moment) (y : Cycle) (calls : List Call) → Along (HasBeta beta) calls (started p rtt now y) → Along IsAny calls (started p rtt now y)
+      → Follows 4097 8192 parts (bandwidthLow (run calls (started p rtt now y))) (exactRun bandwidthTurn parts calls (started p rtt now y) unset)
+  unfolding bandwidthLow started
+  drift p rtt now y calls same any =
+      let s = started p rtt now y in
+      follows (run calls s .model .lower .bandwidth) (exactRun bandwidthTurn parts calls s unset)
+      (run-kept bandwidthTurn parts (λ s x. Kept (s .model .lower .bandwidth) x) (HasBeta beta) next-kept calls s unset same (start-kept p rtt now))
+
 pub bandwidth-drift : BandwidthDrift
-unfolding bandwidthLow started
-bandwidth-drift beta ok =
-    let b = every-beta beta ok in
-    let parts = partsOf (complement beta) in (
-      b .value,
-      λ p rtt now y calls same any.
-          let s = started p rtt now y in
-          let Keeps : State → Exact → Type 0 = λ s x. Kept beta parts (b .value) (b .not-all) (s .model .lower .bandwidth) x in
-          follows beta parts (b .value) (b .not-all) (run calls s .model .lower .bandwidth) (exactRun bandwidthTurn parts calls s unset)
-          (run-kept bandwidthTurn parts Keeps (HasBeta beta) (next-kept beta parts (b .value) (b .not-all)) calls s unset same (start-kept beta parts (b .value) (b .not-all) p rtt now)),
-    )
+bandwidth-drift beta ok = let b = every-beta beta ok in (b .value, drift beta (partsOf (complement beta)) (b .value) (b .not-all))

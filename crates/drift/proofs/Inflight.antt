@@ -28,7 +28,7 @@ use Rattle.phases.specs.declared.cycle.Cycle.{Cycle}
 use Rattle.phases.specs.Phases.{restartedAt, cruiseModel, refillModel, leftModel}
 use Rattle.drift.specs.Calls.{Call, event, cap, clearInflight, clearBandwidth, cruise, refill, other, State, nextOf, after, run, started}
 use Rattle.drift.specs.Exact.{stays, clears, caps, reduces, Exact, unset, over, isReduced, inflightTurn, exactly, exactRun}
-use Rattle.drift.specs.Drift.{none, at, inflightLow, Nearer, Near, Follows, HasBeta, IsSmall, InflightDrift}
+use Rattle.drift.specs.Drift.{none, at, inflightLow, Nearer, Near, Follows, Along, HasBeta, IsSmall, InflightDrift}
 use Rattle.drift.proofs.Others.{other-same, left-same, left-high}
 use Rattle.drift.proofs.Runs.{run-kept, both-along}
 use Rattle.drift.proofs.Beta.{every-beta}
@@ -151,16 +151,14 @@ module _ (beta : Float) (parts : ℕ) (value : HasValue (complement beta) false 
       go true = record { small = omega arith; raw = refl }
       go false = record { small = omega arith; raw = refl }
 
+  drift : (p : Params) (rtt : Duration) (now : Moment) (y : Cycle) (calls : List Call) → Along (HasBeta beta) calls (started p rtt now y) → Along IsSmall calls (started p rtt now y)
+      → Follows 1 1 parts (inflightLow (run calls (started p rtt now y))) (exactRun inflightTurn parts calls (started p rtt now y) unset)
+  unfolding inflightLow started
+  drift p rtt now y calls same sizes =
+      let s = started p rtt now y in
+      let kept = run-kept inflightTurn parts (λ s x. Kept (s .model) x) (λ c. HasBeta beta c × IsSmall c) (λ c s x p done. next-kept c s x (p .0) (p .1)) in
+      follows (run calls s .model .lower .inflight) (exactRun inflightTurn parts calls s unset)
+      (kept calls s unset (both-along (HasBeta beta) IsSmall calls s same sizes) (start-kept p rtt now) .raw)
+
 pub inflight-drift : InflightDrift
-unfolding inflightLow started
-inflight-drift beta ok =
-    let b = every-beta beta ok in
-    let parts = partsOf (complement beta) in (
-      b .value,
-      λ p rtt now y calls same sizes.
-          let s = started p rtt now y in
-          let Keeps : State → Exact → Type 0 = λ s x. Kept beta parts (b .value) (b .not-all) (s .model) x in
-          let kept = run-kept inflightTurn parts Keeps (λ c. HasBeta beta c × IsSmall c) (λ c s x p done. next-kept beta parts (b .value) (b .not-all) c s x (p .0) (p .1)) in
-          follows beta parts (b .value) (b .not-all) (run calls s .model .lower .inflight) (exactRun inflightTurn parts calls s unset)
-          (kept calls s unset (both-along (HasBeta beta) IsSmall calls s same sizes) (start-kept beta parts (b .value) (b .not-all) p rtt now) .raw),
-    )
+inflight-drift beta ok = let b = every-beta beta ok in (b .value, drift beta (partsOf (complement beta)) (b .value) (b .not-all))
