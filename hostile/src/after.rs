@@ -5,17 +5,21 @@ use crate::next;
 use crate::reckon;
 use crate::table;
 use crate::words::call as c;
-use crate::words::float;
+use crate::words::gain;
 use crate::words::optional;
 use crate::words::state as s;
+use crate::words::yes;
 use crate::words::Answer;
 use crate::words::Call;
 use crate::words::State;
 use crate::words::UNSET;
 
+/// The word of a gain of 1.
+pub const ONE: u64 = 0x3f80_0000;
+
 /// A fresh model and cycle: network_model.rs `new`, and "A fresh cycle: NotStarted, both moments
-/// the start's, counts 0, flags off, wait and probe_up_bytes unset". Gains are bits of an f32.
-pub fn fresh(now: u64, rtt: u64, cwnd_gain: u32, pacing_gain: u32, option: bool) -> State {
+/// the start's, counts 0, flags off, wait and probe_up_bytes unset". Gains and option are words.
+pub fn fresh(now: u64, rtt: u64, cwnd_gain: u64, pacing_gain: u64, option: u64) -> State {
     let mut state = [0; 50];
     state[s::MIN_RTT] = rtt;
     for index in [
@@ -33,49 +37,29 @@ pub fn fresh(now: u64, rtt: u64, cwnd_gain: u32, pacing_gain: u32, option: bool)
     ] {
         state[index] = UNSET;
     }
-    state[s::CWND_GAIN] = cwnd_gain as u64;
-    state[s::PACING_GAIN] = pacing_gain as u64;
-    state[s::IGNORE_APP_LIMITED] = option as u64;
+    state[s::CWND_GAIN] = cwnd_gain;
+    state[s::PACING_GAIN] = pacing_gain;
+    state[s::IGNORE_APP_LIMITED] = option;
     state
 }
 
 /// "A refused start .. returns a fresh one at moment 0 with round trip 0, both gains 1 and the
 /// app-limited option off."
 fn refused_start() -> State {
-    let one = 1.0_f32.to_bits();
-    fresh(0, 0, one, one, false)
+    fresh(0, 0, ONE, ONE, 0)
 }
 
 /// What an accepted start leaves.
 fn started(call: &Call) -> State {
     let (cwnd_gain, pacing_gain) = (call[c::STARTUP_CWND_GAIN], call[c::STARTUP_PACING_GAIN]);
-    let option = call[c::IGNORE_APP_LIMITED] == 1;
-    fresh(
-        call[1],
-        call[2],
-        cwnd_gain as u32,
-        pacing_gain as u32,
-        option,
-    )
+    let option = call[c::IGNORE_APP_LIMITED];
+    fresh(call[1], call[2], cwnd_gain, pacing_gain, option)
 }
 
-/// The record as it is handed in and written again: a flag is 1 or 0, what is unset is 0.
+/// The record as it is handed in, whatever its words are.
 pub fn record(call: &Call) -> [u64; 16] {
     let mut record = [0; 16];
     record.copy_from_slice(&call[c::RECORD..c::PARAMS]);
-    for flag in [
-        c::END_OF_ROUND_TRIP,
-        c::IS_PROBING,
-        c::LAST_IS_VALID,
-        c::LAST_IS_APP_LIMITED,
-    ] {
-        record[flag - c::RECORD] = (call[flag] == 1) as u64;
-    }
-    for pair in [c::RECORD_BANDWIDTH, c::RECORD_RTT] {
-        let number = optional(call, pair);
-        record[pair - c::RECORD] = number.is_some() as u64;
-        record[pair + 1 - c::RECORD] = number.unwrap_or(0);
-    }
     record
 }
 
@@ -119,10 +103,10 @@ fn number(state: &State, call: &Call) -> u64 {
         5 => expires(state, call) as u64,
         6 => is_inflight_too_high(state, call) as u64,
         7 => table::grows(state, call) as u64,
-        10 => table::bdp(state, call[1], float(call[2])),
+        10 => table::bdp(state, call[1], gain(call[2])),
         11 => table::bdp(state, call[1], 1.0),
         12 => table::bdp(state, table::max_bandwidth(state), 1.0),
-        13 => with_headroom(state[s::INFLIGHT_HI], float(call[c::HEADROOM])),
+        13 => with_headroom(state[s::INFLIGHT_HI], gain(call[c::HEADROOM])),
         23 => optional(state, s::BANDWIDTH_LO)
             .unwrap_or(u64::MAX)
             .min(table::max_bandwidth(state)),
@@ -161,11 +145,11 @@ pub fn expires(state: &State, call: &Call) -> bool {
 /// `is_inflight_too_high` of network_model.rs.
 fn is_inflight_too_high(state: &State, call: &Call) -> bool {
     let (lost, inflight) = (state[s::BYTES_LOST_IN_ROUND], call[c::LAST_IN_FLIGHT]);
-    call[c::LAST_IS_VALID] == 1
+    yes(call[c::LAST_IS_VALID])
         && state[s::LOSS_EVENTS_IN_ROUND] >= call[1]
         && inflight > 0
         && lost > 0
-        && lost > reckon::scale(inflight, float(call[c::LOSS_THRESHOLD]))
+        && lost > reckon::scale(inflight, gain(call[c::LOSS_THRESHOLD]))
 }
 
 /// `inflight_hi_with_headroom` of network_model.rs.

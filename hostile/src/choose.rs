@@ -153,7 +153,7 @@ fn go_on(dice: &mut Dice, state: &State, call: &mut Call) {
 }
 
 /// Makes some words of a call hostile, most of them such as it reads.
-pub fn spoil_call(dice: &mut Dice, state: &State, call: &mut Call, spoilt: &mut Spoilt) {
+pub fn spoil_call(dice: &mut Dice, call: &mut Call, spoilt: &mut Spoilt) {
     let arguments = kinds::arguments(call[0]);
     for _ in 0..=dice.below(3) {
         let index = match dice.below(4) {
@@ -176,13 +176,71 @@ pub fn spoil_call(dice: &mut Dice, state: &State, call: &mut Call, spoilt: &mut 
             call[index] = dice.next();
         }
     }
-    if dice.one_in(3) {
-        fall(dice, state, call, spoilt);
+}
+
+/// Makes a word that a call uses malformed. Where it uses none that can be, it is another one, at
+/// which the call must not look.
+pub fn malform_call(dice: &mut Dice, call: &mut Call, spoilt: &mut Spoilt) {
+    let can = |&(_, kind): &(usize, Kind)| kinds::ways(kind) > 0;
+    let mut places: Vec<_> = kinds::used(call[0]).filter(can).collect();
+    if places.is_empty() {
+        places.extend(kinds::rest().filter(can));
+    }
+    let (place, kind) = dice.pick(&places);
+    kinds::malform(call, place, kind, dice.length(kinds::ways(kind)));
+    spoilt.call.push(place);
+}
+
+/// What else can be wrong beside a malformed word.
+#[derive(Clone, Copy, PartialEq, Debug)]
+pub enum Beside {
+    Nothing,
+    StoredModel,
+    StoredCycle,
+    Parameter,
+    Moment,
+    Total,
+    Counters,
+}
+
+impl Beside {
+    pub const ALL: [Beside; 7] = [
+        Beside::Nothing,
+        Beside::StoredModel,
+        Beside::StoredCycle,
+        Beside::Parameter,
+        Beside::Moment,
+        Beside::Total,
+        Beside::Counters,
+    ];
+
+    /// Makes it so of a good call in a good state.
+    pub fn put(self, state: &mut State, call: &mut Call) {
+        match self {
+            Beside::Nothing => {}
+            Beside::StoredModel => state[s::MIN_RTT] = table::LENGTH + 1,
+            Beside::StoredCycle => state[s::PROBE_UP_ROUNDS] = table::ROUNDS + 1,
+            Beside::Parameter => call[c::PROBE_RTT_PERIOD] = table::LENGTH + 1,
+            Beside::Moment => {
+                if let Some(index) = moment_word(call[0]) {
+                    call[index] = state[s::LAST_MOMENT].saturating_sub(1);
+                }
+            }
+            Beside::Total if call[0] == 3 => {
+                call[c::TOTAL_ACKED] = state[s::TOTAL_ACKED].saturating_sub(1);
+            }
+            Beside::Total => {}
+            Beside::Counters => {
+                for counter in COUNTERS {
+                    state[counter] = u64::MAX;
+                }
+            }
+        }
     }
 }
 
 /// Lets the moment or a total be lower than the stored one.
-fn fall(dice: &mut Dice, state: &State, call: &mut Call, spoilt: &mut Spoilt) {
+pub fn fall(dice: &mut Dice, state: &State, call: &mut Call, spoilt: &mut Spoilt) {
     let (index, stored) = match (moment_word(call[0]), dice.below(3)) {
         (Some(_), 0) if call[0] == 3 => (c::TOTAL_ACKED, state[s::TOTAL_ACKED]),
         (Some(_), 1) if call[0] == 3 => (c::TOTAL_LOST, state[s::TOTAL_LOST]),
@@ -194,6 +252,26 @@ fn fall(dice: &mut Dice, state: &State, call: &mut Call, spoilt: &mut Spoilt) {
     spoilt.call.push(index);
 }
 
+/// Numbers that are no call's.
+pub const NO_CALLS: [u64; 16] = [
+    2,
+    39,
+    46,
+    47,
+    63,
+    64,
+    98,
+    99,
+    255,
+    256,
+    (1 << 8) + 1,
+    1 << 32,
+    (1 << 32) + 1,
+    (1 << 32) + 3,
+    1 << 63,
+    u64::MAX,
+];
+
 /// A number that is no call's, or random bytes instead of the call.
 pub fn no_call(dice: &mut Dice, call: &mut Call) {
     if dice.one_in(3) {
@@ -201,7 +279,7 @@ pub fn no_call(dice: &mut Dice, call: &mut Call) {
     }
     call[0] = match dice.below(4) {
         0 => dice.pick(&[2, 39]),
-        1 => 46 + dice.below(15),
+        1 => dice.pick(&NO_CALLS),
         2 => values::hostile(dice, 45),
         _ => call[0].wrapping_add(dice.pick(&[1 << 8, 1 << 16, 1 << 32, 1 << 63])),
     };

@@ -28,7 +28,7 @@ use crate::words::Call;
 use crate::words::State;
 
 /// A port that is right by what is known beforehand.
-const RIGHT: Port = Port {
+pub const RIGHT: Port = Port {
     u64_to_f32,
     u64_to_f64,
     f32_to_u64,
@@ -74,7 +74,7 @@ unsafe extern "C" fn to_bytes_per_period(bandwidth: u64, nanos: u64) -> u64 {
 }
 
 /// A lent range as a slice; without bytes the pointer is not used.
-unsafe fn lent<'a>(start: *mut u8, len: usize) -> &'a mut [u8] {
+pub unsafe fn lent<'a>(start: *mut u8, len: usize) -> &'a mut [u8] {
     if len == 0 {
         &mut []
     } else {
@@ -118,21 +118,31 @@ unsafe extern "C" fn run(
     answers_len: usize,
 ) -> u64 {
     let (state, calls) = (lent(state, state_len), lent(calls as *mut u8, calls_len));
-    let due = table::run_rows(state, calls, answers_len).due();
+    run_by(step, state, calls, lent(answers, answers_len))
+}
+
+/// A run that makes each of its calls by a function.
+pub fn run_by(
+    one: impl Fn(&mut State, &Call) -> Answer,
+    state: &mut [u8],
+    calls: &[u8],
+    answers: &mut [u8],
+) -> u64 {
+    let due = table::run_rows(state, calls, answers.len()).due();
     if due != 0 {
         return due;
     }
     let mut now: State = words::words(state);
-    let answers = lent(answers, answers_len).chunks_exact_mut(words::ANSWER_BYTES);
+    let answers = answers.chunks_exact_mut(words::ANSWER_BYTES);
     for (call, answer) in calls.chunks_exact(words::CALL_BYTES).zip(answers) {
-        answer.copy_from_slice(&words::bytes(&step(&mut now, &words::words(call))));
+        answer.copy_from_slice(&words::bytes(&one(&mut now, &words::words(call))));
     }
     state.copy_from_slice(&words::bytes(&now));
     0
 }
 
 /// One call: its answer, and the state after it.
-fn step(state: &mut State, call: &Call) -> Answer {
+pub fn step(state: &mut State, call: &Call) -> Answer {
     let due = table::call_rows(state, call).due();
     let answer = after::answer(state, call, due);
     *state = after::state(state, call, due);
@@ -354,7 +364,7 @@ fn found(port: Port) -> Tally {
 }
 
 /// Whether the checks notice this fault of a port.
-fn notices(port: Port, fault: Fault) -> bool {
+pub fn notices(port: Port, fault: Fault) -> bool {
     found(port).count(fault) > 0
 }
 

@@ -1,6 +1,7 @@
 //! What the words of states and calls are, for choosing numbers that fit them or don't.
 
 use crate::dice::Dice;
+use crate::table;
 use crate::table::BANDWIDTH;
 use crate::table::BYTES;
 use crate::table::LENGTH;
@@ -9,6 +10,7 @@ use crate::table::ROUNDS;
 use crate::table::TOTAL;
 use crate::table::WAIT;
 use crate::values;
+use crate::words::call as c;
 use crate::words::UNSET;
 
 /// The kind of a word.
@@ -21,6 +23,8 @@ pub enum Kind {
     /// A number of bytes, or unset.
     OrUnset,
     Flag,
+    /// How many of three numbers count.
+    Count,
     /// An f32 from one pattern to another.
     Float(u32, u32),
     Phase,
@@ -30,6 +34,7 @@ pub enum Kind {
     Held,
 }
 
+use Kind::Count;
 use Kind::Flag;
 use Kind::Float;
 use Kind::Free;
@@ -146,7 +151,7 @@ const EVENT: [Kind; 21] = [
     Upto(BYTES),
     Upto(TOTAL),
     Upto(TOTAL),
-    Free,
+    Count,
     Free,
     Free,
     Free,
@@ -173,6 +178,63 @@ pub fn arguments(number: u64) -> &'static [Kind] {
     }
 }
 
+/// The words of the record and of the parameters, each with its place and its kind.
+pub fn rest() -> impl Iterator<Item = (usize, Kind)> {
+    let kinds = REST.iter().enumerate();
+    kinds.map(|(at, &kind)| (c::RECORD + at, kind))
+}
+
+/// The words that a call uses, each with its place and its kind.
+pub fn used(number: u64) -> impl Iterator<Item = (usize, Kind)> {
+    let (record, params) = (table::gets_record(number), table::takes_params(number));
+    let arguments = arguments(number).iter().enumerate();
+    arguments
+        .map(|(at, &kind)| (1 + at, kind))
+        .chain(rest().filter(move |&(at, _)| if at < c::PARAMS { record } else { params }))
+}
+
+/// Words that no flag, count or pair has, and bits that no f32 has.
+const NO_FLAGS: [u64; 9] = [2, 3, 255, 256, 257, 1 << 32, (1 << 32) + 1, 1 << 63, ANY];
+const NO_COUNTS: [u64; 9] = [4, 5, 6, 7, 8, 1 << 32, (1 << 32) + 1, ANY - 3, ANY];
+const NO_PAIRS: [(u64, u64); 9] = [
+    (0, 1),
+    (0, ANY),
+    (2, 0),
+    (2, 5),
+    (3, 1),
+    (257, 5),
+    (1 << 32, 0),
+    ((1 << 32) + 1, 5),
+    (ANY, ANY),
+];
+const NO_FLOATS: [u64; 4] = [1 << 32, 1 << 33, 1 << 63, ANY << 32];
+
+/// In how many ways `malform` can make a word of this kind malformed; 0 where no word is.
+pub fn ways(kind: Kind) -> usize {
+    match kind {
+        Flag => NO_FLAGS.len(),
+        Count => NO_COUNTS.len(),
+        Set(_) => NO_PAIRS.len(),
+        Float(..) => NO_FLOATS.len(),
+        _ => 0,
+    }
+}
+
+/// Makes the word at a place malformed, of a pair the two from there on.
+pub fn malform(words: &mut [u64], place: usize, kind: Kind, way: usize) {
+    match kind {
+        Flag => words[place] = NO_FLAGS[way],
+        Count => words[place] = NO_COUNTS[way],
+        Set(_) => {
+            let (set, number) = NO_PAIRS[way];
+            words[place] = set;
+            words[place + 1] = number;
+        }
+        Float(..) => words[place] |= NO_FLOATS[way],
+        _ => {}
+    }
+}
+
 /// Puts a fitting number into each word.
 pub fn fill(dice: &mut Dice, words: &mut [u64], kinds: &[Kind]) {
     for (index, kind) in kinds.iter().enumerate() {
@@ -182,6 +244,7 @@ pub fn fill(dice: &mut Dice, words: &mut [u64], kinds: &[Kind]) {
             OrUnset if dice.one_in(3) => UNSET,
             OrUnset => values::within(dice, BYTES),
             Flag | Set(_) => dice.below(2),
+            Count => dice.below(4),
             Float(low, high) => values::pattern_within(dice, low, high) as u64,
             Phase => dice.below(5),
             Held => held(dice, words[index - 1], kinds[index - 1]),
@@ -204,6 +267,7 @@ pub fn spoil(dice: &mut Dice, words: &mut [u64], kinds: &[Kind], index: usize, e
         Flag | Set(_) | Phase if encoding => {}
         Flag | Set(_) | Phase => words[index] = values::flag(dice),
         Free => words[index] = values::hostile(dice, ANY),
+        Count => words[index] = values::hostile(dice, 3),
         Upto(bound) => words[index] = values::hostile(dice, bound),
         OrUnset => words[index] = values::hostile(dice, BYTES),
         Float(..) => words[index] = float(dice, encoding),

@@ -14,6 +14,8 @@ mod filter;
 mod foreign;
 mod kinds;
 mod lent;
+#[cfg(test)]
+mod misreads;
 mod model;
 mod next;
 mod numbers;
@@ -57,6 +59,8 @@ fn main() {
 pub fn sweep(trial: &mut Trial) {
     let mut model = Model::new();
     model.each_word(trial);
+    model.each_malformed(trial);
+    model.each_no_call(trial);
     model.each_length(trial);
     Filter::new().each_length(trial);
     Slope::new().each(trial);

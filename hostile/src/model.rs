@@ -2,8 +2,10 @@
 
 use crate::after;
 use crate::choose;
+use crate::choose::Beside;
 use crate::choose::Spoilt;
 use crate::dice::Dice;
+use crate::kinds;
 use crate::lent::Ground;
 use crate::table;
 use crate::tally::Export;
@@ -79,10 +81,10 @@ impl Model {
         self.run(trial, &lent);
     }
 
-    /// For every call, each word of the state and each word of the call in turn at each number
-    /// where something turns, all else being good.
+    /// For every call, and for the first numbers that are none, each word of the state and each word
+    /// of the call in turn at each number where something turns, all else being good.
     pub fn each_word(&mut self, trial: &mut Trial) {
-        for number in (0..46).filter(|&number| table::is_a_call(number)) {
+        for number in 0..=46 {
             for (index, value) in turns(50) {
                 let (mut state, call) = good(&mut trial.dice, number);
                 state[index] = value;
@@ -93,6 +95,41 @@ impl Model {
                 call[index] = value;
                 self.one(trial, &state, &call);
             }
+        }
+    }
+
+    /// For every call, each word that it uses and that can be malformed, in each way in turn: alone, and
+    /// with something else that is refused.
+    pub fn each_malformed(&mut self, trial: &mut Trial) {
+        for number in 0..46 {
+            for (place, kind) in kinds::used(number) {
+                for (way, beside) in with_each(kinds::ways(kind)) {
+                    let (mut state, mut call) = good(&mut trial.dice, number);
+                    beside.put(&mut state, &mut call);
+                    kinds::malform(&mut call, place, kind, way);
+                    self.one(trial, &state, &call);
+                }
+            }
+        }
+    }
+
+    /// Each number that is no call's: alone, with something else that is refused, and between two
+    /// calls of a run.
+    pub fn each_no_call(&mut self, trial: &mut Trial) {
+        for (number, beside) in with_each(choose::NO_CALLS.len()) {
+            let (mut state, mut call) = good(&mut trial.dice, choose::NO_CALLS[number]);
+            let before = choose::good_call(&mut trial.dice, &state, 1);
+            let number = choose::number(&mut trial.dice);
+            let after = choose::good_call(&mut trial.dice, &state, number);
+            beside.put(&mut state, &mut call);
+            self.one(trial, &state, &call);
+            let lent = Lent {
+                state: words::bytes(&state),
+                calls: words::bytes(&[before, call, after].concat()),
+                answers: trial.dice.bytes(3 * ANSWER_BYTES),
+                spoilt: Spoilt::default(),
+            };
+            self.run(trial, &lent);
         }
     }
 
@@ -146,9 +183,15 @@ impl Model {
             let number = choose::number(dice);
             let mut call = choose::good_call(dice, &state, number);
             if dice.one_in(2) {
-                choose::spoil_call(dice, &state, &mut call, &mut spoilt);
+                choose::spoil_call(dice, &mut call, &mut spoilt);
             }
-            if dice.one_in(40) {
+            if dice.one_in(5) {
+                choose::fall(dice, &state, &mut call, &mut spoilt);
+            }
+            if dice.one_in(4) {
+                choose::malform_call(dice, &mut call, &mut spoilt);
+            }
+            if dice.one_in(16) {
                 choose::no_call(dice, &mut call);
             }
             calls.extend(words::bytes(&call));
@@ -165,8 +208,8 @@ impl Model {
     fn chosen_state(&mut self, dice: &mut Dice, spoilt: &mut Spoilt) -> State {
         if self.left == 0 {
             self.left = CARRIED;
-            let one = 1.0_f32.to_bits();
-            self.carried = after::fresh(dice.below(1 << 40), dice.below(1 << 30), one, one, false);
+            let (now, rtt) = (dice.below(1 << 40), dice.below(1 << 30));
+            self.carried = after::fresh(now, rtt, after::ONE, after::ONE, 0);
         }
         self.left -= 1;
         let kind = dice.below(16);
@@ -320,6 +363,11 @@ fn good(dice: &mut Dice, number: u64) -> (State, Call) {
     let state = choose::good_state(dice);
     let call = choose::good_call(dice, &state, number);
     (state, call)
+}
+
+/// Each number below the one given, with each thing that can be wrong beside it.
+fn with_each(count: usize) -> impl Iterator<Item = (usize, Beside)> {
+    (0..count).flat_map(|at| Beside::ALL.into_iter().map(move |beside| (at, beside)))
 }
 
 /// Each of so many words, with each number where something turns.

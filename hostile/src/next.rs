@@ -5,9 +5,10 @@ use crate::after;
 use crate::reckon;
 use crate::table;
 use crate::words::call as c;
-use crate::words::float;
+use crate::words::gain;
 use crate::words::optional;
 use crate::words::state as s;
+use crate::words::yes;
 use crate::words::Call;
 use crate::words::State;
 use crate::words::UNSET;
@@ -24,7 +25,7 @@ pub fn state(before: &State, call: &Call) -> State {
     match call[0] {
         1 => on_packet_sent(&mut state, call),
         3 => drop(event(&mut state, call)),
-        4 if call[c::END_OF_ROUND_TRIP] == 1 => on_new_round(&mut state),
+        4 if yes(call[c::END_OF_ROUND_TRIP]) => on_new_round(&mut state),
         5 if after::expires(before, call) => {
             state[s::MIN_RTT] = call[c::RECORD_RTT + 1];
             state[s::MIN_RTT_TIMESTAMP] = call[c::EVENT_TIME];
@@ -33,8 +34,8 @@ pub fn state(before: &State, call: &Call) -> State {
         8 => restart_round_early(&mut state),
         9 => check_persistent_queue(&mut state, call),
         14 => state[s::FULL_BANDWIDTH_REACHED] = 1,
-        15 => state[s::PACING_GAIN] = call[1] as u32 as u64,
-        16 => state[s::CWND_GAIN] = call[1] as u32 as u64,
+        15 => state[s::PACING_GAIN] = call[1],
+        16 => state[s::CWND_GAIN] = call[1],
         17 => state[s::INFLIGHT_HI] = call[1],
         18 => cap_inflight_lo(&mut state, call[1]),
         19 => state[s::INFLIGHT_LO] = UNSET,
@@ -85,17 +86,14 @@ fn event(state: &mut State, call: &Call) -> [u64; 16] {
         let limited = call[c::PRIOR_IN_FLIGHT] >= call[c::PRIOR_CWND];
         state[s::CWND_LIMITED] = limited as u64;
     }
-    if call[c::SENT_IS_VALID] == 1 {
+    if yes(call[c::SENT_IS_VALID]) {
         let last = c::LAST_IS_VALID - c::RECORD;
-        record[last] = 1;
-        record[last + 1] = (call[c::SENT_IS_VALID + 1] == 1) as u64;
-        record[last + 2] = call[c::SENT_TOTAL_ACKED];
-        record[last + 3] = call[c::SENT_IN_FLIGHT];
+        record[last..].copy_from_slice(&call[c::SENT_IS_VALID..=c::SENT_IN_FLIGHT]);
     }
     take_samples(state, &mut record, call);
     add_totals(state, &mut record, call);
     raise_latest(state, call);
-    if ends && call[c::IS_PROBING] != 1 && state[s::BYTES_LOST_IN_ROUND] > 0 {
+    if ends && !yes(call[c::IS_PROBING]) && state[s::BYTES_LOST_IN_ROUND] > 0 {
         adapt_lower_bounds(state, call);
     }
     if ends {
@@ -113,7 +111,7 @@ fn take_samples(state: &mut State, record: &mut [u64; 16], call: &Call) {
     let bandwidth = optional(call, c::SAMPLE_BANDWIDTH);
     if let (Some(sample), true) = (bandwidth, call[c::TOTAL_ACKED] != state[s::TOTAL_ACKED]) {
         set(record, c::RECORD_BANDWIDTH - c::RECORD, Some(sample));
-        if call[c::SAMPLE_IS_APP_LIMITED] != 1 || sample > table::max_bandwidth(state) {
+        if !yes(call[c::SAMPLE_IS_APP_LIMITED]) || sample > table::max_bandwidth(state) {
             state[s::MAX_BANDWIDTH_1] = state[s::MAX_BANDWIDTH_1].max(sample);
         }
     }
@@ -144,7 +142,7 @@ fn add_totals(state: &mut State, record: &mut [u64; 16], call: &Call) {
         state[s::BYTES_LOST_IN_ROUND] += lost;
         state[s::LOSS_EVENTS_IN_ROUND] += 1;
     }
-    let valid = record[c::LAST_IS_VALID - c::RECORD] == 1;
+    let valid = yes(record[c::LAST_IS_VALID - c::RECORD]);
     let sent = record[c::LAST_TOTAL_ACKED - c::RECORD];
     if acked > 0 && valid && total > sent {
         let most = &mut state[s::MAX_BYTES_DELIVERED_IN_ROUND];
@@ -163,7 +161,7 @@ fn raise_latest(state: &mut State, call: &Call) {
 
 /// adapt_lower_bounds in its default mode, past its tests.
 fn adapt_lower_bounds(state: &mut State, call: &Call) {
-    let b = 1.0 - float(call[c::BETA]);
+    let b = 1.0 - gain(call[c::BETA]);
     let seed = table::max_bandwidth(state);
     let lo = optional(state, s::BANDWIDTH_LO).unwrap_or(seed);
     let lo = reckon::bandwidth_mul(lo, b).max(state[s::BANDWIDTH_LATEST]);
@@ -194,10 +192,10 @@ fn has_bandwidth_growth(state: &mut State, call: &Call) {
     if table::grows(state, call) {
         state[s::FULL_BANDWIDTH_BASELINE] = table::max_bandwidth(state);
         state[s::ROUNDS_WITHOUT_GROWTH] = 0;
-    } else if call[c::LAST_IS_VALID] == 1 {
+    } else if yes(call[c::LAST_IS_VALID]) {
         state[s::ROUNDS_WITHOUT_GROWTH] += table::counts_no_growth(state, call) as u64;
         let enough = state[s::ROUNDS_WITHOUT_GROWTH] >= call[c::STARTUP_FULL_BW_ROUNDS];
-        if enough && call[c::LAST_IS_APP_LIMITED] != 1 {
+        if enough && !yes(call[c::LAST_IS_APP_LIMITED]) {
             state[s::FULL_BANDWIDTH_REACHED] = 1;
         }
     }
@@ -249,8 +247,8 @@ fn enter(state: &mut State, phase: u64, now: u64) {
 
 fn enter_probe_down(state: &mut State, call: &Call) {
     let now = call[3];
-    state[s::LAST_PROBED_TOO_HIGH] = (call[1] == 1) as u64;
-    state[s::LAST_STOPPED_RISKY_PROBE] = (call[2] == 1) as u64;
+    state[s::LAST_PROBED_TOO_HIGH] = call[1];
+    state[s::LAST_STOPPED_RISKY_PROBE] = call[2];
     enter(state, DOWN, now);
     state[s::CYCLE_START] = now;
     state[s::ROUNDS_SINCE_PROBE] = 0;

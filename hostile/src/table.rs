@@ -1,13 +1,22 @@
 //! Which number is due: document 01's section "Replies and bounds", read sentence by sentence, and
-//! for the runs the replies of docs/LAYOUT.md. Where the document leaves a choice, the reading is
-//! that of docs/DECISIONS.md, named at its place.
+//! for the runs and the form of words docs/LAYOUT.md. Where the document leaves a choice, the reading
+//! is that of docs/DECISIONS.md, named at its place.
+//!
+//! A malformed word counts as one out of bounds: a flag that is neither 0 nor 1, an f32 with bits
+//! above the 32nd, a pair that is neither 1 and a number nor 0 and 0, a count above 3. In an argument
+//! or in the event's record that is row 2, in a parameter row 1.
 
 use crate::reckon;
 use crate::words;
+use crate::words::acked;
 use crate::words::call as c;
+use crate::words::flag;
 use crate::words::float;
+use crate::words::gain;
 use crate::words::optional;
+use crate::words::pair;
 use crate::words::state as s;
+use crate::words::yes;
 use crate::words::Call;
 use crate::words::State;
 use crate::words::UNSET;
@@ -52,12 +61,15 @@ impl Rows {
     }
 }
 
-/// The rows of one call in a state that its bytes encode.
+/// The rows of one call in a state that its bytes encode. A number that is no call's is itself the
+/// bad argument; such a call gets the model, and tests it.
 pub fn call_rows(state: &State, call: &Call) -> Rows {
     let number = call[0];
     let stored =
         (gets_model(number) && !model_ok(state)) || (gets_cycle(number) && !cycle_ok(state));
-    let given = arguments_ok(call) && (!gets_record(number) || record_ok(&call[c::RECORD..]));
+    let given = is_a_call(number)
+        && arguments_ok(call)
+        && (!gets_record(number) || record_ok(&call[c::RECORD..]));
     Rows::default()
         // "1: a stored number or a parameter is outside the bounds below"
         .with(1, stored || (takes_params(number) && !params_ok(call)))
@@ -78,15 +90,11 @@ pub fn call_rows(state: &State, call: &Call) -> Rows {
 pub fn run_rows(state: &[u8], calls: &[u8], answers: usize) -> Rows {
     let whole = state.len() == words::STATE_BYTES;
     let count = calls.len() / words::CALL_BYTES;
-    let unknown = calls
-        .chunks_exact(words::CALL_BYTES)
-        .any(|call| !is_a_call(words::words::<1>(call)[0]));
     Rows::default()
         // "1: the state's 400 bytes encode no state"
         .with(1, whole && !encodes(&words::words(state)))
-        // "2: the state has another length, the calls are no whole number of 392 bytes, or a call's
-        // number is none"
-        .with(2, !whole || calls.len() % words::CALL_BYTES != 0 || unknown)
+        // "2: the state has another length, or the calls are no whole number of 392 bytes"
+        .with(2, !whole || calls.len() % words::CALL_BYTES != 0)
         // "7: the answers have under 144 bytes a call"
         .with(7, answers < count * words::ANSWER_BYTES)
 }
@@ -133,11 +141,11 @@ pub fn moment(call: &Call) -> Option<u64> {
 /// Whether 50 words encode a state: a flag is 0 or 1, what is unset is 0, an f32 has 32 bits and
 /// one NaN, a phase is one of five.
 pub fn encodes(state: &State) -> bool {
-    let flag = |index: usize| state[index] <= 1;
-    let optional = |index: usize| state[index] == 1 || (state[index] == 0 && state[index + 1] == 0);
+    let flag = |index: usize| flag(state[index]).is_some();
+    let optional = |index: usize| pair(state, index).is_some();
     let pattern = |index: usize| {
-        let is_nan = float(state[index]).is_nan();
-        state[index] <= u32::MAX as u64 && (!is_nan || state[index] == 0x7fc0_0000)
+        let one_nan = state[index] == 0x7fc0_0000;
+        float(state[index]).map_or(false, |gain| !gain.is_nan() || one_nan)
     };
     let flags = [
         s::INFLIGHT_HI_LIMITED_IN_ROUND,
@@ -169,15 +177,24 @@ fn bytes_or_unset(number: u64) -> bool {
     number <= BYTES || number == UNSET
 }
 
+/// A flag: there is nothing to test but that it is one.
+fn flag_ok(word: u64) -> bool {
+    flag(word).is_some()
+}
+
 /// A number that may be unset: there is only something to test where it is set.
 fn optional_ok(words: &[u64], index: usize, bound: u64) -> bool {
-    optional(words, index).map_or(true, |number| number <= bound)
+    match pair(words, index) {
+        Some(Some(number)) => number <= bound,
+        Some(None) => true,
+        None => false,
+    }
 }
 
 /// "NaN is refused": no comparison with it holds. "Negative zero counts as zero": it is not below
 /// zero.
 fn between(word: u64, low: f32, high: f32) -> bool {
-    low <= float(word) && float(word) <= high
+    float(word).map_or(false, |number| low <= number && number <= high)
 }
 
 /// "gains 1/1024 to 8"
@@ -241,6 +258,7 @@ fn params_ok(call: &Call) -> bool {
         && gain_ok(call[c::STARTUP_PACING_GAIN])
         && call[c::PROBE_RTT_PERIOD] <= LENGTH
         && call[c::PROBE_BASE_DURATION] <= LENGTH
+        && flag_ok(call[c::IGNORE_APP_LIMITED])
 }
 
 /// The arguments of each call: every number handed in is tested, whether the call reads it or not
@@ -255,7 +273,7 @@ fn arguments_ok(call: &Call) -> bool {
         11 => call[1] <= BANDWIDTH,
         17 | 18 => bytes_or_unset(call[1]),
         22 => call[1] <= LENGTH,
-        40 => call[3] <= MOMENT,
+        40 => flag_ok(call[1]) && flag_ok(call[2]) && call[3] <= MOMENT,
         41 => call[1] <= MOMENT,
         42 => call[1] <= ROUNDS && call[2] <= MOMENT,
         43 => call[1] <= MOMENT && call[2] <= BYTES,
@@ -269,13 +287,17 @@ fn sample_ok(call: &Call) -> bool {
     optional_ok(call, c::SAMPLE_BANDWIDTH, BANDWIDTH)
         && optional_ok(call, c::SAMPLE_SEND_RATE, BANDWIDTH)
         && optional_ok(call, c::SAMPLE_ACK_RATE, BANDWIDTH)
+        && flag_ok(call[c::SAMPLE_IS_APP_LIMITED])
         && optional_ok(call, c::SAMPLE_RTT, LENGTH)
         && call[c::SAMPLE_MAX_INFLIGHT] <= BYTES
         && call[c::EXTRA_ACKED] <= BYTES
+        && flag_ok(call[c::SENT_IS_VALID])
+        && flag_ok(call[c::SENT_IS_APP_LIMITED])
         && call[c::SENT_TOTAL_ACKED] <= TOTAL
         && call[c::SENT_IN_FLIGHT] <= BYTES
         && call[c::TOTAL_ACKED] <= TOTAL
         && call[c::TOTAL_LOST] <= TOTAL
+        && acked(call).is_some()
 }
 
 /// The 16 words of an event's record, from the first: "an event's bytes acked and lost .. 2^62".
@@ -287,8 +309,12 @@ pub fn record_ok(record: &[u64]) -> bool {
         && at(c::IN_FLIGHT) <= BYTES
         && at(c::BYTES_ACKED) <= TOTAL
         && at(c::BYTES_LOST) <= TOTAL
+        && flag_ok(at(c::END_OF_ROUND_TRIP))
+        && flag_ok(at(c::IS_PROBING))
         && optional_ok(record, c::RECORD_BANDWIDTH - c::RECORD, BANDWIDTH)
         && optional_ok(record, c::RECORD_RTT - c::RECORD, LENGTH)
+        && flag_ok(at(c::LAST_IS_VALID))
+        && flag_ok(at(c::LAST_IS_APP_LIMITED))
         && at(c::LAST_TOTAL_ACKED) <= TOTAL
         && at(c::LAST_IN_FLIGHT) <= BYTES
 }
@@ -321,9 +347,9 @@ fn fills_a_counter(state: &State, call: &Call) -> bool {
 /// "A round ends if no end is set yet or that number is greater than the end .. An empty slice ends
 /// no round." That number is the last of those acked.
 pub fn ends_a_round(state: &State, call: &Call) -> bool {
-    let count = (call[c::ACKED_COUNT] % 4) as usize;
     let end = optional(state, s::END_OF_ROUND_TRIP);
-    count > 0 && end.map_or(true, |end| call[c::ACKED_COUNT + count] > end)
+    let last = acked(call).and_then(|acked| acked.last());
+    last.map_or(false, |&last| end.map_or(true, |end| last > end))
 }
 
 /// The larger of the two slots of the max filter.
@@ -338,14 +364,14 @@ pub fn bdp(state: &State, bandwidth: u64, gain: f32) -> u64 {
 
 /// Whether has_bandwidth_growth sees growth.
 pub fn grows(state: &State, call: &Call) -> bool {
-    let threshold = float(call[c::FULL_BW_THRESHOLD]);
+    let threshold = gain(call[c::FULL_BW_THRESHOLD]);
     max_bandwidth(state) >= reckon::bandwidth_mul(state[s::FULL_BANDWIDTH_BASELINE], threshold)
 }
 
 /// has_bandwidth_growth adds 1 without growth, with a valid state, unless the round is ignored.
 pub fn counts_no_growth(state: &State, call: &Call) -> bool {
-    let valid = call[c::LAST_IS_VALID] == 1;
-    let ignored = state[s::IGNORE_APP_LIMITED] == 1 && call[c::LAST_IS_APP_LIMITED] == 1;
+    let valid = yes(call[c::LAST_IS_VALID]);
+    let ignored = yes(state[s::IGNORE_APP_LIMITED]) && yes(call[c::LAST_IS_APP_LIMITED]);
     !grows(state, call) && valid && !ignored
 }
 
@@ -353,6 +379,6 @@ pub fn counts_no_growth(state: &State, call: &Call) -> bool {
 pub fn counts_a_queue(state: &State, call: &Call) -> bool {
     let most = max_bandwidth(state);
     let beside = bdp(state, most, 1.0).saturating_add(2 * 1300);
-    let target = bdp(state, most, float(call[1])).max(beside);
+    let target = bdp(state, most, gain(call[1])).max(beside);
     state[s::MIN_BYTES_IN_FLIGHT_IN_ROUND] >= target
 }

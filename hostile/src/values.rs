@@ -5,7 +5,7 @@ use crate::dice::Dice;
 const MAX: u64 = u64::MAX;
 
 /// Numbers at which something turns somewhere.
-const TURNS: [u64; 27] = [
+const TURNS: [u64; 29] = [
     0,
     1,
     2,
@@ -16,6 +16,7 @@ const TURNS: [u64; 27] = [
     31,
     32,
     64,
+    255,
     1_299,
     1_300,
     500_000,
@@ -31,6 +32,7 @@ const TURNS: [u64; 27] = [
     1 << 62,
     (1 << 62) + 1,
     1 << 63,
+    MAX - 3,
     MAX - 1,
     MAX,
 ];
@@ -138,6 +140,7 @@ pub fn flag(dice: &mut Dice) -> u64 {
         1,
         2,
         3,
+        255,
         256,
         257,
         1 << 32,

@@ -69,6 +69,7 @@ pub mod call {
     pub const SAMPLE_MAX_INFLIGHT: usize = 10;
     pub const EXTRA_ACKED: usize = 11;
     pub const SENT_IS_VALID: usize = 12;
+    pub const SENT_IS_APP_LIMITED: usize = 13;
     pub const SENT_TOTAL_ACKED: usize = 14;
     pub const SENT_IN_FLIGHT: usize = 15;
     pub const TOTAL_ACKED: usize = 16;
@@ -176,16 +177,53 @@ pub fn words<const N: usize>(bytes: &[u8]) -> [u64; N] {
     words
 }
 
-/// The f32 that a word holds: its low 32 bits.
-pub fn float(word: u64) -> f32 {
-    f32::from_bits(word as u32)
+/// What the word of a flag says: 1 is yes, 0 is no, and any other is malformed.
+pub fn flag(word: u64) -> Option<bool> {
+    match word {
+        0 => Some(false),
+        1 => Some(true),
+        _ => None,
+    }
 }
 
-/// The number that a pair of words holds, if it is set.
-pub fn optional(words: &[u64], index: usize) -> Option<u64> {
-    if words[index] == 1 {
-        Some(words[index + 1])
+/// The f32 whose bits a word is; a word with bits above the 32nd is malformed.
+pub fn float(word: u64) -> Option<f32> {
+    if word <= u32::MAX as u64 {
+        Some(f32::from_bits(word as u32))
     } else {
         None
     }
+}
+
+/// What a pair of words says: 1 and a number, or 0 and 0 for unset; any other is malformed.
+pub fn pair(words: &[u64], index: usize) -> Option<Option<u64>> {
+    match (words[index], words[index + 1]) {
+        (1, number) => Some(Some(number)),
+        (0, 0) => Some(None),
+        _ => None,
+    }
+}
+
+/// The numbers acked, of which there is room for three; a larger count is malformed.
+pub fn acked(call: &Call) -> Option<&[u64]> {
+    let room = &call[call::ACKED_COUNT + 1..call::RECORD];
+    match call[call::ACKED_COUNT] {
+        count @ 0..=3 => Some(&room[..count as usize]),
+        _ => None,
+    }
+}
+
+/// Whether a flag says yes.
+pub fn yes(word: u64) -> bool {
+    flag(word) == Some(true)
+}
+
+/// The number that a pair of words says, if it says one.
+pub fn optional(words: &[u64], index: usize) -> Option<u64> {
+    pair(words, index).flatten()
+}
+
+/// The gain or share that a word says; a NaN, which is within no bounds, where it is malformed.
+pub fn gain(word: u64) -> f32 {
+    float(word).unwrap_or(f32::NAN)
 }
