@@ -92,8 +92,13 @@ enum {
  * that is refused is answered with its number and changes nothing, and the run goes on. Bytes of
  * answers past the last keep what they held. Begin with call 0, a start, on a state of zeros.
  *
- * Replies 1 for 400 bytes that encode no state, 2 for a state of another length, calls that are no
- * whole number of 392 bytes or an unknown call, 7 for answers under 144 bytes a call. */
+ * A call's words are tested. A flag that is neither 0 nor 1, an f32 with bits above the 32nd, a
+ * number beside the 0 of an unset one, and a count of acked numbers above 3 refuse the call that
+ * uses them: with 2, or with 1 in the parameters. So a flag is written as (flag ? 1 : 0). A number
+ * that is no call's is refused with 2, or with 1 where the stored model is out of bounds.
+ *
+ * The run itself replies 1 for 400 bytes that encode no state, 2 for a state of another length or
+ * calls that are no whole number of 392 bytes, 7 for answers under 144 bytes a call. */
 uint64_t guovssalu_run(uint8_t *state, size_t state_len, const uint8_t *calls, size_t calls_len,
                        uint8_t *answers, size_t answers_len);
 

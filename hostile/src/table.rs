@@ -99,7 +99,7 @@ pub fn run_rows(state: &[u8], calls: &[u8], answers: usize) -> Rows {
         .with(7, answers < count * words::ANSWER_BYTES)
 }
 
-/// "The numbers 2, 39 and those above 45 are no calls."
+/// "The numbers 2, 39 and those above 45 are no call's."
 pub fn is_a_call(number: u64) -> bool {
     number <= 45 && number != 2 && number != 39
 }
