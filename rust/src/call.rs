@@ -29,7 +29,9 @@ impl Call {
     const EVENT: usize = 22;
     const PARAMS: usize = 38;
 
-    /// The call of a number, with its arguments in order; the others are 0.
+    /// The call of a number, with its arguments in order; the others are 0. They are words, written as
+    /// docs/LAYOUT.md says: a flag is 0 or 1, a gain is its 32 bits. A number that is no call's, and
+    /// words that are malformed, are refused by the run, in the call's answer.
     ///
     /// # Panics
     ///
@@ -126,7 +128,8 @@ impl Answer {
         Ok(words::get(&self.bytes, 1))
     }
 
-    /// The event's record after call 3; all zeros after the others.
+    /// The event's record after call 3; where that was refused, the one handed in. All zeros after the
+    /// others.
     pub fn event(&self) -> CongestionEvent {
         words::get_event(&self.bytes, 2)
     }
@@ -140,9 +143,8 @@ impl Answer {
 ///
 /// # Errors
 ///
-/// `OutOfBounds` for bytes that encode no state; `BadArgument` for a state of another length, calls
-/// not in whole records or a number that is no call's; `ShortOutput` for answers without room. Then
-/// no byte is changed.
+/// `OutOfBounds` for bytes that encode no state; `BadArgument` for a state of another length or calls
+/// not in whole records; `ShortOutput` for answers without room. Then no byte is changed.
 ///
 /// ```
 /// use guovssalu::{run, Answer, Call, Params, STATE_BYTES};

@@ -2,13 +2,16 @@ use std::error::Error;
 use std::fmt;
 
 /// Why a call was refused: rows 1 to 7 of the table of refusals. A refused call has changed nothing;
-/// where several rows apply, the lowest is given.
+/// where several rows apply, the lowest is given. Malformed words (docs/LAYOUT.md) can only be in
+/// calls that were not written by this package, or by [`Call::new`](crate::Call::new) with other
+/// arguments than the call has.
 #[derive(Clone, Copy, Debug, PartialEq, Eq, Hash)]
 pub enum Refusal {
-    /// 1: a stored number or a parameter is outside its bounds, or bytes encode no state.
+    /// 1: a stored number or a parameter is outside its bounds, a parameter's word is malformed, or
+    /// bytes encode no state.
     OutOfBounds = 1,
-    /// 2: an argument is outside its bounds, bytes have a wrong length, a call's number is none, or
-    /// a postponed moment would pass 2^62.
+    /// 2: an argument is outside its bounds or its word is malformed, a number is no call's, bytes
+    /// have a wrong length, or a postponed moment would pass 2^62.
     BadArgument = 2,
     /// 3: the moment is earlier than the last accepted one; in a windowed filter, earlier than one
     /// of its three stored times.
@@ -48,8 +51,8 @@ impl Refusal {
 impl fmt::Display for Refusal {
     fn fmt(&self, f: &mut fmt::Formatter) -> fmt::Result {
         f.write_str(match self {
-            Refusal::OutOfBounds => "a stored number or a parameter is out of bounds",
-            Refusal::BadArgument => "an argument is out of bounds",
+            Refusal::OutOfBounds => "a stored number or a parameter is out of bounds or malformed",
+            Refusal::BadArgument => "an argument is out of bounds or malformed",
             Refusal::EarlierMoment => "the moment is earlier than the last accepted one",
             Refusal::LowerTotal => "a total is lower than the stored one",
             Refusal::FullCounter => "a counter is full",

@@ -6,6 +6,7 @@ use guovssalu::run;
 use guovssalu::Answer;
 use guovssalu::Call;
 use guovssalu::CongestionEvent;
+use guovssalu::Moment;
 use guovssalu::Params;
 use guovssalu::Refusal;
 use guovssalu::Sample;
@@ -121,12 +122,34 @@ fn a_run_refuses_wrong_lengths() {
 }
 
 #[test]
-fn a_run_refuses_what_is_no_call() {
-    for number in [2, 39, 46, 47, 1 << 32, u64::MAX] {
-        let mut calls = calls();
-        calls.extend(Call::new(number, &[]).as_bytes());
-        let room = 4 * Answer::BYTES;
-        refused(&[0; STATE_BYTES], &calls, room, Refusal::BadArgument);
+fn a_number_of_no_call_is_answered_and_the_run_goes_on() {
+    let mut known = calls();
+    known.extend(Call::new(1, &[7, 0, 11, 1200]).as_bytes());
+    known.extend(Call::new(25, &[]).as_bytes());
+    let mut state = [0; STATE_BYTES];
+    let mut answers = [0; 5 * Answer::BYTES];
+    assert_eq!(run(&mut state, &known, &mut answers), Ok(()));
+    for number in [2, 39, 46, 47, 99, 1 << 32, (1 << 32) + 1, u64::MAX] {
+        // In the middle: the calls before and after it do as they do without it.
+        let (before, after) = known.split_at(3 * Call::BYTES);
+        let unknown = Call::new(number, &[]);
+        let calls = [before, unknown.as_bytes(), after].concat();
+        let mut left = [0; STATE_BYTES];
+        let mut given = Guarded::new(&[0x77; 6 * Answer::BYTES]);
+        assert_eq!(run(&mut left, &calls, given.content()), Ok(()));
+        let given = given.checked();
+        let (first, rest) = given.split_at(3 * Answer::BYTES);
+        let (refused, last) = rest.split_at(Answer::BYTES);
+        assert!([first, last].concat() == answers && left == state);
+        assert_eq!(word(refused, 0), Refusal::BadArgument.number());
+        assert!(refused[8..].iter().all(|&byte| byte == 0));
+
+        // In a state out of bounds, as zeros are, row 1 comes before row 2.
+        let mut zeros = [0; STATE_BYTES];
+        let mut answer = [0x77; Answer::BYTES];
+        assert_eq!(run(&mut zeros, unknown.as_bytes(), &mut answer), Ok(()));
+        assert_eq!(word(&answer, 0), Refusal::OutOfBounds.number());
+        assert!(zeros == [0; STATE_BYTES] && answer[8..].iter().all(|&byte| byte == 0));
     }
 }
 
@@ -161,6 +184,53 @@ fn a_refused_call_is_answered_and_the_run_goes_on() {
     let replies: Vec<u64> = (0..5).map(|at| word(&answers, 18 * at)).collect();
     assert_eq!(replies, [0, 0, 0, 3, 0]);
     assert_eq!(word(&state, 1), 11);
+}
+
+/// A refused event's record comes back byte for byte, whatever its words are.
+#[test]
+fn a_refused_event_gives_its_record_back() {
+    let mut state = [0; STATE_BYTES];
+    let mut answers = [0; 3 * Answer::BYTES];
+    assert_eq!(run(&mut state, &calls(), &mut answers), Ok(()));
+    let event = CongestionEvent::new(Moment::from_nanos(8), 1300, 1300, false);
+    let (sample, params) = (Sample::default(), Params::default());
+    let good = Call::on_congestion_event_start(&[9], &event, &sample, &params);
+    let with = |words: &[(usize, u64)]| {
+        let mut call = *good.as_bytes();
+        for (at, word) in words {
+            call[8 * at..8 * at + 8].copy_from_slice(&word.to_le_bytes());
+        }
+        call
+    };
+    let most = u64::MAX;
+    let all: Vec<(usize, u64)> = (22..38).map(|at| (at, most - at as u64)).collect();
+    for (row, call) in [
+        // A parameter: a bad one, a malformed one, both beside a malformed record.
+        (1, with(&[(38, 0)])),
+        (1, with(&[(48, 2)])),
+        (1, with(&[(48, 2), (28, 3), (30, 0), (31, 7)])),
+        // The record's own words: flags, pairs, numbers, all of them.
+        (2, with(&[(28, 2)])),
+        (2, with(&[(29, most)])),
+        (2, with(&[(30, 0), (31, 5)])),
+        (2, with(&[(32, 2), (33, 5)])),
+        (2, with(&[(34, 255), (35, 1 << 32)])),
+        (2, with(&[(23, most)])),
+        (2, with(&all)),
+        // A malformed argument beside a good record, and an earlier moment.
+        (2, with(&[(7, 2)])),
+        (3, with(&[(22, 5), (34, 1), (35, 1)])),
+    ] {
+        let before = state;
+        let mut answer = [0x77; Answer::BYTES];
+        assert_eq!(run(&mut state, &call, &mut answer), Ok(()));
+        assert_eq!((word(&answer, 0), word(&answer, 1)), (row, 0));
+        assert!(answer[16..] == call[8 * 22..8 * 38]);
+        assert!(state == before);
+    }
+    let mut answer = [0x77; Answer::BYTES];
+    assert_eq!(run(&mut state, &with(&[]), &mut answer), Ok(()));
+    assert_eq!(word(&answer, 0), 0);
 }
 
 fn pairs(pairs: &[(u64, u64)]) -> Vec<u8> {

@@ -1,7 +1,11 @@
-//! Refusals: each row at its limit and just past it, by the methods. A refused call changes nothing.
+//! Refusals: each row at its limit and just past it, by the methods, and malformed words, which no
+//! method writes, by a run. A refused call changes nothing.
 
 use guovssalu::raise_inflight_high_slope;
+use guovssalu::run;
+use guovssalu::Answer;
 use guovssalu::Bandwidth;
+use guovssalu::Call;
 use guovssalu::CongestionEvent;
 use guovssalu::Cycle;
 use guovssalu::Duration;
@@ -10,6 +14,7 @@ use guovssalu::NetworkModel;
 use guovssalu::Params;
 use guovssalu::Refusal;
 use guovssalu::Sample;
+use guovssalu::STATE_BYTES;
 
 const MOST_BYTES: u64 = 1 << 40;
 const MOST_BANDWIDTH: u64 = 1 << 40;
@@ -296,4 +301,276 @@ fn of_many_packets_acked_the_last_counts() {
     assert_eq!(after(&[8]), 2);
     assert_eq!(after(&[1, 2, 3, 4, 8]), 2);
     assert_eq!(after(&[8, 1, 2, 3, 4]), 1);
+}
+
+/// A state with a model and a cycle at moment 10.
+fn started() -> [u8; STATE_BYTES] {
+    let mut state = [0; STATE_BYTES];
+    let start = Call::new(0, &[10, 100_000_000]).with_params(&Params::default());
+    assert_eq!(reply(&mut state, start.as_bytes()), 0);
+    state
+}
+
+/// The reply to one call in a state; where it is refused, and no start, the state has to stay.
+fn reply(state: &mut [u8; STATE_BYTES], call: &[u8]) -> u64 {
+    let before = *state;
+    let mut answer = [0x77; Answer::BYTES];
+    assert_eq!(run(state, call, &mut answer), Ok(()));
+    let number = answer[0] as u64;
+    assert!(number == 0 || call[0] == 0 || *state == before);
+    assert!(answer[1..8].iter().all(|&byte| byte == 0));
+    number
+}
+
+/// A good call of a number at moment 20, with all that it takes.
+fn good(number: u64) -> Call {
+    let params = Params::default();
+    let event = CongestionEvent::new(moment(20), 1300, 1300, false);
+    if number == 3 {
+        return Call::on_congestion_event_start(&[1], &event, &Sample::default(), &params);
+    }
+    let one = 1.0f32.to_bits() as u64;
+    let arguments: &[u64] = match number {
+        0 => &[20, 100_000_000],
+        1 => &[20, 0, 5, 1200],
+        9 | 15 | 16 => &[one],
+        10 => &[1_000_000, one],
+        40 => &[0, 1, 20],
+        41 => &[20],
+        42 => &[2, 20],
+        43 => &[20, 26_000],
+        _ => &[],
+    };
+    let call = Call::new(number, arguments);
+    call.with_event(&event).with_params(&params)
+}
+
+/// The reply to a good call in which some words are others.
+fn reply_with(number: u64, words: &[(usize, u64)]) -> u64 {
+    let mut call = good(number).as_bytes().to_vec();
+    for &(at, word) in words {
+        call = changed(&call, at, word);
+    }
+    reply(&mut started(), &call)
+}
+
+const NOT_FLAGS: [u64; 5] = [2, 3, 255, 1 << 32, u64::MAX];
+const NOT_PAIRS: [(u64, u64); 5] = [(0, 1), (0, u64::MAX), (2, 0), (2, 5), (u64::MAX, 1)];
+
+/// The flags and the pairs of the event's record.
+const RECORD_FLAGS: [usize; 4] = [28, 29, 34, 35];
+const RECORD_PAIRS: [usize; 2] = [30, 32];
+
+#[test]
+fn flags_are_0_or_1() {
+    let mut places: Vec<(u64, usize)> = vec![(3, 7), (3, 12), (3, 13), (40, 1), (40, 2)];
+    places.extend((3..8).flat_map(|call| RECORD_FLAGS.map(|at| (call, at))));
+    for (call, at) in places {
+        assert_eq!(
+            reply_with(call, &[(at, 0)]),
+            0,
+            "call {}, word {}",
+            call,
+            at
+        );
+        assert_eq!(
+            reply_with(call, &[(at, 1)]),
+            0,
+            "call {}, word {}",
+            call,
+            at
+        );
+        for word in NOT_FLAGS {
+            assert_eq!(
+                reply_with(call, &[(at, word)]),
+                2,
+                "call {}, word {}",
+                call,
+                at
+            );
+        }
+    }
+}
+
+#[test]
+fn counts_are_0_to_3() {
+    for count in 0..4 {
+        assert_eq!(reply_with(3, &[(18, count)]), 0);
+    }
+    for count in [4, 5, 7, 1 << 32, u64::MAX - 3, u64::MAX] {
+        assert_eq!(reply_with(3, &[(18, count)]), 2);
+    }
+}
+
+#[test]
+fn pairs_are_1_and_a_number_or_0_and_0() {
+    let mut places: Vec<(u64, usize)> = [1, 3, 5, 8].iter().map(|&at| (3, at)).collect();
+    places.extend((3..8).flat_map(|call| RECORD_PAIRS.map(|at| (call, at))));
+    for (call, at) in places {
+        for (set, number) in [(0, 0), (1, 0), (1, 5)] {
+            assert_eq!(reply_with(call, &[(at, set), (at + 1, number)]), 0);
+        }
+        for (set, number) in NOT_PAIRS {
+            let words = [(at, set), (at + 1, number)];
+            assert_eq!(reply_with(call, &words), 2, "call {}, word {}", call, at);
+        }
+    }
+}
+
+#[test]
+fn gains_have_32_bits() {
+    let one = 1.0f32.to_bits() as u64;
+    for (call, at) in [(9, 1), (10, 2), (15, 1), (16, 1)] {
+        assert_eq!(reply_with(call, &[(at, one)]), 0);
+        for high in [1 << 32, 1 << 63, u64::MAX << 32] {
+            assert_eq!(reply_with(call, &[(at, one | high)]), 2, "call {}", call);
+        }
+        // A NaN of any pattern is a gain out of bounds.
+        for nan in [0x7fc0_0000, 0x7f80_0001, 0xffff_ffff] {
+            assert_eq!(reply_with(call, &[(at, nan)]), 2, "call {}", call);
+        }
+    }
+}
+
+/// The calls that take the parameters refuse malformed ones with 1, the others don't look at them.
+#[test]
+fn malformed_parameters_are_out_of_bounds() {
+    let params: Vec<u64> = (38..49).map(|at| word(good(0).as_bytes(), at)).collect();
+    let mut malformed: Vec<(usize, u64)> = NOT_FLAGS.iter().map(|&word| (48, word)).collect();
+    for at in 38..44 {
+        let bits = params[at - 38];
+        malformed.extend([
+            (at, bits | 1 << 32),
+            (at, bits | 1 << 63),
+            (at, 0x7f80_0001),
+        ]);
+    }
+    for words in malformed {
+        for call in [0, 3, 5, 6, 7, 9, 13, 40] {
+            assert_eq!(reply_with(call, &[words]), 1, "call {}, {:?}", call, words);
+        }
+        for call in [1, 4, 8, 10, 12, 15, 24, 41, 42, 43, 44] {
+            assert_eq!(reply_with(call, &[words]), 0, "call {}, {:?}", call, words);
+        }
+    }
+    for option in [0, 1] {
+        assert_eq!(reply_with(0, &[(48, option)]), 0);
+    }
+}
+
+/// A start with malformed parameters leaves what every refused start does.
+#[test]
+fn a_start_with_malformed_parameters_is_refused() {
+    let refused = |words: &[(usize, u64)]| {
+        let mut call = good(0).as_bytes().to_vec();
+        for &(at, word) in words {
+            call = changed(&call, at, word);
+        }
+        let mut state = started();
+        assert_eq!(reply(&mut state, &call), 1);
+        state
+    };
+    let fresh = refused(&[(38, 0)]);
+    assert!(refused(&[(48, 2)]) == fresh);
+    assert!(refused(&[(43, 1 << 32)]) == fresh);
+    let words = [0, 6, 7, 19, 20, 26, 33, 35].map(|at| word(&fresh, at));
+    let one = 1.0f32.to_bits() as u64;
+    assert_eq!(words, [0, 0, 0, one, one, 0, 0, 0]);
+}
+
+/// Of several refusals the lowest is given.
+#[test]
+fn malformed_words_beside_other_refusals() {
+    // With a parameter out of bounds, malformed or not, it is 1.
+    assert_eq!(reply_with(3, &[(7, 2), (38, 0)]), 1);
+    assert_eq!(reply_with(3, &[(7, 2), (48, 2)]), 1);
+    assert_eq!(reply_with(40, &[(1, 2), (46, u64::MAX)]), 1);
+    // With an earlier moment it is 2.
+    assert_eq!(reply_with(3, &[(22, 9)]), 3);
+    assert_eq!(reply_with(3, &[(22, 9), (28, 2)]), 2);
+    assert_eq!(reply_with(40, &[(3, 9), (1, 2)]), 2);
+    // In a state out of bounds it is 1, for a number of no call, too; the cycle counts where it is
+    // given.
+    let in_state = |at: usize, word: u64, call: &[u8]| {
+        let mut state = [0; STATE_BYTES];
+        state.copy_from_slice(&changed(&started(), at, word));
+        reply(&mut state, call)
+    };
+    let event = changed(good(3).as_bytes(), 18, 4);
+    assert_eq!(in_state(4, MOST_BANDWIDTH, &event), 2);
+    assert_eq!(in_state(4, MOST_BANDWIDTH + 1, &event), 1);
+    let down = changed(good(40).as_bytes(), 2, 2);
+    assert_eq!(in_state(41, 30, &down), 2);
+    assert_eq!(in_state(41, 31, &down), 1);
+    for number in [2, 39, 46, u64::MAX] {
+        let none = good(number);
+        assert_eq!(in_state(4, MOST_BANDWIDTH, none.as_bytes()), 2);
+        assert_eq!(in_state(4, MOST_BANDWIDTH + 1, none.as_bytes()), 1);
+        assert_eq!(in_state(41, 31, none.as_bytes()), 2);
+    }
+}
+
+/// What a call does not use may be anything.
+#[test]
+fn words_that_a_call_does_not_use_are_not_looked_at() {
+    let junk = |at: usize| (at, u64::MAX - at as u64);
+    let after = |range: std::ops::Range<usize>| range.map(junk).collect::<Vec<_>>();
+    assert_eq!(reply_with(1, &after(5..49)), 0);
+    assert_eq!(reply_with(0, &after(3..38)), 0);
+    assert_eq!(reply_with(4, &[after(1..22), after(38..49)].concat()), 0);
+    assert_eq!(reply_with(5, &after(1..22)), 0);
+    assert_eq!(reply_with(9, &after(2..38)), 0);
+    assert_eq!(reply_with(41, &after(2..49)), 0);
+    assert_eq!(reply_with(24, &after(1..49)), 0);
+    // Of an event, the numbers acked beyond the count.
+    assert_eq!(reply_with(3, &[(18, 1), junk(20), junk(21)]), 0);
+    assert_eq!(reply_with(3, &[(18, 0), junk(19), junk(20), junk(21)]), 0);
+}
+
+/// What the package writes is well formed, whatever it is given.
+#[test]
+fn only_well_formed_words_are_written() {
+    let set = Some(Bandwidth::from_bits_per_second(u64::MAX));
+    let length = Some(Duration::from_nanos(u64::MAX));
+    for yes in [false, true] {
+        let mut event = CongestionEvent::new(moment(u64::MAX), u64::MAX, u64::MAX, yes);
+        event.end_of_round_trip = yes;
+        event.sample_max_bandwidth = if yes { set } else { None };
+        event.sample_min_rtt = if yes { length } else { None };
+        event.last_packet_send_state.is_valid = yes;
+        event.last_packet_send_state.is_app_limited = yes;
+        let sample = Sample {
+            sample_max_bandwidth: event.sample_max_bandwidth,
+            sample_max_send_rate: event.sample_max_bandwidth,
+            sample_max_ack_rate: event.sample_max_bandwidth,
+            sample_is_app_limited: yes,
+            sample_rtt: event.sample_min_rtt,
+            last_packet_send_state: event.last_packet_send_state,
+            ..Sample::default()
+        };
+        let params = Params {
+            beta: f32::from_bits(0xffff_ffff),
+            startup_pacing_gain: -1.0,
+            ignore_app_limited_for_no_bandwidth_growth: yes,
+            ..Params::default()
+        };
+        let acked = [u64::MAX; 9];
+        let call = Call::on_congestion_event_start(&acked, &event, &sample, &params);
+        let at = |at: usize| word(call.as_bytes(), at);
+        for flag in [7, 12, 13, 48].iter().chain(&RECORD_FLAGS) {
+            assert_eq!(at(*flag), yes as u64);
+        }
+        for pair in [1, 3, 5, 8].iter().chain(&RECORD_PAIRS) {
+            let most = if yes { u64::MAX } else { 0 };
+            assert_eq!((at(*pair), at(pair + 1)), (yes as u64, most));
+        }
+        assert!((38..44).all(|word| at(word) <= u32::MAX as u64));
+        assert_eq!(at(18), 3);
+    }
+}
+
+fn word(bytes: &[u8], at: usize) -> u64 {
+    let mut word = [0; 8];
+    word.copy_from_slice(&bytes[8 * at..8 * at + 8]);
+    u64::from_le_bytes(word)
 }
