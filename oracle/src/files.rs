@@ -15,7 +15,6 @@ use crate::frame::Answer;
 use crate::frame::Asked;
 use crate::frame::Frame;
 use crate::scalars::Runs;
-use crate::steps::Steps;
 use crate::world::Step;
 use crate::world::World;
 
@@ -54,12 +53,6 @@ impl Files {
         asked.last().map(|asked| asked.answer)
     }
 
-    /// Makes this many calls of the model, chosen from the seed.
-    pub fn choose(&mut self, seed: u64, calls: u64) {
-        let mut steps = Steps::new(seed);
-        self.take(calls, |world| steps.next(world));
-    }
-
     /// Makes this many calls on windowed filters, as many on numbers and as
     /// many of the exported filter and slope.
     pub fn choose_others(&mut self, seed: u64, mut numbers: Runs, each: u64) {
@@ -71,7 +64,7 @@ impl Files {
     }
 
     /// Takes steps until this many calls are made.
-    fn take(&mut self, calls: u64, mut next: impl FnMut(&World) -> Step) {
+    pub fn take(&mut self, calls: u64, mut next: impl FnMut(&World) -> Step) {
         let end = self.made() + calls;
         while self.made() < end {
             let step = next(&self.world);

@@ -9,6 +9,7 @@ mod filter_steps;
 mod filters;
 mod frame;
 mod limits;
+mod malformed;
 mod marks;
 mod model;
 mod numbers;
@@ -35,6 +36,7 @@ use std::process;
 use export_steps::ExportSteps;
 use files::Files;
 use filter_steps::FilterSteps;
+use malformed::Mixed;
 use port::Port;
 use scalars::Runs;
 use steps::Steps;
@@ -109,7 +111,7 @@ fn main() {
 fn compare(arguments: &[&str]) -> bool {
     match *arguments {
         ["diff", seed, calls] => {
-            let mut steps = Steps::new(number(seed));
+            let mut steps = Mixed::new(number(seed));
             let choose = |world: &_| steps.next(world);
             diff::run(&mut port(), number(calls), Steps::begins, choose)
         }
@@ -166,7 +168,8 @@ fn kept() -> Files {
     let mut files = Files::new(false);
     sequences::add(&mut files);
     limits::add(&mut files);
-    files.choose(KEPT_SEED, KEPT_CALLS);
+    let mut steps = Steps::new(KEPT_SEED);
+    files.take(KEPT_CALLS, |world| steps.next(world));
     files.choose_others(KEPT_SEED, Runs::at_random(KEPT_SEED), KEPT_CALLS);
     for reply in [0, 1, 2, 3, 4, 5, 7] {
         assert!(files.replies.contains_key(&reply), "no reply {reply}");
@@ -182,7 +185,8 @@ fn kept() -> Files {
 fn fresh(seed: u64, calls: u64) -> Files {
     let mut files = Files::new(true);
     let tenth = calls / 10;
-    files.choose(seed, calls - 3 * tenth);
+    let mut steps = Mixed::new(seed);
+    files.take(calls - 3 * tenth, |world| steps.next(world));
     files.choose_others(seed, Runs::new(seed), tenth);
     files
 }

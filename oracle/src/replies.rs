@@ -59,6 +59,49 @@ pub fn reply(call: &Call, state: &State, start: &Start) -> u64 {
     }
 }
 
+/// The number of the reply to a call that is refused for its words, none where
+/// they make a call. By docs/LAYOUT.md a malformed argument is a bad one, and so
+/// is a number that is no call's: 2. A malformed parameter is one out of bounds:
+/// 1, as where another number of row 1 is out of its bounds.
+pub fn malformed(words: &[u64], state: &State) -> Option<u64> {
+    let start = REFUSED_START.with_parameters(&words[38..]);
+    let Some(call) = Call::of(words[0], &words[1..], &start) else {
+        return Some(if model(state) { 2 } else { 1 });
+    };
+    let flag = |at: &usize| words[*at] > 1;
+    let float = |at: &usize| words[*at] >> 32 != 0;
+    let pair = |at: &usize| words[*at] != 1 && words[*at..][..2] != [0, 0];
+    let argument = match call {
+        Call::Event(_) => {
+            [1, 3, 5, 8].iter().any(pair) || [7, 12, 13].iter().any(flag) || words[18] > 3
+        }
+        Call::PersistentQueue { .. } | Call::SetPacingGain(_) | Call::SetCwndGain(_) => float(&1),
+        Call::Bdp { .. } => float(&2),
+        Call::ProbeDown { .. } => [1, 2].iter().any(flag),
+        _ => false,
+    };
+    let record = [28, 29, 34, 35].iter().any(flag) || [30, 32].iter().any(pair);
+    let given = [38, 39, 40, 41, 42, 43].iter().any(float) || flag(&48);
+    let parameter = takes_parameters(&call) && given;
+    if !argument && !(takes_record(&call) && record) && !parameter {
+        return None;
+    }
+    let row_1 = parameter || reply(&call, state, &start) == 1;
+    Some(if row_1 { 1 } else { 2 })
+}
+
+/// Whether the call is given the current event's record.
+fn takes_record(call: &Call) -> bool {
+    matches!(
+        call,
+        Call::Event(_)
+            | Call::Finish
+            | Call::ExpireMinRtt
+            | Call::InflightTooHigh { .. }
+            | Call::BandwidthGrowth
+    )
+}
+
 /// Whether the stored numbers that the call is given are within their bounds:
 /// the model's for every call but the slope's, the cycle's for those that are
 /// given the cycle. A start is given neither, and setting the record is no call.
@@ -154,10 +197,7 @@ fn arguments(call: &Call, state: &State) -> bool {
             in_flight, bytes, ..
         } => in_flight <= BYTES && bytes <= BYTES,
         Call::Event(sample) => self::sample(&sample) && stored_record(state),
-        Call::Finish
-        | Call::ExpireMinRtt
-        | Call::InflightTooHigh { .. }
-        | Call::BandwidthGrowth => stored_record(state),
+        _ if takes_record(call) => stored_record(state),
         Call::PersistentQueue { gain } | Call::SetPacingGain(gain) | Call::SetCwndGain(gain) => {
             self::gain(gain)
         }

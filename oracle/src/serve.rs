@@ -9,6 +9,7 @@ use crate::frame::ARGUMENTS;
 use crate::frame::CARRIED;
 use crate::frame::RECORD;
 use crate::model::Call;
+use crate::replies;
 use crate::world::Step;
 use crate::world::World;
 use crate::world::FILTER_RUN;
@@ -18,6 +19,7 @@ use crate::world::MOST_PUT;
 use crate::world::NUMBERS;
 use crate::world::PUT;
 use crate::world::SLOPE;
+use crate::world::SUMMED;
 use crate::world::WINDOWED_FILTER;
 
 pub fn serve() -> io::Result<()> {
@@ -55,9 +57,16 @@ fn answer(world: &mut World, words: &[u64]) -> Option<Answer> {
             window: words[2],
             lent: words[3].min(MEMORY as u64),
         },
+        _ if is_refused(world, words) => Step::Words(words.to_vec()),
         _ => step(world, words)?,
     };
     Some(world.answer_to(&step))
+}
+
+/// Whether the words are of the model, and make no call.
+fn is_refused(world: &World, words: &[u64]) -> bool {
+    let others = [WINDOWED_FILTER, NUMBERS, SUMMED];
+    !others.contains(&words[0]) && replies::malformed(words, &world.state).is_some()
 }
 
 /// The step of a call's words, if it is one; takes what is handed in with it.

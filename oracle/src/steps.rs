@@ -363,7 +363,7 @@ impl Steps {
 }
 
 /// The state with every number within its bounds, for choosing calls.
-fn within(state: &State) -> State {
+pub fn within(state: &State) -> State {
     let mut state = *state;
     for (field, kind, _) in FIELDS {
         state[field] = match kind {

@@ -3,24 +3,26 @@
 use crate::model::Call;
 use crate::model::Host;
 use crate::model::Record;
+use crate::replies;
 use crate::scalars;
 use crate::world::Step;
+use crate::world::EVENT;
 use crate::world::FILTER_RUN;
 use crate::world::MEMORY;
 use crate::world::MOST_PAIRS;
 use crate::world::NUMBERS;
 use crate::world::PUT;
 use crate::world::SLOPE;
+use crate::world::START;
 use crate::world::WINDOWED_FILTER;
 
-const START: u64 = 0;
 const RECORD: u64 = 2;
-const EVENT: u64 = 3;
+const WORDS: u64 = 50;
 
 /// The number of a call, its name, and how many arguments it has. A start may
 /// also have 2, without the parameters; what puts numbers has any even number;
 /// a run of a filter also has the words of its pairs.
-const CALLS: [(u64, &str, usize); 50] = [
+const CALLS: [(u64, &str, usize); 51] = [
     (START, "start", 13),
     (1, "on_packet_sent", 4),
     (RECORD, "record", 16),
@@ -70,6 +72,7 @@ const CALLS: [(u64, &str, usize); 50] = [
     (NUMBERS, "numbers", 3),
     (FILTER_RUN, "filter_run", 3),
     (SLOPE, "slope", 3),
+    (WORDS, "words", 49),
     (PUT, "put", 0),
 ];
 
@@ -156,7 +159,7 @@ const FILTER: [&str; 8] = [
 /// The numbers of all calls that the port is asked.
 pub fn asked() -> impl Iterator<Item = u64> {
     let numbers = CALLS.iter().map(|call| call.0);
-    numbers.filter(|&number| number != RECORD)
+    numbers.filter(|number| ![RECORD, WORDS].contains(number))
 }
 
 /// What the word of an answer to this step is.
@@ -206,6 +209,7 @@ fn numbers(step: &Step) -> Vec<u64> {
         }
         Step::Call(Call::Record(record)) => [&[RECORD], &record.numbers()[..]].concat(),
         Step::Call(call) => call.numbers(),
+        Step::Words(words) => [&[WORDS], &words[..]].concat(),
         Step::Put(pairs) => {
             let pairs = pairs
                 .iter()
@@ -275,6 +279,9 @@ fn parse(call: &str, arguments: &[&str]) -> Result<Step, String> {
     if !fits {
         return Err("the number of arguments, or an index, doesn't fit.".to_string());
     }
+    if number == WORDS && replies::malformed(&parsed, &[0; 66]).is_none() {
+        return Err("the words are those of a call, which has a name.".to_string());
+    }
     let step = step(number, &parsed);
     if numbers(&step)[1..][..parsed.len()] != parsed {
         return Err(
@@ -296,6 +303,7 @@ fn step(number: u64, arguments: &[u64]) -> Step {
             Step::Call(Call::of(START, arguments, &start).unwrap())
         }
         RECORD => Step::Call(Call::Record(Record::of(arguments))),
+        WORDS => Step::Words(arguments.to_vec()),
         PUT => {
             let pairs = arguments.chunks(2);
             Step::Put(pairs.map(|pair| (pair[0] as usize, pair[1])).collect())

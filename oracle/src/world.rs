@@ -20,6 +20,10 @@ use crate::scalars;
 use crate::windowed;
 use crate::windowed::Filter;
 
+/// The numbers of a start and of an event.
+pub const START: u64 = 0;
+pub const EVENT: u64 = 3;
+
 /// The numbers of calls that are not the model's: on a windowed filter, of
 /// functions on numbers, of the exported run of a filter, of the exported
 /// slope, and of what puts numbers into the state; that of the last but one,
@@ -47,6 +51,8 @@ const UNTOUCHED: u8 = 165;
 pub enum Step {
     /// A call, or what sets the record.
     Call(Call),
+    /// A call that is refused for its words, which are these.
+    Words(Vec<u64>),
     /// Puts numbers into the state (0 to 65) and the parameters (66 to 76).
     Put(Vec<(usize, u64)>),
     /// An operation on the windowed filter, as in its list.
@@ -117,6 +123,7 @@ impl World {
             Step::Put(_) | Step::Call(Call::Record(_)) => None,
             Step::Call(call @ Call::Start(start)) => Some(words(&call.numbers(), start)),
             Step::Call(call) => Some(words(&call.numbers(), &self.start)),
+            Step::Words(words) => words[..].try_into().ok(),
             Step::Filter { op, x, y } => {
                 let numbers = [&[WINDOWED_FILTER, *op, *x, *y], &self.filter[..]].concat();
                 Some(words(&numbers, &self.start))
@@ -147,6 +154,7 @@ impl World {
     pub fn answer_to(&mut self, step: &Step) -> Answer {
         match step {
             Step::Call(call) => self.call(call),
+            Step::Words(words) => self.refused(words),
             Step::Put(_) => unreachable!("numbers are put apart"),
             Step::Filter { op, x, y } => {
                 let reply = windowed::operate(&mut self.filter, *op, *x, *y);
@@ -195,9 +203,7 @@ impl World {
             answer = self.host.call(call);
             self.state = self.host.state();
         } else if let Call::Start(_) = call {
-            self.host.call(&Call::Start(replies::REFUSED_START));
-            self.state = self.host.state();
-            self.host.put(&self.state, &self.start);
+            self.start_refused();
         }
         match call {
             Call::Event(_) => {
@@ -206,6 +212,28 @@ impl World {
             }
             _ => self.answer(reply, answer, &[]),
         }
+    }
+
+    /// Takes a call that is refused for its words. The record comes back as it
+    /// is, and the parameters of the next calls are still those of the start.
+    fn refused(&mut self, words: &[u64]) -> Answer {
+        let reply = replies::malformed(words, &self.state);
+        let reply = reply.expect("the words make no call");
+        match words[0] {
+            START => {
+                self.start_refused();
+                self.answer(reply, 0, &[])
+            }
+            EVENT => self.answer(reply, 0, &words[22..38]),
+            _ => self.answer(reply, 0, &[]),
+        }
+    }
+
+    /// Leaves what a refused start does.
+    fn start_refused(&mut self) {
+        self.host.call(&Call::Start(replies::REFUSED_START));
+        self.state = self.host.state();
+        self.host.put(&self.state, &self.start);
     }
 
     /// Puts the numbers into the state and the parameters; the calls in which
