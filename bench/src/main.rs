@@ -49,6 +49,7 @@ fn main() {
         ("two sends, an event, its finish", Trace::connection(CALLS)),
     ] {
         one_run(name, &trace);
+        runs_of_one(name, &trace);
         one_by_one(name, &trace);
     }
 }
@@ -178,6 +179,33 @@ fn one_run(name: &str, trace: &Trace) {
         || {
             model = original::Model::new(&trace.start);
             model.run(&trace.calls, &mut original);
+        },
+    );
+    assert!(port == original, "The answers differ.");
+    assert!(state == model.state(), "The states differ.");
+}
+
+/// A trace over bytes, in a run for each call.
+fn runs_of_one(name: &str, trace: &Trace) {
+    let mut state = trace.state.clone();
+    let mut port = vec![1; inputs::ANSWER * trace.count()];
+    let mut original = port.clone();
+    let mut model = original::Model::new(&trace.start);
+    let calls = || trace.calls.chunks_exact(inputs::CALL);
+    compare(
+        &format!("{name}: runs of one call"),
+        trace.count(),
+        || {
+            state.copy_from_slice(&trace.state);
+            for (call, answer) in calls().zip(port.chunks_exact_mut(inputs::ANSWER)) {
+                guovssalu::run(&mut state, call, answer).unwrap();
+            }
+        },
+        || {
+            model = original::Model::new(&trace.start);
+            for (call, answer) in calls().zip(original.chunks_exact_mut(inputs::ANSWER)) {
+                model.run(call, answer);
+            }
         },
     );
     assert!(port == original, "The answers differ.");
