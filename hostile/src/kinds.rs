@@ -10,7 +10,9 @@ use crate::table::ROUNDS;
 use crate::table::TOTAL;
 use crate::table::WAIT;
 use crate::values;
+use crate::words;
 use crate::words::call as c;
+use crate::words::Call;
 use crate::words::UNSET;
 
 /// The kind of a word.
@@ -233,6 +235,17 @@ pub fn malform(words: &mut [u64], place: usize, kind: Kind, way: usize) {
         Float(..) => words[place] |= NO_FLOATS[way],
         _ => {}
     }
+}
+
+/// Whether a word that the call uses is malformed.
+pub fn is_malformed(call: &Call) -> bool {
+    used(call[0]).any(|(place, kind)| match kind {
+        Flag => words::flag(call[place]).is_none(),
+        Count => words::acked(call).is_none(),
+        Set(_) => words::pair(call, place).is_none(),
+        Float(..) => words::float(call[place]).is_none(),
+        _ => false,
+    })
 }
 
 /// Puts a fitting number into each word.

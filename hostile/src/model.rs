@@ -331,6 +331,7 @@ impl Model {
             words::words(&self.answers.bytes()[..ANSWER_BYTES]),
         );
         tally.replied(Export::OneCall, &rows, answer[0], || tell(lent));
+        tally.worded(kinds::is_malformed(&call), !table::is_a_call(call[0]));
         let due = rows.due();
         if left != after::state(&before, &call, due) {
             let fault = if due == 0 || call[0] == 0 {

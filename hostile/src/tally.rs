@@ -58,6 +58,8 @@ pub struct Tally {
     calls: [u64; 11],
     replies: [[u64; 9]; 11],
     overlaps: u64,
+    malformed: u64,
+    no_calls: u64,
     ranges: u64,
     guards: u64,
     faults: [u64; 3],
@@ -84,6 +86,12 @@ impl Tally {
                 format!("rows {:?}, given {}\n{}", rows, given, about())
             });
         }
+    }
+
+    /// Counts a call by what its words are.
+    pub fn worded(&mut self, malformed: bool, no_call: bool) {
+        self.malformed += malformed as u64;
+        self.no_calls += no_call as u64;
     }
 
     /// Counts a range whose guards were compared.
@@ -131,11 +139,13 @@ impl Tally {
             .map(|told| format!("\n{}\n", told))
             .collect();
         format!(
-            "{}\n{} calls with two or more refusals at once\n{} lent ranges, {} guard bytes \
-             compared\n{} wrong replies, {} wrong answers or states, {} bytes touched\n{}{} calls, \
-             {} wrong\n",
+            "{}\n{} calls with two or more refusals at once\n{} calls with a malformed word, {} with \
+             a number of no call\n{} lent ranges, {} guard bytes compared\n{} wrong replies, {} \
+             wrong answers or states, {} bytes touched\n{}{} calls, {} wrong\n",
             self.table(),
             self.overlaps,
+            self.malformed,
+            self.no_calls,
             self.ranges,
             self.guards,
             reply,
