@@ -30,7 +30,7 @@ module _ {S : Type 0} (ok : S → Bool) where
   keeps n k got next old p q kept = (λ h. q ∙ simp (ne-eqb k 0 (λ e. h (p ∙ e))), λ h. let e = sym p ∙ h in ap ok (q ∙ simp (eq-eqb k 0 e)) ∙ kept e)
 
 -- two things left side by side
-settled-both : {X Y : Type 0} (k : ℕ) (a x x′ : X) (b y y′ : Y) → a ≡ settled k x x′ → b ≡ settled k y y′ → _≡_ {A = X × Y} (a, b) (settled k (x, y) (x′, y′))
+pub settled-both : {X Y : Type 0} (k : ℕ) (a x x′ : X) (b y y′ : Y) → a ≡ settled k x x′ → b ≡ settled k y y′ → _≡_ {A = X × Y} (a, b) (settled k (x, y) (x′, y′))
 unfolding settled
 settled-both {X} {Y} k a x x′ b y y′ p q = (λ i. (p i, q i)) ∙ go (eqb k 0)
   where

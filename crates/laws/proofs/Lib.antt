@@ -4,3 +4,4 @@ pub mod Events
 pub mod Tested
 pub mod Phases
 pub mod Contracts
+pub mod Replies

@@ -1,2 +1,3 @@
 -- The laws of all calls, as statements.
 pub mod Laws
+pub mod Replies

@@ -1,1 +1,1 @@
-// What is proved of every call that changes the state: specs/Laws.antt. There is no code here.
+// What is proved of every call: specs/Laws.antt and specs/Replies.antt. There is no code here.

@@ -1,0 +1,146 @@
+-- Each call is refused exactly when its rows say (specs/Replies.antt): a line a call. Assumes nothing.
+use Prim.Native.Nat.{ℕ}
+use mathlib.Core.Bool.{Bool, true, false, cond, not, _&&_}
+use mathlib.Core.Path.{_≡_, refl, sym, subst, _∙_}
+use borrow.Author.Tests.{eq-eqb, ne-eqb}
+use denote.Ref.{now}
+use Rattle.filters.specs.declared.reply.Reply.{Reply}
+use Rattle.filters.specs.Reply.{number}
+use Rattle.filters.specs.RoundTripCounter.{endsRound, roundsFull, roundsNumber, roundsEnded, roundsAcked}
+use Rattle.filters.specs.WindowedFilter.{isAfter, windowedNumber, windowedUpdate}
+use Rattle.model.specs.Answers.{settled}
+use Rattle.model.specs.Bounds.{rowOf}
+use Rattle.model.specs.Calls.{startNumber, startModel, storedNumber, givenNumber, sentNumber, postponeNumber, headroomNumber}
+use Rattle.model.proofs.Rows.{Row, row-holds, row-only}
+use Rattle.events.specs.Event.{isFull, eventNumber}
+use Rattle.events.specs.Judge.{recordNumber, judgedNumber, growthFull, queueNumber}
+use Rattle.phases.specs.Cycle.{freshNumber, freshCycle}
+use Rattle.phases.specs.Phases.{entryNumber, exitNumber, slopeNumber}
+use Rattle.laws.specs.Replies.{rows, Exactly, Answered, isMost, EveryAnswer, EveryChange, EveryEvent, EveryPhase, EveryFilter, EveryReply}
+use Rattle.laws.proofs.Contracts.{settled-both}
+
+-- ---- the table's number
+module _ (s a e l f : Bool) where
+  given : (n k : ℕ) → n ≡ rowOf s a e l f → n ≡ k → Row k s a e l f
+  given n k p h = subst (λ (i : ℕ). Row i s a e l f) (sym p ∙ h) (row-holds s a e l f)
+
+  pub exactly : (n : ℕ) → n ≡ rowOf s a e l f → Exactly n (rows s a e l f)
+  exactly n p =
+      record {
+        is0 = (λ h. let z = given n 0 p h in (z .stored-fine, z .argument-fine, z .in-order, z .no-lower, z .not-full), λ h. p ∙ row-only 0 s a e l f (record { stored-fine = h .0; argument-fine = h .1; in-order = h .2; no-lower = h .3; not-full = h .4 }));
+        is1 = (given n 1 p, λ h. p ∙ row-only 1 s a e l f h);
+        is2 = (given n 2 p, λ h. p ∙ row-only 2 s a e l f h);
+        is3 = (given n 3 p, λ h. p ∙ row-only 3 s a e l f h);
+        is4 = (given n 4 p, λ h. p ∙ row-only 4 s a e l f h);
+        is5 = (given n 5 p, λ h. p ∙ row-only 5 s a e l f h);
+      }
+
+-- ---- a contract says a reply's number by its rows, and what is left by that number
+pub answered : {A : Type 0} {r : Reply} {got next old : A} (s a e l f : Bool) → number r ≡ rowOf s a e l f → got ≡ settled (rowOf s a e l f) next old → Answered r (rows s a e l f) got next old
+unfolding settled
+answered {A} {r} {got} {next} {old} s a e l f p q =
+    record {
+      row = exactly s a e l f (number r) p;
+      done = λ h. q ∙ simp (eq-eqb (rowOf s a e l f) 0 (sym p ∙ h));
+      refused = λ h. q ∙ simp (ne-eqb (rowOf s a e l f) 0 (λ z. h (p ∙ z)));
+    }
+
+pub answered-both : {X Y : Type 0} {r : Reply} {a x x′ : X} {b y y′ : Y} (s g e l f : Bool) → number r ≡ rowOf s g e l f → a ≡ settled (rowOf s g e l f) x x′ → b ≡ settled (rowOf s g e l f) y y′ → Answered {A = X × Y} r (rows s g e l f) (a, b) (x, y) (x′, y′)
+answered-both {X} {Y} {r} {a} {x} {x′} {b} {y} {y′} s g e l f p q t = answered s g e l f p (settled-both (rowOf s g e l f) a x x′ b y y′ q t)
+
+-- ---- the calls
+answers : EveryAnswer
+unfolding storedNumber givenNumber headroomNumber judgedNumber
+answers = record {
+  bdp = λ m b gain κ x s p. answered _ _ _ _ _ (p .0) (p .1);
+  bdp1 = λ m b κ x s p. answered _ _ _ _ _ (p .0) (p .1);
+  bdp0 = λ m κ x s p. answered _ _ _ _ _ (p .0) (p .1);
+  inflightHiWithHeadroom = λ m q κ x s p. answered _ _ _ _ _ (p .0) (p .1);
+  isInflightTooHigh = λ m q e limit κ x s p. answered _ _ _ _ _ (p .0) (p .1);
+  bandwidthEstimate = λ m κ x s p. answered _ _ _ _ _ (p .0) (p .1);
+  maxBandwidth = λ m κ x s p. answered _ _ _ _ _ (p .0) (p .1);
+  minRtt = λ m κ x s p. answered _ _ _ _ _ (p .0) (p .1);
+  minRttTimestamp = λ m κ x s p. answered _ _ _ _ _ (p .0) (p .1);
+  fullBandwidthReached = λ m κ x s p. answered _ _ _ _ _ (p .0) (p .1);
+  pacingGain = λ m κ x s p. answered _ _ _ _ _ (p .0) (p .1);
+  cwndGain = λ m κ x s p. answered _ _ _ _ _ (p .0) (p .1);
+  maxBytesDeliveredInRound = λ m κ x s p. answered _ _ _ _ _ (p .0) (p .1);
+  totalBytesAcked = λ m κ x s p. answered _ _ _ _ _ (p .0) (p .1);
+  totalBytesLost = λ m κ x s p. answered _ _ _ _ _ (p .0) (p .1);
+  inflightHi = λ m κ x s p. answered _ _ _ _ _ (p .0) (p .1);
+  inflightLo = λ m κ x s p. answered _ _ _ _ _ (p .0) (p .1);
+  lossEventsInRound = λ m κ x s p. answered _ _ _ _ _ (p .0) (p .1);
+  roundsWithQueueing = λ m κ x s p. answered _ _ _ _ _ (p .0) (p .1);
+  inflightHiDefault = λ m κ x s p. answered _ _ _ _ _ (p .0) (p .1);
+  queueingThresholdExtraBytes = λ m κ x s p. answered _ _ _ _ _ (p .0) (p .1);
+}
+
+changes : EveryChange
+unfolding startNumber startModel storedNumber givenNumber sentNumber postponeNumber
+changes = record {
+  start = λ q rtt t κ x s p. answered _ _ _ _ _ (p .0) (p .1);
+  sent = λ m t inflight packet bytes κ x s p. answered _ _ _ _ _ (p .0) (p .1);
+  restart = λ m κ x s p. answered _ _ _ _ _ (p .0) (p .1);
+  reached = λ m κ x s p. answered _ _ _ _ _ (p .0) (p .1);
+  pacing = λ m gain κ x s p. answered _ _ _ _ _ (p .0) (p .1);
+  cwnd = λ m gain κ x s p. answered _ _ _ _ _ (p .0) (p .1);
+  high = λ m bytes κ x s p. answered _ _ _ _ _ (p .0) (p .1);
+  cap = λ m bytes κ x s p. answered _ _ _ _ _ (p .0) (p .1);
+  clearInflight = λ m κ x s p. answered _ _ _ _ _ (p .0) (p .1);
+  clearBandwidth = λ m κ x s p. answered _ _ _ _ _ (p .0) (p .1);
+  advance = λ m κ x s p. answered _ _ _ _ _ (p .0) (p .1);
+  postpone = λ m d κ x s p. answered _ _ _ _ _ (p .0) (p .1);
+}
+
+events : EveryEvent
+unfolding eventNumber isFull roundsFull recordNumber judgedNumber growthFull queueNumber
+events = record {
+  starts = λ κ a x s p. answered-both _ _ _ _ _ (p .0) (p .1 .0) (p .1 .1);
+  finish = λ m e κ x s p. answered _ _ _ _ _ (p .0) (p .1);
+  expire = λ m q e κ x s p. answered-both _ _ _ _ _ (p .0) (p .1 .0) (p .1 .1);
+  growth = λ m q e κ x s p. answered-both _ _ _ _ _ (p .0) (p .1 .0) (p .1 .1);
+  queue = λ m q gain κ x s p. answered _ _ _ _ _ (p .0) (p .1);
+}
+
+entries : EveryPhase
+unfolding freshNumber freshCycle entryNumber exitNumber slopeNumber
+entries = record {
+  fresh = λ t κ x s p. answered _ _ _ _ _ (p .0) (p .1);
+  down = λ m c q high risky t κ x s p. answered-both _ _ _ _ _ (p .0) (p .1 .0) (p .1 .1);
+  cruise = λ m c t κ x s p. answered-both _ _ _ _ _ (p .0) (p .1 .0) (p .1 .1);
+  refill = λ m c upRounds t κ x s p. answered-both _ _ _ _ _ (p .0) (p .1 .0) (p .1 .1);
+  up = λ m c t window κ x s p. answered-both _ _ _ _ _ (p .0) (p .1 .0) (p .1 .1);
+  exit = λ m c κ x s p. answered-both _ _ _ _ _ (p .0) (p .1 .0) (p .1 .1);
+  slope = λ c window κ x s p. answered _ _ _ _ _ (p .0) (p .1);
+}
+
+-- what a refusing test leaves: of the windowed filter; of the count of rounds, and whether one ended
+stays : {A : Type 0} (t : Bool) (new old : A) → cond t old new ≡ settled (rowOf false false t false false) (cond t old new) old
+unfolding settled rowOf
+stays true new old = refl
+stays false new old = refl
+
+counts : {A : Type 0} (ends most : Bool) (new old : A) → cond (ends && not (ends && most)) new old ≡ settled (rowOf false false false false (ends && most)) (cond (ends && not (ends && most)) new old) old
+unfolding settled rowOf
+counts true true new old = refl
+counts true false new old = refl
+counts false most new old = refl
+
+ended : (ends most : Bool) → (ends && not (ends && most)) ≡ settled (rowOf false false false false (ends && most)) (ends && not (ends && most)) false
+unfolding settled rowOf
+ended true true = refl
+ended true false = refl
+ended false most = refl
+
+filters : EveryFilter
+unfolding rowOf windowedNumber windowedUpdate roundsNumber roundsFull roundsEnded roundsAcked
+filters = record {
+  windowedUpdates = λ f sample time κ x s p. answered false false _ false false (p .0) (p .1 ∙ stays (isAfter (f .held) time) _ f);
+  roundsAck = λ κ a x s p.
+      let ends = endsRound (a .0 .end) (now (a .1 .0)) in
+      let most = isMost (a .0 .count) in
+      answered-both false false false false _ (p .0) (p .1 .0 ∙ counts ends most _ (a .0)) (p .1 .1 ∙ ended ends most);
+}
+
+pub every-reply : EveryReply
+every-reply = record { answers = answers; changes = changes; events = events; entries = entries; filters = filters }

@@ -1,0 +1,332 @@
+-- "Exactly when", call by call. Document 01, "Replies and bounds": "If several refusals apply, the lowest number is
+-- given. A refusal is given exactly when its row holds. Every refusal returns the state unchanged, 0 for a number, no
+-- for a yes or no, and an event's record as handed in". Below stands a line for each public call of document 01. It is
+-- said of every reply that the call's contract allows. Statements only; proofs/Replies.antt proves them.
+--
+-- How to read it. `f a b` is the function f of a and b, `x .f` the field f of x, and `.0` and `.1` are the first and
+-- the rest of a list of arguments. `A × B` is "A and B", `A → B` is "from A follows B", `(a : A) → B` is "B for every a
+-- of the type A", `a ≡ b` is "a equals b", `⊥` is "never", `λ x. t` is "t, for x". Of tests, `&&` is "and", `||` is
+-- "or", `ltb a b` is "a is below b", `eqb a b` is "a equals b". A contract, as the checker reads it, is `Reads.Learnt`
+-- of its function. It speaks of lifetimes κ, of the arguments in the order of the source, written (first, (second,
+-- tt)), of a reply x and of what is left at the exit. `now a` is what a lent slice a holds at the call.
+use Prim.Native.Nat.{ℕ, _-_, _*_, _^_}
+use mathlib.Core.Bool.{Bool, true, false, not, _&&_, _||_}
+use mathlib.Core.Path.{_≡_}
+use lib.Dec.{ltb, eqb}
+use lib.Ieee.{Float}
+use denote.Ref.{now}
+use Rattle.filters.specs.declared.bandwidth.Bandwidth.{Bandwidth}
+use Rattle.filters.specs.declared.reply.Reply.{Reply}
+use Rattle.filters.specs.declared.round_trip_counter.RoundTripCounter.{RoundTripCounter}
+use Rattle.filters.specs.declared.time.Duration.{Duration}
+use Rattle.filters.specs.declared.time.Moment.{Moment}
+use Rattle.filters.specs.declared.windowed_filter.WindowedFilter.{WindowedFilter}
+use Rattle.filters.specs.MaxBandwidthFilter.{maxGet}
+use Rattle.filters.specs.Reply.{number}
+use Rattle.filters.specs.RoundTripCounter.{endsRound, roundsAcked, roundsEnded}
+use Rattle.filters.specs.Time.{isBefore}
+use Rattle.filters.specs.WindowedFilter.{isAfter, windowedUpdate}
+use Rattle.model.specs.declared.network_model.NetworkModel.{NetworkModel}
+use Rattle.model.specs.declared.params.Params.{Params}
+use Rattle.model.specs.Answers.{noBandwidth, noLength, noMoment, noGain}
+use Rattle.model.specs.Bounds.{modelOk, paramsOk, bytesOk, bytesOrUnsetOk, bandwidthOk, lengthOk, momentOk, gainOk}
+use Rattle.model.specs.Calls.{one, modelNew, sentNext, restartNext, reachedNext, pacingNext, cwndNext, withHigh, capNext, clearInflightNext, clearBandwidthNext, advanceNext, postponed, postponeNext, bdpOf, estimateOf, headroomOf}
+use Rattle.events.specs.declared.record.Record.{Record}
+use Rattle.events.specs.declared.record.Sample.{Sample}
+use Rattle.events.specs.Event.{recordOk, sampleOk, bytesLost, modelNext, recordNext}
+use Rattle.events.specs.Judge.{finishNext, isExpired, expireNext, isTooHigh, hasGrown, countsFlat, growthNext, isQueueing, queueNext}
+use Rattle.phases.specs.declared.cycle.Cycle.{Cycle}
+use Rattle.phases.specs.Cycle.{cycleOk, roundsOk, cycleNew}
+use Rattle.phases.specs.Phases.{restartedAt, downCycle, cruiseModel, cruiseCycle, refillModel, refillCycle, upCycle, exitModel, exitCycle, slopeCycle}
+use Rattle.filters.proofs.round_trip_counter.RoundTripCounter as rounds
+use Rattle.filters.proofs.windowed_filter.WindowedFilter as windowed
+use Rattle.model.proofs.network_model.NetworkModel as model
+use Rattle.events.proofs.event as event
+use Rattle.events.proofs.judge as judge
+use Rattle.phases.proofs.cycle.Cycle as cycle
+use Rattle.phases.proofs.phases as phases
+
+-- ---- the table: for one call, which of its rows hold. A row that is `false` is none of this call's
+pub record Rows : Type 0 where
+  -- 1: "a stored number or a parameter is outside the bounds below"
+  pub stored : Bool
+  -- 2: "an argument is outside its bounds, .. or a postponed moment would exceed 2^62"
+  pub argument : Bool
+  -- 3: "the moment given is earlier than the last accepted one; for the windowed filter, earlier than any of its three
+  -- stored times"
+  pub earlier : Bool
+  -- 4: "the total acked or the total lost is lower than the one stored"
+  pub lower : Bool
+  -- 5: "the call's rule adds 1 to a counter that is 2^64 - 1"
+  pub full : Bool
+
+abbrev pub rows : (stored argument earlier lower full : Bool) → Rows
+rows a b c d e = record { stored = a; argument = b; earlier = c; lower = d; full = e }
+
+-- each follows from the other
+abbrev pub Iff : Type 0 → Type 0 → Type 0
+Iff A B = (A → B) × (B → A)
+
+abbrev pub Holds : Bool → Type 0
+Holds test = test ≡ true
+
+abbrev pub Fails : Bool → Type 0
+Fails test = test ≡ false
+
+-- the reply's number n is that of the first row that holds, and 0 exactly where none does
+pub record Exactly (n : ℕ) (r : Rows) : Type 0 where
+  pub is0 :
+      Iff (n ≡ 0) (Fails (r .stored) × Fails (r .argument) × Fails (r .earlier) × Fails (r .lower) × Fails (r .full))
+  pub is1 : Iff (n ≡ 1) (Holds (r .stored))
+  pub is2 : Iff (n ≡ 2) (Fails (r .stored) × Holds (r .argument))
+  pub is3 : Iff (n ≡ 3) (Fails (r .stored) × Fails (r .argument) × Holds (r .earlier))
+  pub is4 : Iff (n ≡ 4) (Fails (r .stored) × Fails (r .argument) × Fails (r .earlier) × Holds (r .lower))
+  pub is5 :
+      Iff (n ≡ 5) (Fails (r .stored) × Fails (r .argument) × Fails (r .earlier) × Fails (r .lower) × Holds (r .full))
+
+-- the reply to a call with such rows, and what it left or answered: `next` where it is done, `old` where it is refused
+pub record Answered {A : Type 0} (reply : Reply) (r : Rows) (got next old : A) : Type 0 where
+  pub row : Exactly (number reply) r
+  pub done : number reply ≡ 0 → got ≡ next
+  pub refused : (number reply ≡ 0 → ⊥) → got ≡ old
+
+-- P of every reply to these arguments that a contract allows
+abbrev pub Every : {K : Type 0} {A E : K → Type 0} {R : Type 0} →
+    ((κ : K) → A κ → R → E κ → Type 0) → ((κ : K) → A κ) → (R → Type 0) → Type 0
+Every {K} {A} {E} {R} learnt args P = (κ : K) (x : R) (s : E κ) → learnt κ (args κ) x s → P x
+
+-- the same where an argument is lent: P is told all arguments
+abbrev pub EveryLent : {K : Type 0} {A E : K → Type 0} {R : Type 0} →
+    ((κ : K) → A κ → R → E κ → Type 0) → ((κ : K) → A κ → R → Type 0) → Type 0
+EveryLent {K} {A} {E} {R} learnt P = (κ : K) (a : A κ) (x : R) (s : E κ) → learnt κ a x s → P κ a x
+
+-- "a counter that is 2^64 - 1"
+abbrev pub isMost : ℕ → Bool
+isMost n = eqb n (2 ^ 64 - 1)
+
+-- ---- calls that only answer. First the rows of one that is given nothing: the stored numbers alone are tested
+abbrev pub storedRows : NetworkModel → Rows
+storedRows m = rows (not (modelOk m)) false false false false
+
+-- and of one that is given something, of which `fine` says whether it is within its bounds
+abbrev pub givenRows : NetworkModel → Bool → Rows
+givenRows m fine = rows (not (modelOk m)) (not fine) false false false
+
+pub record EveryAnswer : Type 0 where
+  pub bdp : (m : NetworkModel) (b : Bandwidth) (gain : Float) →
+      Every model.bdp.Reads.Learnt (λ κ. (m, (b, (gain, tt))))
+      (λ x. Answered (x .reply) (givenRows m (bandwidthOk b && gainOk gain)) (x .value) (bdpOf m b gain) 0)
+  pub bdp1 : (m : NetworkModel) (b : Bandwidth) →
+      Every model.bdp1.Reads.Learnt (λ κ. (m, (b, tt)))
+      (λ x. Answered (x .reply) (givenRows m (bandwidthOk b)) (x .value) (bdpOf m b one) 0)
+  pub bdp0 : (m : NetworkModel) →
+      Every model.bdp0.Reads.Learnt (λ κ. (m, tt))
+      (λ x. Answered (x .reply) (storedRows m) (x .value) (bdpOf m (maxGet (m .most)) one) 0)
+  pub inflightHiWithHeadroom : (m : NetworkModel) (p : Params) →
+      Every model.inflight_hi_with_headroom.Reads.Learnt (λ κ. (m, (p, tt)))
+      (λ x. Answered (x .reply) (rows (not (modelOk m && paramsOk p)) false false false false) (x .value)
+      (headroomOf (m .high) (p .headroom)) 0)
+  pub isInflightTooHigh : (m : NetworkModel) (p : Params) (e : Record) (limit : ℕ) →
+      Every judge.is_inflight_too_high.Reads.Learnt (λ κ. (m, (p, (e, (limit, tt)))))
+      (λ x. Answered (x .reply) (rows (not (modelOk m && paramsOk p)) (not (recordOk e)) false false false) (x .yes)
+      (isTooHigh (m .round) (e .state) limit (p .loss)) false)
+  pub bandwidthEstimate : (m : NetworkModel) →
+      Every model.bandwidth_estimate.Reads.Learnt (λ κ. (m, tt))
+      (λ x. Answered (x .reply) (storedRows m) (x .bandwidth)
+      (estimateOf (m .lower .bandwidth) (maxGet (m .most))) noBandwidth)
+  pub maxBandwidth : (m : NetworkModel) →
+      Every model.max_bandwidth.Reads.Learnt (λ κ. (m, tt))
+      (λ x. Answered (x .reply) (storedRows m) (x .bandwidth) (maxGet (m .most)) noBandwidth)
+  pub minRtt : (m : NetworkModel) →
+      Every model.min_rtt.Reads.Learnt (λ κ. (m, tt))
+      (λ x. Answered (x .reply) (storedRows m) (x .length) (m .least .rtt) noLength)
+  pub minRttTimestamp : (m : NetworkModel) →
+      Every model.min_rtt_timestamp.Reads.Learnt (λ κ. (m, tt))
+      (λ x. Answered (x .reply) (storedRows m) (x .moment) (m .least .timestamp) noMoment)
+  pub fullBandwidthReached : (m : NetworkModel) →
+      Every model.full_bandwidth_reached.Reads.Learnt (λ κ. (m, tt))
+      (λ x. Answered (x .reply) (storedRows m) (x .yes) (m .growth .reached) false)
+  pub pacingGain : (m : NetworkModel) →
+      Every model.pacing_gain.Reads.Learnt (λ κ. (m, tt))
+      (λ x. Answered (x .reply) (storedRows m) (x .gain) (m .gains .pacing) noGain)
+  pub cwndGain : (m : NetworkModel) →
+      Every model.cwnd_gain.Reads.Learnt (λ κ. (m, tt))
+      (λ x. Answered (x .reply) (storedRows m) (x .gain) (m .gains .cwnd) noGain)
+  pub maxBytesDeliveredInRound : (m : NetworkModel) →
+      Every model.max_bytes_delivered_in_round.Reads.Learnt (λ κ. (m, tt))
+      (λ x. Answered (x .reply) (storedRows m) (x .value) (m .round .delivered) 0)
+  pub totalBytesAcked : (m : NetworkModel) →
+      Every model.total_bytes_acked.Reads.Learnt (λ κ. (m, tt))
+      (λ x. Answered (x .reply) (storedRows m) (x .value) (m .totals .acked) 0)
+  pub totalBytesLost : (m : NetworkModel) →
+      Every model.total_bytes_lost.Reads.Learnt (λ κ. (m, tt))
+      (λ x. Answered (x .reply) (storedRows m) (x .value) (m .totals .lost) 0)
+  pub inflightHi : (m : NetworkModel) →
+      Every model.inflight_hi.Reads.Learnt (λ κ. (m, tt))
+      (λ x. Answered (x .reply) (storedRows m) (x .value) (m .high) 0)
+  pub inflightLo : (m : NetworkModel) →
+      Every model.inflight_lo.Reads.Learnt (λ κ. (m, tt))
+      (λ x. Answered (x .reply) (storedRows m) (x .value) (m .lower .inflight) 0)
+  pub lossEventsInRound : (m : NetworkModel) →
+      Every model.loss_events_in_round.Reads.Learnt (λ κ. (m, tt))
+      (λ x. Answered (x .reply) (storedRows m) (x .value) (m .round .losses) 0)
+  pub roundsWithQueueing : (m : NetworkModel) →
+      Every model.rounds_with_queueing.Reads.Learnt (λ κ. (m, tt))
+      (λ x. Answered (x .reply) (storedRows m) (x .value) (m .growth .queueing) 0)
+  pub inflightHiDefault : (m : NetworkModel) →
+      Every model.inflight_hi_default.Reads.Learnt (λ κ. (m, tt))
+      (λ x. Answered (x .reply) (storedRows m) (x .value) (2 ^ 64 - 1) 0)
+  pub queueingThresholdExtraBytes : (m : NetworkModel) →
+      Every model.queueing_threshold_extra_bytes.Reads.Learnt (λ κ. (m, tt))
+      (λ x. Answered (x .reply) (storedRows m) (x .value) (2 * 1300) 0)
+
+-- ---- calls that leave a model
+pub record EveryChange : Type 0 where
+  -- "A refused start has no earlier state: it returns a fresh one at moment 0 with round trip 0, both gains 1 and the
+  -- app-limited option off"
+  pub start : (p : Params) (rtt : Duration) (t : Moment) →
+      Every model.new.Reads.Learnt (λ κ. (p, (rtt, (t, tt))))
+      (λ x. Answered (x .reply) (rows (not (paramsOk p)) (not (lengthOk rtt && momentOk t)) false false false)
+      (x .model) (modelNew (p .cwnd) (p .pacing) (p .ignore) rtt t) (modelNew one one false noLength noMoment))
+  pub sent : (m : NetworkModel) (t : Moment) (inflight packet bytes : ℕ) →
+      Every model.on_packet_sent.Reads.Learnt (λ κ. (m, (t, (inflight, (packet, (bytes, tt))))))
+      (λ x. Answered (x .reply)
+      (rows (not (modelOk m)) (not (momentOk t && bytesOk inflight && bytesOk bytes)) (isBefore t (m .moment))
+      false false)
+      (x .model) (sentNext m t inflight packet bytes) m)
+  pub restart : (m : NetworkModel) →
+      Every model.restart_round_early.Reads.Learnt (λ κ. (m, tt))
+      (λ x. Answered (x .reply) (storedRows m) (x .model) (restartNext m) m)
+  pub reached : (m : NetworkModel) →
+      Every model.set_full_bandwidth_reached.Reads.Learnt (λ κ. (m, tt))
+      (λ x. Answered (x .reply) (storedRows m) (x .model) (reachedNext m) m)
+  pub pacing : (m : NetworkModel) (gain : Float) →
+      Every model.set_pacing_gain.Reads.Learnt (λ κ. (m, (gain, tt)))
+      (λ x. Answered (x .reply) (givenRows m (gainOk gain)) (x .model) (pacingNext m gain) m)
+  pub cwnd : (m : NetworkModel) (gain : Float) →
+      Every model.set_cwnd_gain.Reads.Learnt (λ κ. (m, (gain, tt)))
+      (λ x. Answered (x .reply) (givenRows m (gainOk gain)) (x .model) (cwndNext m gain) m)
+  pub high : (m : NetworkModel) (bytes : ℕ) →
+      Every model.set_inflight_hi.Reads.Learnt (λ κ. (m, (bytes, tt)))
+      (λ x. Answered (x .reply) (givenRows m (bytesOrUnsetOk bytes)) (x .model) (withHigh m bytes) m)
+  pub cap : (m : NetworkModel) (bytes : ℕ) →
+      Every model.cap_inflight_lo.Reads.Learnt (λ κ. (m, (bytes, tt)))
+      (λ x. Answered (x .reply) (givenRows m (bytesOrUnsetOk bytes)) (x .model) (capNext m bytes) m)
+  pub clearInflight : (m : NetworkModel) →
+      Every model.clear_inflight_lo.Reads.Learnt (λ κ. (m, tt))
+      (λ x. Answered (x .reply) (storedRows m) (x .model) (clearInflightNext m) m)
+  pub clearBandwidth : (m : NetworkModel) →
+      Every model.clear_bandwidth_lo.Reads.Learnt (λ κ. (m, tt))
+      (λ x. Answered (x .reply) (storedRows m) (x .model) (clearBandwidthNext m) m)
+  pub advance : (m : NetworkModel) →
+      Every model.advance_max_bandwidth_filter.Reads.Learnt (λ κ. (m, tt))
+      (λ x. Answered (x .reply) (storedRows m) (x .model) (advanceNext m) m)
+  -- "a postponed moment would exceed 2^62" is row 2's
+  pub postpone : (m : NetworkModel) (d : Duration) →
+      Every model.postpone_min_rtt_timestamp.Reads.Learnt (λ κ. (m, (d, tt)))
+      (λ x. Answered (x .reply) (givenRows m (lengthOk d && momentOk (postponed m d))) (x .model) (postponeNext m d) m)
+
+-- ---- calls that carry an event, or count rounds. "A later call that gets an event's record doesn't test its moment
+-- for 3"
+pub record EveryEvent : Type 0 where
+  -- row 4: a total below the stored one. Row 5: a round ends and the count of rounds is full, or bytes were lost and
+  -- the count of loss events is
+  pub starts :
+      EveryLent event.on_congestion_event_start.Reads.Learnt
+      (λ κ a x.
+      let m = a .0 in
+      let p = a .1 .0 in
+      let e = a .1 .1 .0 in
+      let y = a .1 .1 .1 .0 in
+      let acked = now (a .1 .1 .1 .1 .0) in
+      Answered {A = NetworkModel × Record} (x .reply)
+      (rows (not (modelOk m && paramsOk p)) (not (recordOk e && sampleOk y)) (isBefore (e .time) (m .moment))
+      (ltb (y .totals .acked) (m .totals .acked) || ltb (y .totals .lost) (m .totals .lost))
+      ((endsRound (m .rounds .end) acked && isMost (m .rounds .count))
+      || (ltb 0 (bytesLost m y) && isMost (m .round .losses))))
+      (x .model, x .record) (modelNext m p e y acked, recordNext m e y acked) (m, e))
+  pub finish : (m : NetworkModel) (e : Record) →
+      Every judge.on_congestion_event_finish.Reads.Learnt (λ κ. (m, (e, tt)))
+      (λ x. Answered (x .reply) (givenRows m (recordOk e)) (x .model) (finishNext m e) m)
+  pub expire : (m : NetworkModel) (p : Params) (e : Record) →
+      Every judge.maybe_expire_min_rtt.Reads.Learnt (λ κ. (m, (p, (e, tt))))
+      (λ x. Answered {A = NetworkModel × Bool} (x .reply)
+      (rows (not (modelOk m && paramsOk p)) (not (recordOk e)) false false false) (x .model, x .yes)
+      (expireNext m p e, isExpired (e .rtt) (e .time) (m .least) (p .period)) (m, false))
+  -- row 5: the bandwidth has not grown, so that the round counts, and the count is full
+  pub growth : (m : NetworkModel) (p : Params) (e : Record) →
+      Every judge.has_bandwidth_growth.Reads.Learnt (λ κ. (m, (p, (e, tt))))
+      (λ x.
+      let grown = hasGrown (m .growth) (maxGet (m .most)) p in
+      Answered {A = NetworkModel × Bool} (x .reply)
+      (rows (not (modelOk m && paramsOk p)) (not (recordOk e)) false false
+      (not grown && countsFlat (m .growth) (e .state) && isMost (m .growth .flat)))
+      (x .model, x .yes) (growthNext m p e, grown) (m, false))
+  -- row 5: the round queues, and the count of such rounds is full
+  pub queue : (m : NetworkModel) (p : Params) (gain : Float) →
+      Every judge.check_persistent_queue.Reads.Learnt (λ κ. (m, (p, (gain, tt))))
+      (λ x. Answered (x .reply)
+      (rows (not (modelOk m && paramsOk p)) (not (gainOk gain)) false false
+      (isQueueing m gain && isMost (m .growth .queueing)))
+      (x .model) (queueNext m p gain) m)
+
+-- ---- calls that leave a cycle. First the rows of an entry, where `params` and `argument` say whether the parameters
+-- and the other arguments are within their bounds: "sends, events and phase entries share" the last accepted moment
+abbrev pub entryRows : NetworkModel → Cycle → (params argument : Bool) → Moment → Rows
+entryRows m c params argument t =
+    rows (not (modelOk m && cycleOk c && params)) (not (momentOk t && argument)) (isBefore t (m .moment)) false false
+
+pub record EveryPhase : Type 0 where
+  -- a refused fresh cycle is one at moment 0
+  pub fresh : (t : Moment) →
+      Every cycle.new.Reads.Learnt (λ κ. (t, tt))
+      (λ x. Answered (x .reply) (rows false (not (momentOk t)) false false false) (x .cycle)
+      (cycleNew t) (cycleNew noMoment))
+  pub down : (m : NetworkModel) (c : Cycle) (p : Params) (high risky : Bool) (t : Moment) →
+      Every phases.enter_probe_down.Reads.Learnt (λ κ. (m, (c, (p, (high, (risky, (t, tt)))))))
+      (λ x. Answered {A = NetworkModel × Cycle} (x .reply) (entryRows m c (paramsOk p) true t) (x .model, x .cycle)
+      (restartedAt m t, downCycle c p high risky t) (m, c))
+  pub cruise : (m : NetworkModel) (c : Cycle) (t : Moment) →
+      Every phases.enter_probe_cruise.Reads.Learnt (λ κ. (m, (c, (t, tt))))
+      (λ x. Answered {A = NetworkModel × Cycle} (x .reply) (entryRows m c true true t) (x .model, x .cycle)
+      (cruiseModel m c t, cruiseCycle c t) (m, c))
+  pub refill : (m : NetworkModel) (c : Cycle) (upRounds : ℕ) (t : Moment) →
+      Every phases.enter_probe_refill.Reads.Learnt (λ κ. (m, (c, (upRounds, (t, tt)))))
+      (λ x. Answered {A = NetworkModel × Cycle} (x .reply) (entryRows m c true (roundsOk upRounds) t)
+      (x .model, x .cycle) (refillModel m c t, refillCycle c upRounds t) (m, c))
+  pub up : (m : NetworkModel) (c : Cycle) (t : Moment) (window : ℕ) →
+      Every phases.enter_probe_up.Reads.Learnt (λ κ. (m, (c, (t, (window, tt)))))
+      (λ x. Answered {A = NetworkModel × Cycle} (x .reply) (entryRows m c true (bytesOk window) t) (x .model, x .cycle)
+      (restartedAt m t, upCycle c t window) (m, c))
+  pub exit : (m : NetworkModel) (c : Cycle) →
+      Every phases.exit_probe_down.Reads.Learnt (λ κ. (m, (c, tt)))
+      (λ x. Answered {A = NetworkModel × Cycle} (x .reply) (rows (not (modelOk m && cycleOk c)) false false false false)
+      (x .model, x .cycle) (exitModel m c, exitCycle c) (m, c))
+  pub slope : (c : Cycle) (window : ℕ) →
+      Every phases.raise_inflight_high_slope.Reads.Learnt (λ κ. (c, (window, tt)))
+      (λ x. Answered (x .reply) (rows (not (cycleOk c)) (not (bytesOk window)) false false false) (x .cycle)
+      (slopeCycle c window) c)
+
+-- ---- the filters: "A windowed filter's update takes any u64 and gives only 0 or 3". A count of rounds that is full is
+-- row 5's
+pub record EveryFilter : Type 0 where
+  pub windowedUpdates : (f : WindowedFilter) (sample time : ℕ) →
+      Every windowed.update.Reads.Learnt (λ κ. (f, (sample, (time, tt))))
+      (λ x. Answered (x .reply) (rows false false (isAfter (f .held) time) false false) (x .filter)
+      (windowedUpdate f sample time) f)
+  pub roundsAck :
+      EveryLent rounds.on_packets_acked.Reads.Learnt
+      (λ κ a x.
+      let c = a .0 in
+      let acked = now (a .1 .0) in
+      Answered {A = RoundTripCounter × Bool} (x .reply)
+      (rows false false false false (endsRound (c .end) acked && isMost (c .count)))
+      (x .counter, x .ended) (roundsAcked c acked, roundsEnded c acked) (c, false))
+
+-- ---- every public call
+pub record EveryReply : Type 0 where
+  pub answers : EveryAnswer
+  pub changes : EveryChange
+  pub events : EveryEvent
+  pub entries : EveryPhase
+  pub filters : EveryFilter
