@@ -1,6 +1,6 @@
 -- Any two replies that the contract of a public function allows coincide: a line for each, about what its contract says (`Reads.Learnt`).
 use mathlib.Core.Path.{sym, _∙_}
-use Rattle.numbers.proofs.OneReply.{OneReply}
+use Rattle.numbers.specs.OneReply.{OneReply}
 use Rattle.encoding.proofs.cycle as cycle
 use Rattle.encoding.proofs.maybe as maybe
 use Rattle.encoding.proofs.network_model as model

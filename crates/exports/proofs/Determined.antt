@@ -4,7 +4,7 @@ use contract.Lifetimes.{Lfts}
 use denote.Ref.{now}
 use denote.Triple.Clauses.{AtExit}
 use borrow.Fn.Kinds.{Dens, resT, endedOf}
-use Rattle.numbers.proofs.OneReply.{OneReply}
+use Rattle.numbers.specs.OneReply.{OneReply}
 use Rattle.exports.proofs.conversions as conversions
 use Rattle.exports.proofs.slope.guovssalu_raise_inflight_high_slope as slope
 use Rattle.exports.proofs.filter_run.guovssalu_filter_run as filter

@@ -6,7 +6,7 @@ use Rattle.filters.specs.declared.round_trip_counter.Acked.{Acked}
 use Rattle.filters.specs.declared.round_trip_counter.RoundTripCounter.{RoundTripCounter}
 use Rattle.filters.specs.declared.windowed_filter.Updated.{Updated}
 use Rattle.filters.specs.declared.windowed_filter.WindowedFilter.{WindowedFilter}
-use Rattle.numbers.proofs.OneReply.{OneReply}
+use Rattle.numbers.specs.OneReply.{OneReply}
 use Rattle.filters.proofs.reply.Number.{number-injective}
 use Rattle.filters.proofs.bandwidth.Bandwidth as bandwidth
 use Rattle.filters.proofs.max_bandwidth_filter.MaxBandwidthFilter as max-filter

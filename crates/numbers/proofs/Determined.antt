@@ -1,6 +1,6 @@
 -- Any two replies that the contract of a public function allows coincide: one line for each public function.
 use mathlib.Core.Path.{sym, _∙_}
-use Rattle.numbers.proofs.OneReply.{OneReply}
+use Rattle.numbers.specs.OneReply.{OneReply}
 use Rattle.numbers.proofs.int_to_float as int-to-float
 use Rattle.numbers.proofs.float_to_int as float-to-int
 use Rattle.numbers.proofs.order as order

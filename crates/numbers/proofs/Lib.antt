@@ -8,5 +8,4 @@ pub mod Between
 pub mod ScaleLaws
 pub mod Complement
 pub mod Reference
-pub mod OneReply
 pub mod Determined

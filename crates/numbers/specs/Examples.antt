@@ -1,10 +1,11 @@
--- document 01, "Marked examples": those about the conversions. The list goes on in the crate above, where all of it has one proof.
+-- document 01, "Marked examples": those about the conversions. The list goes on in the crate above, where all of it
+-- has one proof.
 use Prim.Native.Nat.{ℕ, _*_, _-_, _^_}
 use mathlib.Core.Bool.{Bool, true, false, _&&_}
 use mathlib.Core.List.{List, [], _∷_}
 use lib.IntN.{pos, negsuc}
 use lib.Dec.{eqb, ltb}
-use lib.Ieee.{Float, fin, binary32, ofBits, eq}
+use lib.Ieee.{Float, nan, inf, fin, binary32, ofBits, eq}
 use Rattle.numbers.specs.IntToFloat.{intToFloat}
 use Rattle.numbers.specs.FloatToInt.{floatToInt}
 use Rattle.numbers.specs.Scaling.{scaled, complement}
@@ -14,9 +15,17 @@ unfoldable pub all : List Bool → Bool
 all [] = true
 all (fact ∷ facts) = fact && all facts
 
--- n converts to the float whose value is w
+-- a float is written without a sign. `eq` takes -0 for 0, this doesn't
+abbrev pub isUnsigned : Float → Bool
+isUnsigned nan = false
+isUnsigned (inf true) = false
+isUnsigned (inf false) = true
+isUnsigned (fin true m e) = false
+isUnsigned (fin false m e) = true
+
+-- n converts to the float w, which has no sign
 abbrev pub converts : ℕ → ℕ → Bool
-converts n w = eq (intToFloat binary32 n) (fin false w (pos 0))
+converts n w = eq (intToFloat binary32 n) (fin false w (pos 0)) && isUnsigned (intToFloat binary32 n)
 
 -- b at beta 0.3, whose bits are 3E99999A
 abbrev pub b : Float
@@ -24,7 +33,7 @@ b = complement (ofBits binary32 0x3e99_999a)
 
 unfoldable pub conversions : List Bool
 conversions =
-    -- 1. 0 converts to 0
+    -- 1. 0 converts to 0, and not to -0
     converts 0 0
     -- 2. 16,777,217 converts to 16,777,216
     ∷ converts 16777217 16777216

@@ -5,7 +5,7 @@ use Rattle.model.specs.declared.network_model.NetworkModel.{NetworkModel}
 use Rattle.phases.specs.declared.cycle.Cycle.{Cycle}
 use Rattle.phases.specs.declared.phases.Entered.{Entered}
 use Rattle.phases.specs.declared.cycle.Turned.{Turned}
-use Rattle.numbers.proofs.OneReply.{OneReply}
+use Rattle.numbers.specs.OneReply.{OneReply}
 use Rattle.filters.proofs.reply.Number.{number-injective}
 use Rattle.phases.proofs.cycle.Cycle as cycle
 use Rattle.phases.proofs.cycle.Slope as slope

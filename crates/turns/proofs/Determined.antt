@@ -1,6 +1,6 @@
 -- Any two replies that the contract of a public function allows coincide: a line for each public function, about what its contract says.
 use mathlib.Core.Path.{sym, _∙_}
-use Rattle.numbers.proofs.OneReply.{OneReply}
+use Rattle.numbers.specs.OneReply.{OneReply}
 use Rattle.filters.proofs.reply.Number.{number-injective}
 use Rattle.model.proofs.Determined as model
 use Rattle.events.proofs.Determined as events

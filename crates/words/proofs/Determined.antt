@@ -4,7 +4,7 @@ use contract.Lifetimes.{Lfts}
 use denote.Ref.{now}
 use denote.Triple.Clauses.{AtExit}
 use borrow.Fn.Kinds.{Dens, resT, endedOf}
-use Rattle.numbers.proofs.OneReply.{OneReply}
+use Rattle.numbers.specs.OneReply.{OneReply}
 use Rattle.words.proofs.float_bits as floats
 use Rattle.words.proofs.get_word as get-word
 use Rattle.words.proofs.get_words as get-words
