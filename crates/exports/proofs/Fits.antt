@@ -1,30 +1,25 @@
 -- Words encode a state exactly where each flag, float, phase and thing that may be unset is written as it is read. Assumes nothing.
-use Prim.Native.Nat.{ℕ, zero, suc, _+_, _*_, _%_, _^_, _≤_, _<_}
+use Prim.Native.Nat.{ℕ, zero, suc, _%_, _^_, _≤_, _<_}
 use mathlib.Core.Bool.{Bool, true, false, not, cond, _&&_, _||_, and-assoc, and-true}
 use mathlib.Core.List.{List}
 use mathlib.Core.Path.{_≡_, refl, sym, ap, _∙_}
 use native.Mathlib.Omega.{arith}
-use lib.Dec.{T, leb, eqb, ltb}
-use lib.Ieee.{Float, nan, binary32, ofBits, toBits, isNan, nanBits}
+use lib.Dec.{T, leb, eqb}
+use lib.Ieee.{Float, binary32, ofBits, toBits, isNan}
 use lib.Ieee.Bits.{toBits-ofBits, nanBits-is}
-use lib.ListN.{getD}
 use borrow.Author.Tests.{eq-eqb, ne-eqb, eqb-true, eqb-false, lt-leb, leb-true, leb-false, lt-ltb, le-ltb}
 use Rattle.numbers.proofs.Fields.{plain-bits, nan-bits}
 use Rattle.model.proofs.Rows.{and-left, and-right}
-use Rattle.filters.specs.declared.round_trip_counter.RoundEnd.{RoundEnd}
 use Rattle.filters.specs.declared.round_trip_counter.RoundEnd.the-variants.{NotSet, At}
-use Rattle.model.specs.declared.state.MaybeBandwidth.{MaybeBandwidth}
 use Rattle.model.specs.declared.state.MaybeBandwidth.the-variants.{Unset, Set}
-use Rattle.phases.specs.declared.cycle.MaybeBytes.{MaybeBytes}
 use Rattle.phases.specs.declared.cycle.MaybeBytes.the-variants.{NoBytes, Bytes}
-use Rattle.phases.specs.declared.cycle.MaybeLength.{MaybeLength}
 use Rattle.phases.specs.declared.cycle.MaybeLength.the-variants.{NoLength, Length}
 use Rattle.encoding.specs.declared.maybe.Maybe.{Maybe}
 use Rattle.encoding.specs.Word.{word, flagWord, flagOf, flagFits, floatWord, floatOf}
 use Rattle.encoding.specs.Maybe.{unset, held, isUnset, numberIn, bandwidthMaybe, bandwidthOf}
 use Rattle.encoding.specs.NetworkModel.{modelOf, modelWords, endMaybe, endOf}
 use Rattle.encoding.specs.Cycle.{cycleOf, cycleWords, phaseWord, phaseOf, waitLengthMaybe, waitLengthOf, upBytesMaybe, upBytesOf}
-use Rattle.exports.specs.Form.{pairFits, floatFits, phaseFits, earlyFits, lateFits, cycleFits}
+use Rattle.exports.specs.Inner.{pairFits, floatFits, phaseFits, earlyFits, lateFits, cycleFits}
 use Rattle.exports.specs.ModelRun.{sameWords, isState}
 
 same : (n : ℕ) → eqb n n ≡ true

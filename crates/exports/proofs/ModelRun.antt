@@ -31,7 +31,7 @@ use Rattle.encoding.proofs.RoundTrip.{round-trip}
 use Rattle.encoding.proofs.Laws.{float-fits}
 use Rattle.turns.specs.declared.turn.Turn.{Turn}
 use Rattle.turns.specs.Turn.{isJudged, isAsked, noRecord, sendNumber, sendLeaves, startedNumber, startedLeaves, startedWords, finishedNumber, finishedLeaves, startTurn, sendTurn, eventTurn, finishTurn, judgeTurn, askTurn, enterTurn, changeTurn, turnOf}
-use Rattle.turns.specs.Parts.{otherTurn}
+use Rattle.turns.specs.Inner.{otherTurn}
 use Rattle.exports.specs.ModelRun.{stateIn, callsIn, callAt, turnAt, answerWords, answersTo, leftBy, wordsLeft, modelRow}
 use Rattle.exports.proofs.Rows.{done-room, done-first}
 

@@ -14,7 +14,8 @@ use Rattle.model.proofs.Rows.{none}
 use Rattle.words.specs.Words.{word, allBytes}
 use Rattle.words.proofs.Stores.{sets-append}
 use Rattle.words.proofs.Laws.{allBytes-append, length-allBytes}
-use Rattle.exports.specs.FilterRun.{pairs, afterPair, refuses, samples, samplesOf, runRow, timesFall, setsWhere}
+use Rattle.exports.specs.FilterRun.{pairs, afterPair, refuses, samples, samplesOf, runRow}
+use Rattle.exports.specs.Inner.{timesFall, setsWhere}
 use Rattle.exports.proofs.Rows.{done-room, done-first}
 
 module _ (src : List ℕ) (i count : ℕ) (h : i < count) where

@@ -1,17 +1,16 @@
 -- The exported filter run: document 01, "Order of porting, and what changes shape": "a filter run over little-endian u64 pairs (time, sample) that writes three samples per pair, u64
 -- each. It starts empty."
 use Prim.Native.Nat.{ℕ, zero, suc, _+_, _*_, _/_, _%_}
-use mathlib.Core.Bool.{Bool, false, cond, not, _||_}
+use mathlib.Core.Bool.{Bool, false, not, _||_}
 use mathlib.Core.List.{List, [], _∷_, _++_}
 use lib.ListN.{length}
 use lib.Dec.{ltb, eqb}
-use lib.Seq.{sets}
 use Rattle.filters.specs.declared.windowed_filter.Estimate.{Estimate}
 use Rattle.filters.specs.declared.windowed_filter.Estimate.the-variants.{Nothing, Value}
 use Rattle.filters.specs.declared.windowed_filter.WindowedFilter.{WindowedFilter}
 use Rattle.filters.specs.WindowedFilter.{windowedNew, windowedNumber, windowedUpdate, bestOf, secondOf, thirdOf}
 use Rattle.model.specs.Bounds.{rowOf}
-use Rattle.words.specs.Words.{word, allBytes}
+use Rattle.words.specs.Words.{word}
 use Rattle.exports.specs.Reply.{orShort, answered}
 
 -- how many pairs there are: a pair has 16 bytes
@@ -47,13 +46,3 @@ runRow window src room =
 
 unfoldable pub runOut : (window : ℕ) (src out : List ℕ) → List ℕ
 runOut window src out = answered (runRow window src (length out)) (samplesOf (windowedNew window) src 0 (pairs src)) out
-
--- What the code goes by; the answer above does not speak of it. Whether one of the n times from an index on is earlier than the one before it, the first
--- earlier than `last`
-unfoldable pub timesFall : (last : ℕ) → List ℕ → ℕ → ℕ → Bool
-timesFall last src at zero = false
-timesFall last src at (suc n) = ltb (word src at) last || timesFall (word src at) src (at + 16) n
-
--- the bytes with words written at an index, or, where nothing is to be written, as they were
-unfoldable pub setsWhere : Bool → List ℕ → ℕ → List ℕ → List ℕ
-setsWhere writes out at words = cond writes (sets out at (allBytes words)) out

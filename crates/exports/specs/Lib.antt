@@ -5,4 +5,4 @@ pub mod FilterRun
 pub mod ModelRun
 pub mod Reply
 pub mod Slope
-pub mod Form
+pub mod Inner

@@ -6,19 +6,12 @@ use mathlib.Core.List.{List, [], _∷_}
 use lib.ListN.{length}
 use lib.Dec.{ltb}
 use Rattle.model.specs.Bounds.{bytesOk, rowOf}
-use Rattle.phases.specs.declared.cycle.MaybeBytes.{MaybeBytes}
-use Rattle.phases.specs.declared.cycle.MaybeBytes.the-variants.{NoBytes, Bytes}
 use Rattle.phases.specs.Cycle.{roundsOk, nextRounds, upBytes}
 use Rattle.exports.specs.Reply.{orShort, answered}
 
 -- "In the exported slope, rounds over 30 give 1." A window is an argument, a byte count: above 2^40 it is 2. The answer has two words
 unfoldable pub slopeRow : (rounds window room : ℕ) → ℕ
 slopeRow rounds window room = orShort (rowOf (not (roundsOk rounds)) (not (bytesOk window)) false false false) (ltb room 16)
-
--- a byte count, 0 where there is none; a slope that is raised has one
-abbrev pub countIn : MaybeBytes → ℕ
-countIn NoBytes = 0
-countIn (Bytes count) = count
 
 -- the next rounds, then probe_up_bytes
 unfoldable pub slopeWords : (rounds window : ℕ) → List ℕ

@@ -1,6 +1,6 @@
 // Whether 50 words encode a state, word by word: only flags, floats, the phase and what may be unset can fail.
 ghost use mathlib.Core.Path.{_≡_};
-ghost use Rattle.exports.specs.Form.{pairFits, floatFits, phaseFits, earlyFits, lateFits, cycleFits};
+ghost use Rattle.exports.specs.Inner.{pairFits, floatFits, phaseFits, earlyFits, lateFits, cycleFits};
 ghost use Rattle.exports.specs.ModelRun.{isState};
 use encoding::word::flag_fits;
 

@@ -12,7 +12,7 @@ ghost use Rattle.filters.specs.Reply.{number};
 ghost use Rattle.model.specs.Answers.{settled};
 ghost use Rattle.encoding.specs.Record.{recordIn, recordWords};
 ghost use Rattle.turns.specs.Turn.{noRecord, sendNumber, sendLeaves, startedNumber, startedLeaves, startedWords, finishedNumber, finishedLeaves};
-ghost use Rattle.turns.specs.Parts.{otherTurn};
+ghost use Rattle.turns.specs.Inner.{otherTurn};
 ghost use Rattle.exports.specs.ModelRun.{callAt, answerWords};
 use encoding::record::record_in;
 use encoding::record::record_words;

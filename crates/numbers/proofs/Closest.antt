@@ -17,7 +17,7 @@ use lib.Ieee.Digits.{size-reaches}
 use lib.Ieee.Fits.{nearest-le, kept-lt, eq→eqb}
 use lib.Ieee.Nearest.{closest}
 use Rattle.numbers.specs.IntToFloat.{Possible, Closest, apart}
-use Rattle.numbers.specs.Steps.{Cut}
+use Rattle.numbers.specs.Inner.{Cut}
 
 -- one of the two orders holds
 pub le-or-lt : (a b : ℕ) → (a ≤ b) ⊎ (b < a)

@@ -17,7 +17,7 @@ use lib.Ieee.Nearest.{closest}
 use lib.Ieee.Back.{whole-unique}
 use Rattle.numbers.specs.IntToFloat.{IntToFloat, intToFloat}
 use Rattle.std.proofs.num.f32_to_f64_with_nan as widening
-use Rattle.numbers.specs.Steps.{Cut}
+use Rattle.numbers.specs.Inner.{Cut}
 use Rattle.numbers.specs.FloatToFloat.{F32ToF64, f32ToF64}
 use Rattle.numbers.specs.FloatToInt.{TowardZero, FloatToInt, floatToInt, HalfUp, Rounded, roundAway}
 use Rattle.numbers.proofs.Closest.{le-or-lt, cut-of, cut-closest, only-closest}

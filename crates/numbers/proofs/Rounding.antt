@@ -18,7 +18,7 @@ use lib.Ieee.Nearest.{closest, closest-same}
 use lib.Ieee.Order.{drop, kept}
 use lib.Ieee.Scale.{round-same, grid, overflow, round-val}
 use lib.Ieee.Back.{round-whole, whole-unique}
-use Rattle.numbers.specs.Steps.{Cut}
+use Rattle.numbers.specs.Inner.{Cut}
 use Rattle.numbers.proofs.Closest.{closest-below, closest-le, lt-of-pow-lt}
 
 -- ---- both formats keep from 2 to 64 digits, and reach 2 ^ 64

@@ -9,7 +9,7 @@ use lib.IntN.{pos}
 use lib.Dec.{T, le→leb}
 use lib.Ieee.{Format, prec, emax, hid, top, ofInt, ofBits, mul, nanBits, inFloat}
 use lib.Ieee.Nearest.{closest}
-use Rattle.numbers.specs.Steps.{Spare}
+use Rattle.numbers.specs.Inner.{Spare}
 use Rattle.numbers.proofs.Closest.{closest-le}
 use Rattle.numbers.proofs.Rounding.{sizes, of-cut}
 use Rattle.numbers.proofs.Fields.{plain-bits, power-lt, power-value}

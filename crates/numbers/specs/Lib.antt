@@ -6,4 +6,4 @@ pub mod FloatToFloat
 pub mod Scaling
 pub mod Examples
 pub mod OneReply
-pub mod Steps
+pub mod Inner

@@ -3,7 +3,7 @@ ghost use mathlib.Core.Path.{_≡_};
 ghost use Prim.Native.Nat.{_^_, _<_};
 ghost use lib.Ieee.{binary32, binary64};
 ghost use lib.Ieee.Nearest.{closest};
-ghost use Rattle.numbers.specs.Steps.{Spare};
+ghost use Rattle.numbers.specs.Inner.{Spare};
 ghost use Rattle.numbers.specs.IntToFloat.{intToFloat};
 
 // How many digits n has beyond the p that a float keeps, looked for one place at a time.

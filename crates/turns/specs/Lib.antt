@@ -1,4 +1,4 @@
 -- What a call's words ask for, and what it leaves.
 pub mod Turn
-pub mod Parts
+pub mod Inner
 pub mod Examples

@@ -4,7 +4,7 @@ ghost use Rattle.filters.specs.Reply.{number};
 ghost use Rattle.model.specs.Answers.{settled, noMoment};
 ghost use Rattle.model.specs.Bounds.{modelOk};
 ghost use Rattle.turns.specs.Turn.{isJudged, isAsked, noRecord, startTurn, startedNumber, startedLeaves, finishedNumber, finishedLeaves, judgeTurn, askTurn, enterTurn, changeTurn};
-ghost use Rattle.turns.specs.Parts.{startedRecord, otherTurn};
+ghost use Rattle.turns.specs.Inner.{startedRecord, otherTurn};
 use calls::ask::ask;
 use calls::change::change;
 use calls::enter::enter;

@@ -1,7 +1,8 @@
 -- `guovssalu_filter_run` meets its contract: it stops at a refusal, or writes the answer. Assumes nothing.
 use borrow.Author.Needs.{needs}
 use Rattle.filters.specs.WindowedFilter.{windowedNew}
-use Rattle.exports.specs.FilterRun.{pairs, samplesOf, runOut, setsWhere}
+use Rattle.exports.specs.FilterRun.{pairs, samplesOf, runOut}
+use Rattle.exports.specs.Inner.{setsWhere}
 use Rattle.exports.proofs.Rows.{done-row, refused, written}
 use Rattle.exports.proofs.Run.{run-done}
 use Rattle.exports.proofs.filter_run.guovssalu_filter_run.Statement.{statement}

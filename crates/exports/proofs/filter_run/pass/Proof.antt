@@ -9,7 +9,8 @@ use native.Mathlib.Omega.{arith}
 use lib.Dec.{eqb}
 use lib.ListN.{length}
 use Rattle.filters.specs.WindowedFilter.{windowedNew}
-use Rattle.exports.specs.FilterRun.{refuses, samplesOf, setsWhere}
+use Rattle.exports.specs.FilterRun.{refuses, samplesOf}
+use Rattle.exports.specs.Inner.{setsWhere}
 use Rattle.exports.proofs.Run.{refused-now, refused-later, none-written, write-pair, none-left}
 use Rattle.exports.proofs.filter_run.pass.Statement.{statement}
 use Rattle.exports.proofs.filter_run.pass.Tie as tie

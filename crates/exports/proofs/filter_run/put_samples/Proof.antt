@@ -3,7 +3,8 @@ use borrow.Author.Needs.{needs}
 use mathlib.Core.Path.{_≡_, ap}
 use native.Mathlib.Omega.{arith}
 use lib.ListN.{length}
-use Rattle.exports.specs.FilterRun.{samples, setsWhere}
+use Rattle.exports.specs.FilterRun.{samples}
+use Rattle.exports.specs.Inner.{setsWhere}
 use Rattle.exports.proofs.filter_run.put_samples.Statement.{statement}
 use Rattle.exports.proofs.filter_run.put_samples.Tie as tie
 

@@ -4,7 +4,7 @@ use mathlib.Core.Path.{_≡_}
 use native.Mathlib.Nat.{sub-zero, sub-self}
 use native.Mathlib.Omega.{arith}
 use lib.ListN.{length}
-use Rattle.exports.specs.FilterRun.{timesFall}
+use Rattle.exports.specs.Inner.{timesFall}
 use Rattle.exports.proofs.Run.{falls-now, falls-later}
 use Rattle.exports.proofs.filter_run.times_fall.Statement.{statement}
 use Rattle.exports.proofs.filter_run.times_fall.Tie as tie

@@ -1,11 +1,9 @@
-use Rattle.exports.specs.Form.{floatFits}
+-- `exports::float_fits` meets its contract: its test. Assumes nothing.
 use mathlib.Core.Path.{refl}
+use Rattle.exports.specs.Inner.{floatFits}
 use Rattle.exports.proofs.form.float_fits.Statement.{statement}
 use Rattle.exports.proofs.form.float_fits.Tie as tie
-use Rattle.exports.proofs.form.float_fits.Reads as reads
-use Rattle.exports.proofs.form.float_fits.Lts as lts
 
--- src/form.rt:19:1
 returns : tie.Need-returns
 unfolding floatFits
 returns c = refl

@@ -1,11 +1,9 @@
-use Rattle.exports.specs.Form.{pairFits}
+-- `exports::pair_fits` meets its contract: its test. Assumes nothing.
 use mathlib.Core.Path.{refl}
+use Rattle.exports.specs.Inner.{pairFits}
 use Rattle.exports.proofs.form.pair_fits.Statement.{statement}
 use Rattle.exports.proofs.form.pair_fits.Tie as tie
-use Rattle.exports.proofs.form.pair_fits.Reads as reads
-use Rattle.exports.proofs.form.pair_fits.Lts as lts
 
--- src/form.rt:12:1
 returns : tie.Need-returns
 unfolding pairFits
 returns c = refl

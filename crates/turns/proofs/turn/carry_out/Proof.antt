@@ -2,7 +2,7 @@
 use mathlib.Core.Path.{sym, _∙_}
 use borrow.Author.Needs.{needs}
 use borrow.Author.Tests.{eq-eqb, ne-eqb, le-leb, lt-leb}
-use Rattle.turns.specs.Parts.{otherTurn}
+use Rattle.turns.specs.Inner.{otherTurn}
 use Rattle.turns.proofs.turn.carry_out.Statement.{statement}
 use Rattle.turns.proofs.turn.carry_out.Tie as tie
 
