@@ -3,6 +3,7 @@ use Prim.Native.Nat.{ℕ, min, max, _*_, _/_, _-_, _^_}
 use mathlib.Core.Bool.{Bool, cond}
 use lib.Dec.{ltb, eqb}
 use lib.Ieee.{Float}
+use Rattle.numbers.specs.FloatToFloat.{f32ToF64}
 use Rattle.numbers.specs.Scaling.{scaledF64}
 use Rattle.filters.specs.declared.bandwidth.Bandwidth.{Bandwidth}
 use Rattle.filters.specs.declared.time.Duration.{Duration}
@@ -17,9 +18,10 @@ smallerOf a b = record { 0 = min (a .0) (b .0) }
 abbrev pub isLess : Bandwidth → Bandwidth → Bool
 isLess a b = ltb (a .0) (b .0)
 
--- the product with an f32: bandwidth.rs, `self * rhs as f64`, and `(bits as f64 * rhs).round() as u64`. An f32's value is an f64's
+-- the product with an f32: bandwidth.rs, `self * rhs as f64`, and
+-- `(self.bits_per_second as f64 * rhs).round() as u64`
 unfoldable pub timesF32 : Bandwidth → Float → Bandwidth
-timesF32 b g = record { 0 = scaledF64 (b .0) g }
+timesF32 b g = record { 0 = scaledF64 (b .0) (f32ToF64 g) }
 
 -- bits in a byte times nanoseconds in a second: bandwidth.rs, 8 * NUM_NANOS_PER_SECOND
 abbrev pub nanosPerByte : ℕ

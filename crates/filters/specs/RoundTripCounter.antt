@@ -25,7 +25,7 @@ abbrev pub isPast : RoundEnd → ℕ → Bool
 isPast NotSet n = true
 isPast (At k) n = ltb k n
 
--- "the last of it is the largest acked. An empty slice ends no round"
+-- "the last of it is the largest acked. .. An empty slice ends no round"
 unfoldable pub endsRound : RoundEnd → List ℕ → Bool
 endsRound e acked = cond (eqb (length acked) 0) false (isPast e (getD acked (length acked - 1) 0))
 

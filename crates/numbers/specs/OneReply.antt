@@ -1,6 +1,6 @@
--- What "any two replies that a contract allows coincide" means, of a function that changes no lent memory. A contract
--- as the checker reads it, `Reads.Learnt` of the function, speaks of lifetimes, arguments, a reply and what is left
--- at the exit. A definition only.
+-- Document 01, "How much a contract says": "Show that any two replies allowed by it coincide". What that means of a
+-- function that changes no lent memory. A contract as the checker reads it, `Reads.Learnt` of the function, speaks of
+-- lifetimes, arguments, a reply and what is left at the exit. A definition only.
 use mathlib.Core.Path.{_≡_}
 
 -- whatever the arguments, two replies of which the contract holds are equal

@@ -12,11 +12,11 @@ use Rattle.numbers.specs.IntToFloat.{intToFloat}
 use Rattle.numbers.specs.FloatToInt.{floatToInt, roundAway}
 
 -- document 01, "Conversions and scaling": "scale(n, g): convert n, one f32 product, convert back"; network_model.rs,
--- `(n as f32 * g) as usize`
+-- `(self.inflight_lo as f32 * (1.0 - params.beta)) as usize`, and so with the loss threshold and the headroom
 unfoldable pub scaled : ℕ → Float → ℕ
 scaled n g = floatToInt 64 (mul binary32 (intToFloat binary32 n) g)
 
--- bandwidth.rs, `Mul<f64>`: `(n as f64 * g).round() as u64`
+-- bandwidth.rs, `Mul<f64>`: `(self.bits_per_second as f64 * rhs).round() as u64`
 unfoldable pub scaledF64 : ℕ → Float → ℕ
 scaledF64 n g = floatToInt 64 (roundAway binary64 (mul binary64 (intToFloat binary64 n) g))
 
