@@ -1,5 +1,5 @@
 -- The other calls that carry an event, or count rounds: network_model.rs, with document 01's refusals.
-use Prim.Native.Nat.{ℕ, _+_, _-_, _*_, _^_}
+use Prim.Native.Nat.{ℕ, max, _+_, _-_, _*_, _^_}
 use mathlib.Core.Bool.{Bool, true, false, cond, not, _&&_, _||_}
 use lib.Dec.{ltb, leb, eqb}
 use lib.Ieee.{Float}
@@ -82,9 +82,14 @@ growthFull m p e = not (hasGrown (m .growth) (maxGet (m .most)) p) && countsFlat
 unfoldable pub growthNext : NetworkModel → Params → Record → NetworkModel
 growthNext m p e = withGrowth m (growthAfter (m .growth) (maxGet (m .most)) (e .state) p)
 
--- ---- check_persistent_queue: the round queues unless its minimum inflight is below max(bdp at the target gain, bdp + 2 segments)
+-- ---- check_persistent_queue: the target is `.bdp(self.max_bandwidth(), target_gain)`
+-- `.max(self.bdp0() + self.queueing_threshold_extra_bytes())`, and the round queues unless
+-- `self.min_bytes_in_flight_in_round < target`
+unfoldable pub queueTarget : NetworkModel → Float → ℕ
+queueTarget m gain = max (bdpOf m (maxGet (m .most)) gain) (bdpOf m (maxGet (m .most)) one + 2 * 1300)
+
 unfoldable pub isQueueing : NetworkModel → Float → Bool
-isQueueing m gain = not (ltb (m .round .least) (bdpOf m (maxGet (m .most)) gain)) && not (ltb (m .round .least) (bdpOf m (maxGet (m .most)) one + 2 * 1300))
+isQueueing m gain = not (ltb (m .round .least) (queueTarget m gain))
 
 unfoldable pub queueAfter : Growth → Bool → Params → Growth
 queueAfter g queueing p =
