@@ -1,5 +1,5 @@
 -- Each call is refused exactly when its rows say (specs/Replies.antt): a line a call. Assumes nothing.
-use Prim.Native.Nat.{ℕ}
+use Prim.Native.Nat.{ℕ, zero, suc}
 use mathlib.Core.Bool.{Bool, true, false, cond, not, _&&_}
 use mathlib.Core.Path.{_≡_, refl, sym, subst, _∙_}
 use borrow.Author.Tests.{eq-eqb, ne-eqb}
@@ -11,13 +11,42 @@ use Rattle.filters.specs.WindowedFilter.{isAfter, windowedNumber, windowedUpdat
 use Rattle.model.specs.Answers.{settled}
 use Rattle.model.specs.Bounds.{rowOf}
 use Rattle.model.specs.Calls.{startNumber, startModel, storedNumber, givenNumber, sentNumber, postponeNumber, headroomNumber}
-use Rattle.model.proofs.Rows.{Row, row-holds, row-only}
+use Rattle.model.proofs.Rows.{None}
 use Rattle.events.specs.Event.{isFull, eventNumber}
 use Rattle.events.specs.Judge.{recordNumber, judgedNumber, growthFull, queueNumber}
 use Rattle.phases.specs.Cycle.{freshNumber, freshCycle}
 use Rattle.phases.specs.Phases.{entryNumber, exitNumber, slopeNumber}
 use Rattle.laws.specs.Replies.{rows, Exactly, Answered, isMost, EveryAnswer, EveryChange, EveryEvent, EveryPhase, EveryFilter, EveryReply}
 use Rattle.laws.proofs.Contracts.{settled-both}
+
+-- ---- refusal n is given exactly when row n holds and no lower row does
+abbrev Row : ℕ → Bool → Bool → Bool → Bool → Bool → Type 0
+Row zero s a e l f = None s a e l f
+Row (suc zero) s a e l f = s ≡ true
+Row (suc (suc zero)) s a e l f = (s ≡ false) × (a ≡ true)
+Row (suc (suc (suc zero))) s a e l f = (s ≡ false) × (a ≡ false) × (e ≡ true)
+Row (suc (suc (suc (suc zero)))) s a e l f = (s ≡ false) × (a ≡ false) × (e ≡ false) × (l ≡ true)
+Row (suc (suc (suc (suc (suc zero))))) s a e l f = (s ≡ false) × (a ≡ false) × (e ≡ false) × (l ≡ false) × (f ≡ true)
+Row (suc (suc (suc (suc (suc (suc n)))))) s a e l f = ⊥
+
+row-holds : (s a e l f : Bool) → Row (rowOf s a e l f) s a e l f
+unfolding rowOf
+row-holds true a e l f = refl
+row-holds false true e l f = (refl, refl)
+row-holds false false true l f = (refl, refl, refl)
+row-holds false false false true f = (refl, refl, refl, refl)
+row-holds false false false false true = (refl, refl, refl, refl, refl)
+row-holds false false false false false = record { stored-fine = refl; argument-fine = refl; in-order = refl; no-lower = refl; not-full = refl }
+
+row-only : (n : ℕ) (s a e l f : Bool) → Row n s a e l f → rowOf s a e l f ≡ n
+unfolding rowOf
+row-only zero s a e l f h = simp (h .stored-fine, h .argument-fine, h .in-order, h .no-lower, h .not-full)
+row-only (suc zero) s a e l f h = simp h
+row-only (suc (suc zero)) s a e l f h = simp (h .0, h .1)
+row-only (suc (suc (suc zero))) s a e l f h = simp (h .0, h .1, h .2)
+row-only (suc (suc (suc (suc zero)))) s a e l f h = simp (h .0, h .1, h .2, h .3)
+row-only (suc (suc (suc (suc (suc zero))))) s a e l f h = simp (h .0, h .1, h .2, h .3, h .4)
+row-only (suc (suc (suc (suc (suc (suc n)))))) s a e l f h = absurd h
 
 -- ---- the table's number
 module _ (s a e l f : Bool) where
