@@ -3,12 +3,14 @@
 -- for a yes or no, and an event's record as handed in". Below stands a line for each public call of document 01. It is
 -- said of every reply that the call's contract allows. Statements only; proofs/Replies.antt proves them.
 --
--- How to read it. `f a b` is the function f of a and b, `x .f` the field f of x, and `.0` and `.1` are the first and
--- the rest of a list of arguments. `A × B` is "A and B", `A → B` is "from A follows B", `(a : A) → B` is "B for every a
--- of the type A", `a ≡ b` is "a equals b", `⊥` is "never", `λ x. t` is "t, for x". Of tests, `&&` is "and", `||` is
--- "or", `ltb a b` is "a is below b", `eqb a b` is "a equals b". A contract, as the checker reads it, is `Reads.Learnt`
--- of its function. It speaks of lifetimes κ, of the arguments in the order of the source, written (first, (second,
--- tt)), of a reply x and of what is left at the exit. `now a` is what a lent slice a holds at the call.
+-- How to read it. `ℕ` is the whole numbers from 0, `Bool` is yes or no (`true` or `false`), and `Type 0` is the types
+-- and the statements. A `record` is several things or several statements at once, `abbrev` gives a name to what stands
+-- behind `=`. `f a b` is the function f of a and b, `x .f` the field f of x, and `.0` and `.1` are the first and the
+-- rest of a list of arguments. `A × B` is "A and B", `A → B` is "from A follows B", `(a : A) → B` is "B for every a of
+-- the type A", `a ≡ b` is "a equals b", `⊥` is "never", `λ x. t` is "t, for x". Of tests, `&&` is "and", `||` is "or",
+-- `ltb a b` is "a is below b", `eqb a b` is "a equals b". A contract, as the checker reads it, is `Reads.Learnt` of its
+-- function. It speaks of lifetimes κ, of the arguments in the order of the source, written (first, (second, tt)), of a
+-- reply x and of what is left at the exit. `now a` is what a lent slice a holds at the call.
 use Prim.Native.Nat.{ℕ, _-_, _*_, _^_}
 use mathlib.Core.Bool.{Bool, true, false, not, _&&_, _||_}
 use mathlib.Core.Path.{_≡_}
