@@ -2,7 +2,6 @@
 use mathlib.Core.Path.{sym, _∙_}
 use Rattle.numbers.specs.OneReply.{OneReply}
 use Rattle.encoding.proofs.cycle as cycle
-use Rattle.encoding.proofs.maybe as maybe
 use Rattle.encoding.proofs.network_model as model
 use Rattle.encoding.proofs.params as params
 use Rattle.encoding.proofs.record as event
@@ -25,23 +24,11 @@ one-float-of κ a x y s t p q = p ∙ sym q
 pub one-float-word : OneReply words.float_word.Reads.Learnt
 one-float-word κ a x y s t p q = p ∙ sym q
 
-pub one-bandwidth-of : OneReply maybe.bandwidth_of.Reads.Learnt
-one-bandwidth-of κ a x y s t p q = p ∙ sym q
-
-pub one-bandwidth-maybe : OneReply maybe.bandwidth_maybe.Reads.Learnt
-one-bandwidth-maybe κ a x y s t p q = p ∙ sym q
-
 pub one-model-of : OneReply model.model_of.Reads.Learnt
 one-model-of κ a x y s t p q = p ∙ sym q
 
-pub one-with-model : OneReply model.with_model.Reads.Learnt
-one-with-model κ a x y s t p q = p ∙ sym q
-
 pub one-cycle-of : OneReply cycle.cycle_of.Reads.Learnt
 one-cycle-of κ a x y s t p q = p ∙ sym q
-
-pub one-with-cycle : OneReply cycle.with_cycle.Reads.Learnt
-one-with-cycle κ a x y s t p q = p ∙ sym q
 
 pub one-state-words : OneReply state.state_words.Reads.Learnt
 one-state-words κ a x y s t p q = p ∙ sym q
@@ -51,12 +38,6 @@ one-record-of κ a x y s t p q = p ∙ sym q
 
 pub one-record-in : OneReply event.record_in.Reads.Learnt
 one-record-in κ a x y s t p q = p ∙ sym q
-
-pub one-length-of : OneReply event.length_of.Reads.Learnt
-one-length-of κ a x y s t p q = p ∙ sym q
-
-pub one-send-state-of : OneReply event.send_state_of.Reads.Learnt
-one-send-state-of κ a x y s t p q = p ∙ sym q
 
 pub one-record-words : OneReply event.record_words.Reads.Learnt
 one-record-words κ a x y s t p q = p ∙ sym q

@@ -103,7 +103,7 @@ fn up_bytes_of(set: u64, number: u64) -> MaybeBytes
 // ---- into words
 
 // The state's words with the cycle's put in.
-pub fn with_cycle(n: [u64; 50], cycle: Cycle) -> [u64; 50]
+pub(crate) fn with_cycle(n: [u64; 50], cycle: Cycle) -> [u64; 50]
     ensures { λ r. ⌜ r ≡ sets n 34 (cycleWords cycle) ⌝ }
 {
     let stay = cycle.stay;

@@ -26,7 +26,7 @@ pub(crate) fn number_in(set: u64, number: u64) -> u64
 }
 
 // The bandwidth in two words.
-pub fn bandwidth_of(set: u64, number: u64) -> MaybeBandwidth
+pub(crate) fn bandwidth_of(set: u64, number: u64) -> MaybeBandwidth
     ensures { λ r. ⌜ r ≡ bandwidthOf set number ⌝ }
 {
     if is_unset(set, number) {
@@ -37,7 +37,7 @@ pub fn bandwidth_of(set: u64, number: u64) -> MaybeBandwidth
 }
 
 // A bandwidth as two words.
-pub fn bandwidth_maybe(bandwidth: MaybeBandwidth) -> Maybe
+pub(crate) fn bandwidth_maybe(bandwidth: MaybeBandwidth) -> Maybe
     ensures { λ r. ⌜ r ≡ bandwidthMaybe bandwidth ⌝ }
 {
     match bandwidth {

@@ -137,7 +137,7 @@ fn rates_of(n: &[u64; 50]) -> Rates
 // ---- into words
 
 // The state's words with the model's put in.
-pub fn with_model(n: [u64; 50], model: NetworkModel) -> [u64; 50]
+pub(crate) fn with_model(n: [u64; 50], model: NetworkModel) -> [u64; 50]
     ensures { λ r. ⌜ r ≡ sets n 0 (modelWords model) ⌝ }
 {
     let rounds = model.rounds;

@@ -68,7 +68,7 @@ pub fn record_in(n: &[u64; 49]) -> [u64; 16]
 }
 
 // The length of time in two words.
-pub fn length_of(set: u64, number: u64) -> MaybeLength
+pub(crate) fn length_of(set: u64, number: u64) -> MaybeLength
     ensures { λ r. ⌜ r ≡ lengthOf set number ⌝ }
 {
     if is_unset(set, number) {
@@ -79,7 +79,7 @@ pub fn length_of(set: u64, number: u64) -> MaybeLength
 }
 
 // The send state in four words.
-pub fn send_state_of(valid: u64, limited: u64, acked: u64, inflight: u64) -> SendState
+pub(crate) fn send_state_of(valid: u64, limited: u64, acked: u64, inflight: u64) -> SendState
     ensures { λ r. ⌜ r ≡ sendStateOf valid limited acked inflight ⌝ }
 {
     SendState {

@@ -12,10 +12,6 @@ use Rattle.events.specs.declared.record.Record.{Record}
 use Rattle.filters.specs.declared.reply.Reply.{Reply}
 use Rattle.events.proofs.event as event
 use Rattle.events.proofs.judge as judge
-use Rattle.events.proofs.record.MaybeLength as record-maybelength
-use Rattle.events.proofs.record.Record as record-record
-use Rattle.events.proofs.record.Sample as record-sample
-use Rattle.events.proofs.record.SendState as record-sendstate
 
 pub decided : {a a′ : Reply} {b b′ : NetworkModel} {c c′ : Bool} → a ≡ a′ → b ≡ b′ → c ≡ c′ → _≡_ {A = Decided} (record { reply = a; model = b; yes = c }) (record { reply = a′; model = b′; yes = c′ })
 decided p q r = cc
@@ -46,15 +42,3 @@ one-judge-has-bandwidth-growth κ a x y s t p q = decided (number-injective _ _ 
 
 pub one-judge-check-persistent-queue : OneReply judge.check_persistent_queue.Reads.Learnt
 one-judge-check-persistent-queue κ a x y s t p q = changed (number-injective _ _ (p .0 ∙ sym (q .0))) (p .1 ∙ sym (q .1))
-
-pub one-record-maybelength-ok : OneReply record-maybelength.ok.Reads.Learnt
-one-record-maybelength-ok κ a x y s t p q = p ∙ sym q
-
-pub one-record-sendstate-ok : OneReply record-sendstate.ok.Reads.Learnt
-one-record-sendstate-ok κ a x y s t p q = p ∙ sym q
-
-pub one-record-record-ok : OneReply record-record.ok.Reads.Learnt
-one-record-record-ok κ a x y s t p q = p ∙ sym q
-
-pub one-record-sample-ok : OneReply record-sample.ok.Reads.Learnt
-one-record-sample-ok κ a x y s t p q = p ∙ sym q

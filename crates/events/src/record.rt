@@ -58,7 +58,7 @@ pub struct Sample {
 }
 
 impl MaybeLength {
-    pub fn ok(self) -> bool
+    pub(crate) fn ok(self) -> bool
         ensures { λ r. ⌜ r ≡ maybeLengthOk self ⌝ }
     {
         let MaybeLength::Length(length) = self else {
@@ -69,7 +69,7 @@ impl MaybeLength {
 }
 
 impl SendState {
-    pub fn ok(self) -> bool
+    pub(crate) fn ok(self) -> bool
         ensures { λ r. ⌜ r ≡ stateOk self ⌝ }
     {
         total_ok(self.acked) & bytes_ok(self.inflight)
@@ -78,7 +78,7 @@ impl SendState {
 
 impl Record {
     // Whether every number is within its bounds.
-    pub fn ok(self) -> bool
+    pub(crate) fn ok(self) -> bool
         ensures { λ r. ⌜ r ≡ recordOk self ⌝ }
     {
         let time = self.time;
@@ -99,7 +99,7 @@ impl Record {
 
 impl Sample {
     // Whether every number is within its bounds.
-    pub fn ok(self) -> bool
+    pub(crate) fn ok(self) -> bool
         ensures { λ r. ⌜ r ≡ sampleOk self ⌝ }
     {
         let bandwidth = self.bandwidth;

@@ -17,20 +17,10 @@ use Rattle.filters.specs.declared.time.Moment.{Moment}
 use Rattle.model.specs.declared.network_model.NetworkModel.{NetworkModel}
 use Rattle.filters.specs.declared.reply.Reply.{Reply}
 use Prim.Native.Nat.{ℕ}
-use Rattle.model.proofs.answers.BandwidthRead as answers-bandwidthread
 use Rattle.model.proofs.answers.Flag as answers-flag
-use Rattle.model.proofs.answers.GainRead as answers-gainread
-use Rattle.model.proofs.answers.LengthRead as answers-lengthread
-use Rattle.model.proofs.answers.MomentRead as answers-momentread
-use Rattle.model.proofs.answers.Number as answers-number
 use Rattle.model.proofs.bounds as bounds
 use Rattle.model.proofs.network_model.NetworkModel as network-model-networkmodel
 use Rattle.model.proofs.params.Params as params-params
-use Rattle.model.proofs.state.Gains as state-gains
-use Rattle.model.proofs.state.Growth as state-growth
-use Rattle.model.proofs.state.Latest as state-latest
-use Rattle.model.proofs.state.Lower as state-lower
-use Rattle.model.proofs.state.Rates as state-rates
 use Rattle.model.proofs.state.Round as state-round
 use Rattle.model.proofs.state.Totals as state-totals
 
@@ -55,29 +45,11 @@ momentread p q = cc
 pub number : {a a′ : Reply} {b b′ : ℕ} → a ≡ a′ → b ≡ b′ → _≡_ {A = Number} (record { reply = a; value = b }) (record { reply = a′; value = b′ })
 number p q = cc
 
-pub one-answers-number-of : OneReply answers-number.of.Reads.Learnt
-one-answers-number-of κ a x y s t p q = number (p .0 ∙ sym (q .0)) (p .1 ∙ sym (q .1))
-
 pub one-answers-flag-of : OneReply answers-flag.of.Reads.Learnt
 one-answers-flag-of κ a x y s t p q = flag (p .0 ∙ sym (q .0)) (p .1 ∙ sym (q .1))
 
-pub one-answers-gainread-of : OneReply answers-gainread.of.Reads.Learnt
-one-answers-gainread-of κ a x y s t p q = gainread (p .0 ∙ sym (q .0)) (p .1 ∙ sym (q .1))
-
-pub one-answers-bandwidthread-of : OneReply answers-bandwidthread.of.Reads.Learnt
-one-answers-bandwidthread-of κ a x y s t p q = bandwidthread (p .0 ∙ sym (q .0)) (p .1 ∙ sym (q .1))
-
-pub one-answers-lengthread-of : OneReply answers-lengthread.of.Reads.Learnt
-one-answers-lengthread-of κ a x y s t p q = lengthread (p .0 ∙ sym (q .0)) (p .1 ∙ sym (q .1))
-
-pub one-answers-momentread-of : OneReply answers-momentread.of.Reads.Learnt
-one-answers-momentread-of κ a x y s t p q = momentread (p .0 ∙ sym (q .0)) (p .1 ∙ sym (q .1))
-
 pub one-bounds-bytes-ok : OneReply bounds.bytes_ok.Reads.Learnt
 one-bounds-bytes-ok κ a x y s t p q = p ∙ sym q
-
-pub one-bounds-bytes-or-unset-ok : OneReply bounds.bytes_or_unset_ok.Reads.Learnt
-one-bounds-bytes-or-unset-ok κ a x y s t p q = p ∙ sym q
 
 pub one-bounds-total-ok : OneReply bounds.total_ok.Reads.Learnt
 one-bounds-total-ok κ a x y s t p q = p ∙ sym q
@@ -88,14 +60,8 @@ one-bounds-moment-ok κ a x y s t p q = p ∙ sym q
 pub one-bounds-length-ok : OneReply bounds.length_ok.Reads.Learnt
 one-bounds-length-ok κ a x y s t p q = p ∙ sym q
 
-pub one-bounds-bandwidth-ok : OneReply bounds.bandwidth_ok.Reads.Learnt
-one-bounds-bandwidth-ok κ a x y s t p q = p ∙ sym q
-
 pub one-bounds-maybe-ok : OneReply bounds.maybe_ok.Reads.Learnt
 one-bounds-maybe-ok κ a x y s t p q = p ∙ sym q
-
-pub one-bounds-fraction-ok : OneReply bounds.fraction_ok.Reads.Learnt
-one-bounds-fraction-ok κ a x y s t p q = p ∙ sym q
 
 pub one-bounds-gain-ok : OneReply bounds.gain_ok.Reads.Learnt
 one-bounds-gain-ok κ a x y s t p q = p ∙ sym q
@@ -108,9 +74,6 @@ one-network-model-networkmodel-ok κ a x y s t p q = p ∙ sym q
 
 pub one-network-model-networkmodel-new : OneReply network-model-networkmodel.new.Reads.Learnt
 one-network-model-networkmodel-new κ a x y s t p q = changed (number-injective _ _ (p .0 ∙ sym (q .0))) (p .1 ∙ sym (q .1))
-
-pub one-network-model-networkmodel-settle : OneReply network-model-networkmodel.settle.Reads.Learnt
-one-network-model-networkmodel-settle κ a x y s t p q = changed (p .0 ∙ sym (q .0)) (p .1 ∙ sym (q .1))
 
 pub one-network-model-networkmodel-on-packet-sent : OneReply network-model-networkmodel.on_packet_sent.Reads.Learnt
 one-network-model-networkmodel-on-packet-sent κ a x y s t p q = changed (number-injective _ _ (p .0 ∙ sym (q .0))) (p .1 ∙ sym (q .1))
@@ -231,30 +194,6 @@ one-params-params-ok κ a x y s t p q = p ∙ sym q
 
 pub one-state-round-new : OneReply state-round.new.Reads.Learnt
 one-state-round-new κ a x y s t p q = p ∙ sym q
-
-pub one-state-round-sent : OneReply state-round.sent.Reads.Learnt
-one-state-round-sent κ a x y s t p q = p ∙ sym q
-
-pub one-state-round-ok : OneReply state-round.ok.Reads.Learnt
-one-state-round-ok κ a x y s t p q = p ∙ sym q
-
-pub one-state-latest-ok : OneReply state-latest.ok.Reads.Learnt
-one-state-latest-ok κ a x y s t p q = p ∙ sym q
-
-pub one-state-lower-capped : OneReply state-lower.capped.Reads.Learnt
-one-state-lower-capped κ a x y s t p q = p ∙ sym q
-
-pub one-state-lower-ok : OneReply state-lower.ok.Reads.Learnt
-one-state-lower-ok κ a x y s t p q = p ∙ sym q
-
-pub one-state-gains-ok : OneReply state-gains.ok.Reads.Learnt
-one-state-gains-ok κ a x y s t p q = p ∙ sym q
-
-pub one-state-growth-ok : OneReply state-growth.ok.Reads.Learnt
-one-state-growth-ok κ a x y s t p q = p ∙ sym q
-
-pub one-state-rates-ok : OneReply state-rates.ok.Reads.Learnt
-one-state-rates-ok κ a x y s t p q = p ∙ sym q
 
 pub one-state-totals-ok : OneReply state-totals.ok.Reads.Learnt
 one-state-totals-ok κ a x y s t p q = p ∙ sym q

@@ -40,7 +40,7 @@ pub struct MomentRead {
 
 impl Number {
     // The value, or 0 where the call is refused.
-    pub fn of(reply: Reply, value: u64) -> Number
+    pub(crate) fn of(reply: Reply, value: u64) -> Number
         ensures reply { λ r. ⌜ r .reply ≡ reply ⌝ }
         ensures value { λ r. ⌜ r .value ≡ settled (number reply) value 0 ⌝ }
     {
@@ -68,7 +68,7 @@ impl Flag {
 
 impl GainRead {
     // The gain, or 0 where the call is refused.
-    pub fn of(reply: Reply, gain: f32) -> GainRead
+    pub(crate) fn of(reply: Reply, gain: f32) -> GainRead
         ensures reply { λ r. ⌜ r .reply ≡ reply ⌝ }
         ensures gain { λ r. ⌜ r .gain ≡ settled (number reply) gain noGain ⌝ }
     {
@@ -82,7 +82,7 @@ impl GainRead {
 
 impl BandwidthRead {
     // The bandwidth, or 0 where the call is refused.
-    pub fn of(reply: Reply, bandwidth: Bandwidth) -> BandwidthRead
+    pub(crate) fn of(reply: Reply, bandwidth: Bandwidth) -> BandwidthRead
         ensures reply { λ r. ⌜ r .reply ≡ reply ⌝ }
         ensures bandwidth { λ r. ⌜ r .bandwidth ≡ settled (number reply) bandwidth noBandwidth ⌝ }
     {
@@ -99,7 +99,7 @@ impl BandwidthRead {
 
 impl LengthRead {
     // The length of time, or 0 where the call is refused.
-    pub fn of(reply: Reply, length: Duration) -> LengthRead
+    pub(crate) fn of(reply: Reply, length: Duration) -> LengthRead
         ensures reply { λ r. ⌜ r .reply ≡ reply ⌝ }
         ensures length { λ r. ⌜ r .length ≡ settled (number reply) length noLength ⌝ }
     {
@@ -116,7 +116,7 @@ impl LengthRead {
 
 impl MomentRead {
     // The moment, or 0 where the call is refused.
-    pub fn of(reply: Reply, moment: Moment) -> MomentRead
+    pub(crate) fn of(reply: Reply, moment: Moment) -> MomentRead
         ensures reply { λ r. ⌜ r .reply ≡ reply ⌝ }
         ensures moment { λ r. ⌜ r .moment ≡ settled (number reply) moment noMoment ⌝ }
     {

@@ -24,7 +24,7 @@ pub fn bytes_ok(n: u64) -> bool
 }
 
 // A byte count that may also be unset.
-pub fn bytes_or_unset_ok(n: u64) -> bool
+pub(crate) fn bytes_or_unset_ok(n: u64) -> bool
     ensures { λ r. ⌜ r ≡ bytesOrUnsetOk n ⌝ }
 {
     (n <= MOST_BYTES) | (n == UNSET)
@@ -52,7 +52,7 @@ pub fn length_ok(d: Duration) -> bool
 }
 
 // A bandwidth is at most 2^40 bits per second.
-pub fn bandwidth_ok(b: Bandwidth) -> bool
+pub(crate) fn bandwidth_ok(b: Bandwidth) -> bool
     ensures { λ r. ⌜ r ≡ bandwidthOk b ⌝ }
 {
     b.0 <= MOST_BYTES
@@ -69,7 +69,7 @@ pub fn maybe_ok(b: MaybeBandwidth) -> bool
 }
 
 // A threshold or a headroom is from 0 to 1; a NaN is not.
-pub fn fraction_ok(x: f32) -> bool
+pub(crate) fn fraction_ok(x: f32) -> bool
     ensures { λ r. ⌜ r ≡ fractionOk x ⌝ }
 {
     (0.0 <= x) & (x <= 1.0)

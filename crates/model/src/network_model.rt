@@ -210,7 +210,7 @@ impl NetworkModel {
     }
 
     // The next model where the call is done; this one where it is refused.
-    pub fn settle(self, reply: Reply, next: NetworkModel) -> Changed
+    pub(crate) fn settle(self, reply: Reply, next: NetworkModel) -> Changed
         ensures reply { λ r. ⌜ r .reply ≡ reply ⌝ }
         ensures model { λ r. ⌜ r .model ≡ settled (number reply) next self ⌝ }
     {

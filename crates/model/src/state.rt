@@ -83,7 +83,7 @@ impl Round {
     }
 
     // The sums after a send: the bytes in flight before it, and whether it reached inflight_hi.
-    pub fn sent(self, inflight: u64, hit: bool) -> Round
+    pub(crate) fn sent(self, inflight: u64, hit: bool) -> Round
         ensures { λ r. ⌜ r ≡ roundSent self inflight hit ⌝ }
     {
         Round {
@@ -96,7 +96,7 @@ impl Round {
     }
 
     // Within the bounds, and no more than the totals.
-    pub fn ok(self, totals: Totals) -> bool
+    pub(crate) fn ok(self, totals: Totals) -> bool
         ensures { λ r. ⌜ r ≡ roundOk self totals ⌝ }
     {
         total_ok(self.lost)
@@ -108,7 +108,7 @@ impl Round {
 }
 
 impl Latest {
-    pub fn ok(self) -> bool
+    pub(crate) fn ok(self) -> bool
         ensures { λ r. ⌜ r ≡ latestOk self ⌝ }
     {
         let bandwidth = self.bandwidth;
@@ -118,7 +118,7 @@ impl Latest {
 
 impl Lower {
     // inflight_lo at most the cap; an unset one stays so.
-    pub fn capped(self, cap: u64) -> Lower
+    pub(crate) fn capped(self, cap: u64) -> Lower
         ensures { λ r. ⌜ r ≡ lowerCapped self cap ⌝ }
     {
         if self.inflight == UNSET {
@@ -129,7 +129,7 @@ impl Lower {
         next
     }
 
-    pub fn ok(self) -> bool
+    pub(crate) fn ok(self) -> bool
         ensures { λ r. ⌜ r ≡ lowerOk self ⌝ }
     {
         let bandwidth = self.bandwidth;
@@ -138,7 +138,7 @@ impl Lower {
 }
 
 impl Gains {
-    pub fn ok(self) -> bool
+    pub(crate) fn ok(self) -> bool
         ensures { λ r. ⌜ r ≡ gainsOk self ⌝ }
     {
         gain_ok(self.cwnd) & gain_ok(self.pacing)
@@ -146,7 +146,7 @@ impl Gains {
 }
 
 impl Growth {
-    pub fn ok(self) -> bool
+    pub(crate) fn ok(self) -> bool
         ensures { λ r. ⌜ r ≡ growthOk self ⌝ }
     {
         let baseline = self.baseline;
@@ -155,7 +155,7 @@ impl Growth {
 }
 
 impl Rates {
-    pub fn ok(self) -> bool
+    pub(crate) fn ok(self) -> bool
         ensures { λ r. ⌜ r ≡ ratesOk self ⌝ }
     {
         let send = self.send;

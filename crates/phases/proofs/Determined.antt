@@ -9,7 +9,6 @@ use Rattle.numbers.specs.OneReply.{OneReply}
 use Rattle.filters.proofs.reply.Number.{number-injective}
 use Rattle.phases.proofs.cycle.Cycle as cycle
 use Rattle.phases.proofs.cycle.Slope as slope
-use Rattle.phases.proofs.cycle.Stay as stay
 use Rattle.phases.proofs.phases as phases
 
 entered :
@@ -21,9 +20,6 @@ turned :
     {r s : Reply} {c d : Cycle} → r ≡ s → c ≡ d →
     _≡_ {A = Turned} (record { reply = r; cycle = c }) (record { reply = s; cycle = d })
 turned p q = cc
-
-pub one-stay-from : OneReply stay.from.Reads.Learnt
-one-stay-from κ a x y s t p q = p ∙ sym q
 
 pub one-slope-raised : OneReply slope.raised.Reads.Learnt
 one-slope-raised κ a x y s t p q = p ∙ sym q

@@ -123,7 +123,7 @@ fn next_rounds(rounds: u64) -> u64
 
 impl Stay {
     // A phase that begins now.
-    pub fn from(phase: CyclePhase, now: Moment) -> Stay
+    pub(crate) fn from(phase: CyclePhase, now: Moment) -> Stay
         ensures { λ r. ⌜ r ≡ stayFrom phase now ⌝ }
     {
         Stay {
