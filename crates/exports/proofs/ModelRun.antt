@@ -80,7 +80,7 @@ pub length-words-left : (state src : List ℕ) → length (wordsLeft state src) 
 unfolding wordsLeft
 length-words-left state src = length-left (modelOf (stateIn state)) (cycleOf (stateIn state)) src 0 (callsIn src)
 
-length-answer : (m : NetworkModel) (y : Cycle) (src : List ℕ) (at : ℕ) → length (allBytes (answerWords (turnAt m y src at))) ≡ 144
+pub length-answer : (m : NetworkModel) (y : Cycle) (src : List ℕ) (at : ℕ) → length (allBytes (answerWords (turnAt m y src at))) ≡ 144
 unfolding answerWords
 length-answer m y src at = length-allBytes (answerWords (turnAt m y src at)) ∙ rw (length-event m y src at)
 
