@@ -1,0 +1,43 @@
+-- The runs worked out in bytes: one list of facts, which antt computes. Assumes nothing.
+use mathlib.Core.Bool.{true}
+use mathlib.Core.Path.{_≡_, refl}
+use lib.Ieee as Ieee
+use Rattle.numbers.specs.Scaling.{scaled, scaledF64}
+use Rattle.numbers.specs.FloatToInt.{roundAway}
+use Rattle.filters.specs.Bandwidth.{timesF32}
+use Rattle.filters.specs.MaxBandwidthFilter.{maxGet, maxUpdate}
+use Rattle.filters.specs.RoundTripCounter.{roundsSent, endsRound, roundsFull, roundsEnded, roundsAcked}
+use Rattle.model.specs.Answers.{settled}
+use Rattle.model.specs.Bounds.{all, within, paramsOk, roundOk, modelTests, rowOf}
+use Rattle.model.specs.Calls.{withRounds, withRound, withLower, withMoment, modelNew, startNumber, startModel, storedNumber, givenNumber, sentNumber, sentNext}
+use Rattle.model.specs.State.{roundSent, lowerCapped}
+use Rattle.events.specs.Event.{recordTests, sampleTests, stateAfter, deliveredBy, roundAfter, latestRaised, lowerReduced, lowerAfter, latestAfter, recordOf, recordNext, mostNext, roundNext, lowerNext, modelOf, modelNext, isFull, eventNumber, limitedAfter}
+use Rattle.phases.specs.Cycle.{cycleNew, stayFrom, freshNumber, freshCycle, cycleTests}
+use Rattle.words.specs.Words.{numberAt, lowBytes, wordsAt, allBytes}
+use Rattle.encoding.specs.NetworkModel as N
+use Rattle.encoding.specs.Cycle.{cycleOf, cycleWords}
+use Rattle.encoding.specs.Params.{paramsOf}
+use Rattle.encoding.specs.Record.{recordFits, recordFrom, wordsFrom, recordWords}
+use Rattle.encoding.specs.Sample.{sampleFits, sampleOf, ackedOf}
+use Rattle.calls.specs.Ask.{askOf, readOf, readMore}
+use Rattle.calls.specs.Enter.{enterOf}
+use Rattle.turns.specs.Turn.{startTurn, sendTurn, eventTurn, finishTurn, judgeTurn, askTurn, enterTurn, changeTurn, turnOf}
+use Rattle.exports.specs.ModelRun.{sameWords, isState, encodesNone, turnAt, answerWords, answersTo, leftBy, answersFrom, wordsLeft, modelRow, answersOut, stateOut}
+use Rattle.exports.specs.Reply.{orShort, answered}
+use Rattle.drift.specs.Calls.{otherNumber, numberOf, otherNext, nextOf, after}
+use Rattle.drift.specs.Exact.{isReduced, inflightTurn, exactly}
+use Rattle.theorems.specs.Steps.{judgeStep, enterStep, changeStep, stepOf, begun, afterStep, stepsFrom, walk, exactStep, exactWalk}
+use Rattle.theorems.specs.Runs.{stateFrom, exactAfter, exactRuns, lowWord}
+use Rattle.theorems.specs.Examples.{firstExamples, secondExamples, thirdExamples}
+
+pub first-examples : all firstExamples ≡ true
+unfolding firstExamples scaled scaledF64 roundAway timesF32 Ieee.round Ieee.ofBits Ieee.toBits Ieee.sub Ieee.mul Ieee.ofInt Ieee.toUnsigned Ieee.eq Ieee.le maxGet maxUpdate roundsSent endsRound roundsFull roundsEnded roundsAcked settled within paramsOk roundOk modelTests rowOf withRounds withRound withLower withMoment modelNew startNumber startModel storedNumber givenNumber sentNumber sentNext lowerCapped roundSent recordTests sampleTests stateAfter deliveredBy roundAfter latestRaised lowerReduced lowerAfter latestAfter recordOf recordNext mostNext roundNext lowerNext modelOf modelNext isFull eventNumber limitedAfter cycleNew stayFrom freshNumber freshCycle cycleTests numberAt lowBytes wordsAt allBytes N.modelOf N.modelWords cycleOf cycleWords paramsOf recordFits recordFrom wordsFrom recordWords sampleFits sampleOf ackedOf askOf readOf readMore enterOf startTurn sendTurn eventTurn finishTurn judgeTurn askTurn enterTurn changeTurn turnOf sameWords isState encodesNone turnAt answerWords answersTo leftBy answersFrom wordsLeft modelRow answersOut stateOut orShort answered otherNumber numberOf otherNext nextOf after isReduced inflightTurn exactly judgeStep enterStep changeStep stepOf begun afterStep stateFrom stepsFrom walk exactStep exactWalk exactAfter exactRuns lowWord
+first-examples = refl
+
+pub second-examples : all secondExamples ≡ true
+unfolding secondExamples scaled scaledF64 roundAway timesF32 Ieee.round Ieee.ofBits Ieee.toBits Ieee.sub Ieee.mul Ieee.ofInt Ieee.toUnsigned Ieee.eq Ieee.le maxGet maxUpdate roundsSent endsRound roundsFull roundsEnded roundsAcked settled within paramsOk roundOk modelTests rowOf withRounds withRound withLower withMoment modelNew startNumber startModel storedNumber givenNumber sentNumber sentNext lowerCapped roundSent recordTests sampleTests stateAfter deliveredBy roundAfter latestRaised lowerReduced lowerAfter latestAfter recordOf recordNext mostNext roundNext lowerNext modelOf modelNext isFull eventNumber limitedAfter cycleNew stayFrom freshNumber freshCycle cycleTests numberAt lowBytes wordsAt allBytes N.modelOf N.modelWords cycleOf cycleWords paramsOf recordFits recordFrom wordsFrom recordWords sampleFits sampleOf ackedOf askOf readOf readMore enterOf startTurn sendTurn eventTurn finishTurn judgeTurn askTurn enterTurn changeTurn turnOf sameWords isState encodesNone turnAt answerWords answersTo leftBy answersFrom wordsLeft modelRow answersOut stateOut orShort answered otherNumber numberOf otherNext nextOf after isReduced inflightTurn exactly judgeStep enterStep changeStep stepOf begun afterStep stateFrom stepsFrom walk exactStep exactWalk exactAfter exactRuns lowWord
+second-examples = refl
+
+pub third-examples : all thirdExamples ≡ true
+unfolding thirdExamples scaled scaledF64 roundAway timesF32 Ieee.round Ieee.ofBits Ieee.toBits Ieee.sub Ieee.mul Ieee.ofInt Ieee.toUnsigned Ieee.eq Ieee.le maxGet maxUpdate roundsSent endsRound roundsFull roundsEnded roundsAcked settled within paramsOk roundOk modelTests rowOf withRounds withRound withLower withMoment modelNew startNumber startModel storedNumber givenNumber sentNumber sentNext lowerCapped roundSent recordTests sampleTests stateAfter deliveredBy roundAfter latestRaised lowerReduced lowerAfter latestAfter recordOf recordNext mostNext roundNext lowerNext modelOf modelNext isFull eventNumber limitedAfter cycleNew stayFrom freshNumber freshCycle cycleTests numberAt lowBytes wordsAt allBytes N.modelOf N.modelWords cycleOf cycleWords paramsOf recordFits recordFrom wordsFrom recordWords sampleFits sampleOf ackedOf askOf readOf readMore enterOf startTurn sendTurn eventTurn finishTurn judgeTurn askTurn enterTurn changeTurn turnOf sameWords isState encodesNone turnAt answerWords answersTo leftBy answersFrom wordsLeft modelRow answersOut stateOut orShort answered otherNumber numberOf otherNext nextOf after isReduced inflightTurn exactly judgeStep enterStep changeStep stepOf begun afterStep stateFrom stepsFrom walk exactStep exactWalk exactAfter exactRuns lowWord
+third-examples = refl

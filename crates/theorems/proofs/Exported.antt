@@ -1,0 +1,171 @@
+-- The exported calls by their contracts: each replies and leaves what its definition says, and is refused by its rows. Assumes nothing.
+use Prim.Native.Nat.{ℕ}
+use mathlib.Core.Bool.{Bool, true, false, not, _&&_}
+use mathlib.Core.List.{List}
+use mathlib.Core.Logic.{_↔_}
+use mathlib.Core.Path.{_≡_, refl, sym, subst, _∙_}
+use lib.Dec.{eqb}
+use lib.ListN.{length}
+use borrow.Author.Tests.{eq-eqb, ne-eqb, eqb-true}
+use Rattle.model.specs.Bounds.{rowOf}
+use Rattle.model.proofs.Rows.{and-left, and-right}
+use Rattle.exports.specs.Reply.{orShort, answered}
+use Rattle.exports.specs.FilterRun.{pairs, runRow, runOut}
+use Rattle.exports.specs.ModelRun.{modelRow, stateOut, answersOut}
+use Rattle.exports.specs.Slope.{slopeRow, slopeOut}
+use Rattle.theorems.specs.Runs.{Run, Ran, FilterRun, Filtered, SlopeRun, Raised, OneOutcome, Conversions, FirstRow, RunRow, FilterRow, SlopeRow}
+
+-- ---- what is replied and left
+pub run-is : (r : Run) → Ran r →
+    (r .reply ≡ modelRow (r .state) (r .calls) (length (r .answers))) × (r .left ≡ stateOut (r .state) (r .calls) (r .answers)) × (r .written ≡ answersOut (r .state) (r .calls) (r .answers))
+run-is r h =
+    let c = h .4 in
+    let f = h .5 in (
+      sym (f .3) ∙ c .0 ∙ (λ i. modelRow (f .0 i) (f .1 i) (length (f .2 i))),
+      sym (f .4) ∙ c .1 .0 ∙ (λ i. stateOut (f .0 i) (f .1 i) (f .2 i)),
+      sym (f .5) ∙ c .1 .1 ∙ (λ i. answersOut (f .0 i) (f .1 i) (f .2 i)),
+    )
+
+pub filter-is : (r : FilterRun) → Filtered r → (r .reply ≡ runRow (r .window) (r .pairs) (length (r .output))) × (r .written ≡ runOut (r .window) (r .pairs) (r .output))
+filter-is r h =
+    let c = h .4 in
+    let f = h .5 in (
+      sym (f .3) ∙ c .0 ∙ (λ i. runRow (f .0 i) (f .1 i) (length (f .2 i))),
+      sym (f .4) ∙ c .1 ∙ (λ i. runOut (f .0 i) (f .1 i) (f .2 i)),
+    )
+
+pub slope-is : (r : SlopeRun) → Raised r → (r .reply ≡ slopeRow (r .rounds) (r .window) (length (r .output))) × (r .written ≡ slopeOut (r .rounds) (r .window) (r .output))
+slope-is r h =
+    let c = h .4 in
+    let f = h .5 in (
+      sym (f .3) ∙ c .0 ∙ (λ i. slopeRow (f .0 i) (f .1 i) (length (f .2 i))),
+      sym (f .4) ∙ c .1 ∙ (λ i. slopeOut (f .0 i) (f .1 i) (f .2 i)),
+    )
+
+pub conversions : Conversions
+conversions =
+    record {
+      u64-to-f32 = λ κ a n e c. c;
+      u64-to-f64 = λ κ a n e c. c;
+      f32-to-u64 = λ κ a n e c. c;
+      f64-round-to-u64 = λ κ a n e c. c;
+      scale = λ κ a n e c. c;
+      bandwidth = λ κ a n e c. c;
+      bytes = λ κ a n e c. c;
+    }
+
+pub one-outcome : OneOutcome
+one-outcome =
+    record {
+      run = λ r q h k e.
+        let a = run-is r h in
+        let b = run-is q k in (
+          a .0 ∙ (λ i. modelRow (e .0 i) (e .1 i) (length (e .2 i))) ∙ sym (b .0),
+          a .1 ∙ (λ i. stateOut (e .0 i) (e .1 i) (e .2 i)) ∙ sym (b .1),
+          a .2 ∙ (λ i. answersOut (e .0 i) (e .1 i) (e .2 i)) ∙ sym (b .2),
+        );
+      filter-run = λ r q h k e.
+        let a = filter-is r h in
+        let b = filter-is q k in
+        (a .0 ∙ (λ i. runRow (e .0 i) (e .1 i) (length (e .2 i))) ∙ sym (b .0), a .1 ∙ (λ i. runOut (e .0 i) (e .1 i) (e .2 i)) ∙ sym (b .1));
+      raise-slope = λ r q h k e.
+        let a = slope-is r h in
+        let b = slope-is q k in
+        (a .0 ∙ (λ i. slopeRow (e .0 i) (e .1 i) (length (e .2 i))) ∙ sym (b .0), a .1 ∙ (λ i. slopeOut (e .0 i) (e .1 i) (e .2 i)) ∙ sym (b .1));
+    }
+
+-- ---- refused, lent bytes are as they were
+answered-refused : (row : ℕ) (answer out : List ℕ) → (row ≡ 0 → ⊥) → answered row answer out ≡ out
+unfolding answered
+answered-refused row answer out h = rw (ne-eqb row 0 h)
+
+pub run-keeps : (r : Run) → Ran r → (r .reply ≡ 0 → ⊥) → (r .left ≡ r .state) × (r .written ≡ r .answers)
+unfolding stateOut answersOut
+run-keeps r h refused =
+    let d = run-is r h in
+    let f : modelRow (r .state) (r .calls) (length (r .answers)) ≡ 0 → ⊥ = λ e. refused (d .0 ∙ e) in
+    (d .1 ∙ answered-refused _ _ _ f, d .2 ∙ answered-refused _ _ _ f)
+
+pub filter-keeps : (r : FilterRun) → Filtered r → (r .reply ≡ 0 → ⊥) → r .written ≡ r .output
+unfolding runOut
+filter-keeps r h refused = let d = filter-is r h in d .1 ∙ answered-refused _ _ _ (λ e. refused (d .0 ∙ e))
+
+pub slope-keeps : (r : SlopeRun) → Raised r → (r .reply ≡ 0 → ⊥) → r .written ≡ r .output
+unfolding slopeOut
+slope-keeps r h refused = let d = slope-is r h in d .1 ∙ answered-refused _ _ _ (λ e. refused (d .0 ∙ e))
+
+-- ---- the rows
+holds : (n k : ℕ) (t : Bool) → eqb n k ≡ t → n ≡ k ↔ t ≡ true
+holds n k t h = (λ e. sym h ∙ eq-eqb n k e, λ e. eqb-true n k (h ∙ e))
+
+not-iff : (a : Bool) → not a ≡ true ↔ a ≡ false
+not-iff true = (λ e. sym e, λ e. sym e)
+not-iff false = (λ e. refl, λ e. refl)
+
+and-iff : (a b : Bool) → (a && b) ≡ true ↔ (a ≡ true) × (b ≡ true)
+and-iff a b = (λ e. (and-left a b e, and-right a b e), λ e. simp (e .0, e .1))
+
+-- the first does not hold, and the second does; or both do not
+second : (a b : Bool) → (not a && b) ≡ true ↔ (a ≡ false) × (b ≡ true)
+second a b = (λ e. let h = and-iff (not a) b .0 e in (not-iff a .0 (h .0), h .1), λ e. simp (e .0, e .1))
+
+third : (a b c : Bool) → (not a && not b && c) ≡ true ↔ (a ≡ false) × (b ≡ false) × (c ≡ true)
+third a b c = (
+  λ e.
+      let h = and-iff (not a && not b) c .0 e in
+      let g = and-iff (not a) (not b) .0 (h .0) in
+      (not-iff a .0 (g .0), not-iff b .0 (g .1), h .1),
+  λ e. simp (e .0, e .1, e .2),
+)
+
+fourth : (a b c : Bool) → (not a && not b && not c) ≡ true ↔ (a ≡ false) × (b ≡ false) × (c ≡ false)
+fourth a b c = (λ e. let h = third a b (not c) .0 e in (h .0, h .1, not-iff c .0 (h .2)), λ e. simp (e .0, e .1, e .2))
+
+both-ways : {A B C : Type 0} → A ↔ B → B ↔ C → A ↔ C
+both-ways p q = (λ a. q .0 (p .0 a), λ c. p .1 (q .1 c))
+
+-- a number that tells the four cases apart
+abbrev Tells : (n one two : ℕ) → (a b c : Bool) → Type 0
+Tells n one two a b c = (eqb n one ≡ a) × (eqb n two ≡ (not a && b)) × (eqb n 7 ≡ (not a && not b && c)) × (eqb n 0 ≡ (not a && not b && not c))
+
+row : (n one two : ℕ) (a b c : Bool) → Tells n one two a b c → FirstRow n one a two b c
+row n one two a b c h =
+    record {
+      first = holds n one a (h .0);
+      second = both-ways (holds n two (not a && b) (h .1)) (second a b);
+      short = both-ways (holds n 7 (not a && not b && c) (h .2)) (third a b c);
+      done = both-ways (holds n 0 (not a && not b && not c) (h .3)) (fourth a b c);
+    }
+
+-- rows 1, 2 and 7; rows 2, 3 and 7
+stored : (a b c : Bool) → Tells (orShort (rowOf a b false false false) c) 1 2 a b c
+unfolding orShort rowOf
+stored true b c = (refl, refl, refl, refl)
+stored false true c = (refl, refl, refl, refl)
+stored false false true = (refl, refl, refl, refl)
+stored false false false = (refl, refl, refl, refl)
+
+given : (a b c : Bool) → Tells (orShort (rowOf false a b false false) c) 2 3 a b c
+unfolding orShort rowOf
+given true b c = (refl, refl, refl, refl)
+given false true c = (refl, refl, refl, refl)
+given false false true = (refl, refl, refl, refl)
+given false false false = (refl, refl, refl, refl)
+
+stored-row : (n : ℕ) (a b c : Bool) → n ≡ orShort (rowOf a b false false false) c → FirstRow n 1 a 2 b c
+stored-row n a b c e = row n 1 2 a b c (subst (λ (k : ℕ). Tells k 1 2 a b c) (sym e) (stored a b c))
+
+given-row : (n : ℕ) (a b c : Bool) → n ≡ orShort (rowOf false a b false false) c → FirstRow n 2 a 3 b c
+given-row n a b c e = row n 2 3 a b c (subst (λ (k : ℕ). Tells k 2 3 a b c) (sym e) (given a b c))
+
+pub run-row : (r : Run) → Ran r → RunRow r
+unfolding modelRow
+run-row r h = stored-row (r .reply) _ _ _ (run-is r h .0)
+
+pub filter-row : (r : FilterRun) → Filtered r → FilterRow r
+unfolding runRow
+filter-row r h = given-row (r .reply) _ _ _ (filter-is r h .0)
+
+pub slope-row : (r : SlopeRun) → Raised r → SlopeRow r
+unfolding slopeRow
+slope-row r h = stored-row (r .reply) _ _ _ (slope-is r h .0)

@@ -1,0 +1,179 @@
+-- The lower bounds in the bytes and in the answers follow the exact run. Assumes nothing.
+use Prim.Native.Nat.{ℕ, _-_, _^_, _≤_, _<_}
+use mathlib.Core.Bool.{Bool, true, false, cond, not}
+use mathlib.Core.List.{List, [], _∷_, _++_}
+use mathlib.Core.Path.{_≡_, refl, sym, ap, subst, _∙_}
+use native.Mathlib.Omega.{arith}
+use lib.Dec.{eqb}
+use lib.Ieee.{Float}
+use lib.Ieee.Exact.{HasValue}
+use lib.ListN.{getD}
+use Rattle.numbers.specs.Scaling.{complement, partsOf}
+use Rattle.filters.specs.declared.time.Duration.{Duration}
+use Rattle.filters.specs.declared.time.Moment.{Moment}
+use Rattle.model.specs.declared.network_model.NetworkModel.{NetworkModel}
+use Rattle.model.specs.declared.params.Params.{Params}
+use Rattle.model.specs.Answers.{settled}
+use Rattle.model.specs.Bounds.{rowOf, modelOk}
+use Rattle.model.specs.Calls.{storedNumber}
+use Rattle.events.specs.declared.record.Record.{Record}
+use Rattle.events.specs.declared.record.Sample.{Sample}
+use Rattle.phases.specs.declared.cycle.Cycle.{Cycle}
+use Rattle.words.proofs.Laws.{getD-wordsAt}
+use Rattle.encoding.specs.Maybe.{bandwidthOf}
+use Rattle.encoding.specs.NetworkModel.{modelOf}
+use Rattle.encoding.specs.Params.{paramsOf}
+use Rattle.encoding.specs.Record.{recordFrom, recordOf}
+use Rattle.encoding.specs.Sample.{sampleOf}
+use Rattle.calls.specs.Ask.{askOf, readMore}
+use Rattle.turns.specs.Turn.{askTurn, turnOf}
+use Rattle.drift.specs.Calls as C
+use Rattle.drift.specs.Calls.{Call, State, after, run, started}
+use Rattle.drift.specs.Exact.{Turn, Exact, unset, inflightTurn, bandwidthTurn, exactRun}
+use Rattle.drift.specs.Drift as D
+use Rattle.drift.specs.Drift.{Low, lowOf, inflightLow, bandwidthLow, Follows, Along, OfEvent, IsAny, IsBeta, usualBeta, usualParts, Under}
+use Rattle.drift.proofs.Inflight.{inflight-drift}
+use Rattle.drift.proofs.Bandwidth.{bandwidth-drift}
+use Rattle.drift.proofs.Usual.{usual-inflight-drift, usual-bandwidth-drift}
+use Rattle.theorems.specs.Steps.{turnIn}
+use Rattle.theorems.specs.Runs.{Run, Ran, AreBytes, stateFrom, call, before, answerWord, Accepted, Each, History, exactAfter, exactRuns, exactBefore, lowWord, inflightIn, bandwidthIn, HasBetaWord, HasSmallWords, OfEvents}
+use Rattle.theorems.specs.Theorems.{InState, InAnswers, InflightNear, BandwidthNear}
+use Rattle.theorems.proofs.Answered.{turnOfCall, reply-word, value-word}
+use Rattle.theorems.proofs.Events.{each-fair}
+use Rattle.theorems.proofs.Left.{from-form, walk-form}
+use Rattle.theorems.proofs.Reached.{Reached, Made, all-made, of-reached}
+
+-- ---- the lower bounds in any bytes are those of the state that they encode
+inflight-in : (bytes : List ℕ) → inflightIn bytes ≡ inflightLow (stateFrom bytes)
+unfolding lowWord inflightLow stateFrom modelOf
+inflight-in bytes = ap (λ (n : ℕ). cond (eqb n (2 ^ 64 - 1)) D.none (D.at n)) (sym (getD-wordsAt bytes 0 50 17 (omega arith)))
+
+bandwidth-in : (bytes : List ℕ) → bandwidthIn bytes ≡ bandwidthLow (stateFrom bytes)
+unfolding bandwidthIn bandwidthLow stateFrom modelOf
+bandwidth-in bytes = λ i. lowOf (bandwidthOf (sym (getD-wordsAt bytes 0 50 15 (omega arith)) i) (sym (getD-wordsAt bytes 0 50 16 (omega arith)) i))
+
+-- ---- what is known of an event's words is known of its call
+abbrev Small : Float → Params → Record → Sample → Type 0
+Small beta p e y = (p .beta ≡ beta) × (e .window ≤ 2 ^ 24) × (y .inflight ≤ 2 ^ 24)
+
+abbrev Fixed : Float → Params → Record → Sample → Type 0
+Fixed beta p e y = p .beta ≡ beta
+
+small-words : (beta : Float) (w : List ℕ) → HasBetaWord beta w × HasSmallWords w → Small beta (paramsOf w) (recordOf w) (sampleOf w)
+unfolding paramsOf recordFrom sampleOf
+small-words beta w h = (h .0, h .1 .0, h .1 .1)
+
+fixed-words : (beta : Float) (w : List ℕ) → HasBetaWord beta w → Fixed beta (paramsOf w) (recordOf w) (sampleOf w)
+unfolding paramsOf
+fixed-words beta w h = h
+
+of-event : (Q R : Params → Record → Sample → Type 0) → ((p : Params) (e : Record) (y : Sample) → Q p e y → R p e y) → (c : Call) → OfEvent Q c → OfEvent R c
+of-event Q R f (C.event p e y acked) h = f p e y h
+of-event Q R f (C.cap bytes) h = tt
+of-event Q R f C.clearInflight h = tt
+of-event Q R f C.clearBandwidth h = tt
+of-event Q R f (C.cruise now) h = tt
+of-event Q R f (C.refill rounds now) h = tt
+of-event Q R f (C.other c) h = tt
+
+along-map : (P R : Call → Type 0) → ((c : Call) → P c → R c) → (calls : List Call) (s : State) → Along P calls s → Along R calls s
+along-map P R f [] s h = tt
+along-map P R f (c ∷ calls) s h = (λ done. f c (h .0 done), along-map P R f calls (after c s) (h .1))
+
+-- ---- call 35 answers inflight_lo
+asked : (w : List ℕ) (s : State) → getD w 0 0 ≡ 35 → (turnIn w s .reply ≡ storedNumber (s .model)) × (turnIn w s .value ≡ settled (storedNumber (s .model)) (s .model .lower .inflight) 0)
+unfolding turnOf askTurn askOf readMore
+asked w s e = rw e (refl, refl)
+
+stored-small : (m : NetworkModel) → storedNumber m < 2 ^ 64
+unfolding storedNumber rowOf
+stored-small m = go (modelOk m)
+  where
+    go : (t : Bool) → rowOf (not t) false false false false < 2 ^ 64
+    go true = omega arith
+    go false = omega arith
+
+-- ---- for any theorem of runs of calls, `Q` of the events in them
+module _ (turn : Call → State → Turn) (parts : ℕ) (P : List ℕ → Type 0) (Q : Params → Record → Sample → Type 0) (of-words : (w : List ℕ) → P w → Q (paramsOf w) (recordOf w) (sampleOf w)) (low : State → Low) (Near : Low → Exact → Type 0)
+    (theorem : (p : Params) (rtt : Duration) (now : Moment) (y : Cycle) (calls : List Call) → Along (OfEvent Q) calls (started p rtt now y) → Near (low (run calls (started p rtt now y))) (exactRun turn parts calls (started p rtt now y) unset)) where
+  made : (runs : List Run) (r : Run) → History (runs ++ (r ∷ [])) → Each (OfEvents P) (runs ++ (r ∷ [])) → Made turn parts (OfEvent Q) r (exactRuns turn parts runs unset)
+  made runs r h e = all-made turn parts (OfEvent Q) runs r (h .order) (each-fair turn parts P Q of-words (runs ++ (r ∷ [])) (h .ran) (h .bytes) e)
+
+  reached : (s : State) (x : Exact) → Reached turn parts (OfEvent Q) s x → Near (low s) x
+  reached = of-reached turn parts (OfEvent Q) (λ s x. Near (low s) x) theorem
+
+  in-state : (find : List ℕ → Low) → ((bytes : List ℕ) → find bytes ≡ low (stateFrom bytes)) → InState P find turn parts Near
+  in-state find same runs r h e =
+      let x = exactAfter turn parts r (exactRuns turn parts runs unset) in
+      subst (λ (l : Low). Near l x) (sym (same (r .left))) (reached (stateFrom (r .left)) x (made runs r h e .after))
+
+-- the last of some runs
+each-last : (P : Run → Type 0) (runs : List Run) (r : Run) → Each P (runs ++ (r ∷ [])) → P r
+each-last P [] r h = h .0
+each-last P (q ∷ runs) r h = each-last P runs r (h .1)
+
+module _ (parts : ℕ) (P : List ℕ → Type 0) (Q : Params → Record → Sample → Type 0) (of-words : (w : List ℕ) → P w → Q (paramsOf w) (recordOf w) (sampleOf w)) (Near : Low → Exact → Type 0)
+    (theorem : (p : Params) (rtt : Duration) (now : Moment) (y : Cycle) (calls : List Call) → Along (OfEvent Q) calls (started p rtt now y) → Near (inflightLow (run calls (started p rtt now y))) (exactRun inflightTurn parts calls (started p rtt now y) unset)) where
+  -- the word that call 35 answers
+  answered-low : (runs : List Run) (r : Run) (i : ℕ) → History (runs ++ (r ∷ [])) → Accepted 35 r i → lowWord (answerWord r i 1) ≡ inflightLow (before r i)
+  unfolding lowWord inflightLow settled
+  answered-low runs r i h a =
+      let ran = each-last Ran runs r (h .ran) in
+      let bytes = each-last (λ r. AreBytes (r .state) × AreBytes (r .calls)) runs r (h .bytes) in
+      let s = before r i in
+      let form = walk-form (r .calls) (bytes .1) i (stateFrom (r .state)) (from-form (r .state) (bytes .0)) in
+      let t = asked (call r i) s (a .named) in
+      let small = stored-small (s .model) in
+      let zero : storedNumber (s .model) ≡ 0 = sym (t .0) ∙ sym (reply-word r ran (a .done) i (a .made) (subst (λ (n : ℕ). n < 2 ^ 64) (sym (t .0)) small)) ∙ a .accepted in
+      let value : turnOfCall r i .value ≡ s .model .lower .inflight = t .1 ∙ rw zero in
+      ap (λ (n : ℕ). cond (eqb n (2 ^ 64 - 1)) D.none (D.at n))
+      (value-word r ran (a .done) i (a .made) (subst (λ (n : ℕ). n < 2 ^ 64) (sym value) (form .bound .lowInflight)) ∙ value)
+
+  asks : (n : ℕ) → n ≡ 35 → n ≡ 0 → ⊥
+  asks n e z = omega (arith, e, z)
+
+  in-answers : InAnswers P inflightTurn parts Near
+  in-answers runs r i h e a =
+      let x = exactBefore inflightTurn parts r i (exactRuns inflightTurn parts runs unset) in
+      subst (λ (l : Low). Near l x) (sym (answered-low runs r i h a))
+      (reached inflightTurn parts P Q of-words inflightLow Near theorem (before r i) x
+      (made inflightTurn parts P Q of-words inflightLow Near theorem runs r h e .middle (a .done) i (a .made) (asks _ (a .named))))
+
+  both : ((bytes : List ℕ) → inflightIn bytes ≡ inflightLow (stateFrom bytes)) → InState P inflightIn inflightTurn parts Near × InAnswers P inflightTurn parts Near
+  both same = (in-state inflightTurn parts P Q of-words inflightLow Near theorem inflightIn same, in-answers)
+
+-- ---- the four
+fixed : (beta : Float) (calls : List Call) (s : State) → Along (OfEvent (Small beta)) calls s → Along (D.HasBeta beta) calls s
+fixed beta = along-map (OfEvent (Small beta)) (D.HasBeta beta) (of-event (Small beta) (Fixed beta) (λ p e y h. h .0))
+
+small : (beta : Float) (calls : List Call) (s : State) → Along (OfEvent (Small beta)) calls s → Along D.IsSmall calls s
+small beta = along-map (OfEvent (Small beta)) D.IsSmall (of-event (Small beta) (λ p e y. (e .window ≤ 2 ^ 24) × (y .inflight ≤ 2 ^ 24)) (λ p e y h. (h .1, h .2)))
+
+any : (P : Call → Type 0) (calls : List Call) (s : State) → Along P calls s → Along IsAny calls s
+any P = along-map P IsAny (λ c h. tt)
+
+pub inflight : (beta : Float) → IsBeta beta →
+    let parts = partsOf (complement beta) in
+    HasValue (complement beta) false parts (2 ^ 24) × InflightNear beta parts (Follows 1 1 parts)
+inflight beta is =
+    let parts = partsOf (complement beta) in
+    let drift = inflight-drift beta is in (
+      drift .0,
+      both parts (λ w. HasBetaWord beta w × HasSmallWords w) (Small beta) (small-words beta) (Follows 1 1 parts) (λ p rtt now y calls h. drift .1 p rtt now y calls (fixed beta calls _ h) (small beta calls _ h)) inflight-in,
+    )
+
+pub bandwidth : (beta : Float) → IsBeta beta → let parts = partsOf (complement beta) in BandwidthNear beta parts (Follows 4097 8192 parts)
+bandwidth beta is =
+    let parts = partsOf (complement beta) in
+    in-state bandwidthTurn parts (HasBetaWord beta) (Fixed beta) (fixed-words beta) bandwidthLow (Follows 4097 8192 parts)
+    (λ p rtt now y calls h. bandwidth-drift beta is .1 p rtt now y calls h (any _ calls _ h)) bandwidthIn bandwidth-in
+
+pub usual-inflight : InflightNear usualBeta usualParts (Under 334)
+usual-inflight =
+    both usualParts (λ w. HasBetaWord usualBeta w × HasSmallWords w) (Small usualBeta) (small-words usualBeta) (Under 334)
+    (λ p rtt now y calls h. usual-inflight-drift p rtt now y calls (fixed usualBeta calls _ h) (small usualBeta calls _ h)) inflight-in
+
+pub usual-bandwidth : BandwidthNear usualBeta usualParts (Under 167)
+usual-bandwidth =
+    in-state bandwidthTurn usualParts (HasBetaWord usualBeta) (Fixed usualBeta) (fixed-words usualBeta) bandwidthLow (Under 167)
+    (λ p rtt now y calls h. usual-bandwidth-drift p rtt now y calls h (any _ calls _ h)) bandwidthIn bandwidth-in

@@ -1,0 +1,330 @@
+-- A state in the form of the code's types: every number in 64 bits, the two gains f32. What is read from words is in form, and so is what is within document 01's bounds and has its other
+-- numbers so (`Free`). What is written of a state in form is read back. Assumes nothing.
+use Prim.Native.Nat.{ℕ, zero, suc, _+_, _-_, _^_, _<_}
+use mathlib.Core.Bool.{Bool, true, false, _&&_, _||_}
+use mathlib.Core.List.{List, [], _∷_, _++_}
+use mathlib.Core.Path.{_≡_, refl, _∙_}
+use native.Mathlib.Omega.{arith}
+use lib.Dec.{T, leb, eqb}
+use lib.Ieee.{Float, binary32, fits}
+use lib.Ieee.Bits.{toBits-lt}
+use lib.ListN.{getD}
+use borrow.Author.Tests.{leb-true, eqb-true}
+use Rattle.filters.specs.declared.round_trip_counter.RoundEnd.{RoundEnd}
+use Rattle.filters.specs.declared.round_trip_counter.RoundEnd.the-variants.{NotSet, At}
+use Rattle.filters.specs.declared.round_trip_counter.RoundTripCounter.{RoundTripCounter}
+use Rattle.model.specs.declared.network_model.NetworkModel.{NetworkModel}
+use Rattle.model.specs.declared.state.Gains.{Gains}
+use Rattle.model.specs.declared.state.MaybeBandwidth.{MaybeBandwidth}
+use Rattle.model.specs.declared.state.MaybeBandwidth.the-variants.{Unset, Set}
+use Rattle.model.specs.Bounds.{bytesOrUnsetOk, bandwidthOk, lengthOk, momentOk, bytesOk, totalOk, maybeOk, roundOk, modelTests, modelOk}
+use Rattle.model.proofs.Rows.{and-left, and-right, all-at}
+use Rattle.phases.specs.declared.cycle.Cycle.{Cycle}
+use Rattle.phases.specs.declared.cycle.CyclePhase.{CyclePhase}
+use Rattle.phases.specs.declared.cycle.CyclePhase.the-variants.{NotStarted, Up, Down, Cruise, Refill}
+use Rattle.phases.specs.declared.cycle.MaybeBytes.{MaybeBytes}
+use Rattle.phases.specs.declared.cycle.MaybeBytes.the-variants.{NoBytes, Bytes}
+use Rattle.phases.specs.declared.cycle.MaybeLength.{MaybeLength}
+use Rattle.phases.specs.declared.cycle.MaybeLength.the-variants.{NoLength, Length}
+use Rattle.phases.specs.Cycle.{waitOk, upBytesOk, cycleTests, cycleOk}
+use Rattle.words.proofs.Laws.{AllWords}
+use Rattle.encoding.specs.Word.{outside, flagWord, flagOf, floatWord}
+use Rattle.encoding.specs.Maybe.{isUnset, numberIn, bandwidthMaybe, bandwidthOf}
+use Rattle.encoding.specs.NetworkModel.{endMaybe, modelOf, modelWords}
+use Rattle.encoding.specs.Cycle.{phaseWord, waitLengthMaybe, upBytesMaybe, cycleOf, cycleWords}
+use Rattle.encoding.proofs.Laws.{float-fits}
+use Rattle.drift.specs.Calls.{State}
+use Rattle.theorems.proofs.Choice.{either}
+
+abbrev pub Word : ℕ → Type 0
+Word n = n < 2 ^ 64
+
+abbrev pub Single : Float → Type 0
+Single x = T (fits binary32 x)
+
+abbrev pub EndForm : RoundEnd → Type 0
+EndForm NotSet = Unit {0}
+EndForm (At n) = Word n
+
+abbrev pub BandwidthForm : MaybeBandwidth → Type 0
+BandwidthForm Unset = Unit {0}
+BandwidthForm (Set b) = Word (b .0)
+
+abbrev pub LengthForm : MaybeLength → Type 0
+LengthForm NoLength = Unit {0}
+LengthForm (Length d) = Word (d .0)
+
+abbrev pub BytesForm : MaybeBytes → Type 0
+BytesForm NoBytes = Unit {0}
+BytesForm (Bytes n) = Word n
+
+-- "Counters and packet numbers are free"; the gains' range says nothing of their format
+pub record Free (rounds : RoundTripCounter) (l f q : ℕ) (gains : Gains) : Type 0 where
+  pub count : Word (rounds .count)
+  pub sent : Word (rounds .sent)
+  pub end : EndForm (rounds .end)
+  pub losses : Word l
+  pub flat : Word f
+  pub queueing : Word q
+  pub cwnd : Single (gains .cwnd)
+  pub pacing : Single (gains .pacing)
+
+abbrev pub FreeModel : NetworkModel → Type 0
+FreeModel m = Free (m .rounds) (m .round .losses) (m .growth .flat) (m .growth .queueing) (m .gains)
+
+-- what `modelOk` bounds
+pub record Bound (m : NetworkModel) : Type 0 where
+  pub slot0 : Word (m .most .slot0 .0)
+  pub slot1 : Word (m .most .slot1 .0)
+  pub rtt : Word (m .least .rtt .0)
+  pub timestamp : Word (m .least .timestamp .0)
+  pub lost : Word (m .round .lost)
+  pub delivered : Word (m .round .delivered)
+  pub least : Word (m .round .least)
+  pub bandwidth : Word (m .latest .bandwidth .0)
+  pub inflight : Word (m .latest .inflight)
+  pub lowBandwidth : BandwidthForm (m .lower .bandwidth)
+  pub lowInflight : Word (m .lower .inflight)
+  pub high : Word (m .high)
+  pub baseline : Word (m .growth .baseline .0)
+  pub send : BandwidthForm (m .rates .send)
+  pub ack : BandwidthForm (m .rates .ack)
+  pub ackedTotal : Word (m .totals .acked)
+  pub lostTotal : Word (m .totals .lost)
+  pub moment : Word (m .moment .0)
+
+abbrev pub FreeCycle : Cycle → Type 0
+FreeCycle y = Word (y .stay .rounds) × Word (y .wait .rounds)
+
+-- what `cycleOk` bounds
+pub record BoundCycle (y : Cycle) : Type 0 where
+  pub entered : Word (y .stay .entered .0)
+  pub start : Word (y .wait .start .0)
+  pub length : LengthForm (y .wait .length)
+  pub rounds : Word (y .slope .rounds)
+  pub bytes : BytesForm (y .slope .bytes)
+  pub acked : Word (y .slope .acked)
+
+pub record InForm (s : State) : Type 0 where
+  pub free : FreeModel (s .model)
+  pub bound : Bound (s .model)
+  pub freeCycle : FreeCycle (s .cycle)
+  pub boundCycle : BoundCycle (s .cycle)
+
+-- every number of a list
+pub data Words : List ℕ → Type 0 where
+  none : Words []
+  also : {x : ℕ} {l : List ℕ} → Word x → Words l → Words (x ∷ l)
+
+-- ---- within their bounds
+word-of : (n k : ℕ) → k < 2 ^ 64 → leb n k ≡ true → Word n
+word-of n k l h = omega (arith, leb-true n k h)
+
+bytes-word : (n : ℕ) → leb n (2 ^ 40) ≡ true → Word n
+bytes-word n h = word-of n (2 ^ 40) (omega arith) h
+
+total-word : (n : ℕ) → leb n (2 ^ 62) ≡ true → Word n
+total-word n h = word-of n (2 ^ 62) (omega arith) h
+
+length-word : (n : ℕ) → leb n (2 ^ 36) ≡ true → Word n
+length-word n h = word-of n (2 ^ 36) (omega arith) h
+
+unset-word : (n : ℕ) → bytesOrUnsetOk n ≡ true → Word n
+unset-word n h = go (leb n (2 ^ 40)) (eqb n (2 ^ 64 - 1)) refl refl h
+  where
+    go : (a b : Bool) → leb n (2 ^ 40) ≡ a → eqb n (2 ^ 64 - 1) ≡ b → (a || b) ≡ true → Word n
+    go true b p q k = bytes-word n p
+    go false true p q k = omega (arith, eqb-true n (2 ^ 64 - 1) q)
+    go false false p q k = bytes-word n (p ∙ k)
+
+maybe-word : (x : MaybeBandwidth) → maybeOk x ≡ true → BandwidthForm x
+maybe-word Unset h = tt
+maybe-word (Set b) h = bytes-word (b .0) h
+
+pub bound-ok : (m : NetworkModel) → modelOk m ≡ true → Bound m
+unfolding modelTests roundOk
+bound-ok m h =
+    let most = all-at (modelTests m) 0 h in
+    let least = all-at (modelTests m) 1 h in
+    let round = all-at (modelTests m) 2 h in
+    let latest = all-at (modelTests m) 3 h in
+    let lower = all-at (modelTests m) 4 h in
+    let rates = all-at (modelTests m) 8 h in
+    let totals = all-at (modelTests m) 9 h in
+    let r = m .round in
+    let t = m .totals in
+    let sums = and-left (totalOk (r .lost) && totalOk (r .delivered) && bytesOrUnsetOk (r .least)) (leb (r .lost) (t .lost)) (and-left (totalOk (r .lost) && totalOk (r .delivered) && bytesOrUnsetOk (r .least) && leb (r .lost) (t .lost)) (leb (r .delivered) (t .acked)) round) in
+    let both = and-left (totalOk (r .lost) && totalOk (r .delivered)) (bytesOrUnsetOk (r .least)) sums in
+    record {
+      slot0 = bytes-word _ (and-left (bandwidthOk (m .most .slot0)) (bandwidthOk (m .most .slot1)) most);
+      slot1 = bytes-word _ (and-right (bandwidthOk (m .most .slot0)) (bandwidthOk (m .most .slot1)) most);
+      rtt = length-word _ (and-left (lengthOk (m .least .rtt)) (momentOk (m .least .timestamp)) least);
+      timestamp = total-word _ (and-right (lengthOk (m .least .rtt)) (momentOk (m .least .timestamp)) least);
+      lost = total-word _ (and-left (totalOk (r .lost)) (totalOk (r .delivered)) both);
+      delivered = total-word _ (and-right (totalOk (r .lost)) (totalOk (r .delivered)) both);
+      least = unset-word _ (and-right (totalOk (r .lost) && totalOk (r .delivered)) (bytesOrUnsetOk (r .least)) sums);
+      bandwidth = bytes-word _ (and-left (bandwidthOk (m .latest .bandwidth)) (bytesOk (m .latest .inflight)) latest);
+      inflight = bytes-word _ (and-right (bandwidthOk (m .latest .bandwidth)) (bytesOk (m .latest .inflight)) latest);
+      lowBandwidth = maybe-word (m .lower .bandwidth) (and-left (maybeOk (m .lower .bandwidth)) (bytesOrUnsetOk (m .lower .inflight)) lower);
+      lowInflight = unset-word _ (and-right (maybeOk (m .lower .bandwidth)) (bytesOrUnsetOk (m .lower .inflight)) lower);
+      high = unset-word _ (all-at (modelTests m) 5 h);
+      baseline = bytes-word _ (all-at (modelTests m) 7 h);
+      send = maybe-word (m .rates .send) (and-left (maybeOk (m .rates .send)) (maybeOk (m .rates .ack)) rates);
+      ack = maybe-word (m .rates .ack) (and-right (maybeOk (m .rates .send)) (maybeOk (m .rates .ack)) rates);
+      ackedTotal = total-word _ (and-left (totalOk (t .acked)) (totalOk (t .lost)) totals);
+      lostTotal = total-word _ (and-right (totalOk (t .acked)) (totalOk (t .lost)) totals);
+      moment = total-word _ (all-at (modelTests m) 10 h);
+    }
+
+wait-word : (x : MaybeLength) → waitOk x ≡ true → LengthForm x
+wait-word NoLength h = tt
+wait-word (Length d) h = word-of (d .0) (2 ^ 36 + 500_000) (omega arith) h
+
+up-word : (x : MaybeBytes) → upBytesOk x ≡ true → BytesForm x
+up-word NoBytes h = tt
+up-word (Bytes n) h = bytes-word n h
+
+pub bound-cycle-ok : (y : Cycle) → cycleOk y ≡ true → BoundCycle y
+unfolding cycleTests
+bound-cycle-ok y h =
+    record {
+      entered = total-word _ (all-at (cycleTests y) 0 h);
+      start = total-word _ (all-at (cycleTests y) 1 h);
+      length = wait-word (y .wait .length) (all-at (cycleTests y) 2 h);
+      rounds = word-of _ 30 (omega arith) (all-at (cycleTests y) 3 h);
+      bytes = up-word (y .slope .bytes) (all-at (cycleTests y) 4 h);
+      acked = bytes-word _ (all-at (cycleTests y) 5 h);
+    }
+
+-- ---- read from words
+number-word : (set n : ℕ) → Word n → Word (numberIn set n)
+number-word set n h = either Word (flagOf set) n outside h (omega arith)
+
+module _ (w : List ℕ) (h : AllWords w) where
+  read-free : FreeModel (modelOf w)
+  unfolding modelOf
+  read-free =
+      record {
+        count = h 0;
+        sent = h 1;
+        end = either EndForm (isUnset (getD w 2 0) (getD w 3 0)) NotSet (At (numberIn (getD w 2 0) (getD w 3 0))) tt (number-word (getD w 2 0) (getD w 3 0) (h 3));
+        losses = h 9;
+        flat = h 24;
+        queueing = h 25;
+        cwnd = float-fits (getD w 19 0);
+        pacing = float-fits (getD w 20 0);
+      }
+
+  read-bandwidth : (i j : ℕ) → BandwidthForm (bandwidthOf (getD w i 0) (getD w j 0))
+  read-bandwidth i j = let set = getD w i 0 in let n = getD w j 0 in either BandwidthForm (isUnset set n) Unset (Set (record { 0 = numberIn set n })) tt (number-word set n (h j))
+
+  read-bound : Bound (modelOf w)
+  unfolding modelOf
+  read-bound =
+      record {
+        slot0 = h 4;
+        slot1 = h 5;
+        rtt = h 6;
+        timestamp = h 7;
+        lost = h 8;
+        delivered = h 10;
+        least = h 11;
+        bandwidth = h 13;
+        inflight = h 14;
+        lowBandwidth = read-bandwidth 15 16;
+        lowInflight = h 17;
+        high = h 18;
+        baseline = h 23;
+        send = read-bandwidth 27 28;
+        ack = read-bandwidth 29 30;
+        ackedTotal = h 31;
+        lostTotal = h 32;
+        moment = h 33;
+      }
+
+  read-cycle-free : FreeCycle (cycleOf w)
+  unfolding cycleOf
+  read-cycle-free = (h 37, h 38)
+
+  read-cycle-bound : BoundCycle (cycleOf w)
+  unfolding cycleOf
+  read-cycle-bound =
+      record {
+        entered = h 36;
+        start = h 35;
+        length = either LengthForm (isUnset (getD w 39 0) (getD w 40 0)) NoLength (Length (record { 0 = numberIn (getD w 39 0) (getD w 40 0) })) tt (number-word (getD w 39 0) (getD w 40 0) (h 40));
+        rounds = h 41;
+        bytes = either BytesForm (isUnset (getD w 42 0) (getD w 43 0)) NoBytes (Bytes (numberIn (getD w 42 0) (getD w 43 0))) tt (number-word (getD w 42 0) (getD w 43 0) (h 43));
+        acked = h 44;
+      }
+
+  pub read-form : InForm (record { model = modelOf w; cycle = cycleOf w })
+  read-form = record { free = read-free; bound = read-bound; freeCycle = read-cycle-free; boundCycle = read-cycle-bound }
+
+-- ---- written into words
+flag-word : (b : Bool) → Word (flagWord b)
+flag-word true = omega arith
+flag-word false = omega arith
+
+float-word : (x : Float) → Single x → Word (floatWord x)
+float-word x h = omega (arith, toBits-lt binary32 x h)
+
+phase-word : (p : CyclePhase) → Word (phaseWord p)
+phase-word NotStarted = omega arith
+phase-word Up = omega arith
+phase-word Down = omega arith
+phase-word Cruise = omega arith
+phase-word Refill = omega arith
+
+end-words : (x : RoundEnd) → EndForm x → Word (endMaybe x .set) × Word (endMaybe x .number)
+end-words NotSet h = (omega arith, omega arith)
+end-words (At n) h = (omega arith, h)
+
+bandwidth-words : (x : MaybeBandwidth) → BandwidthForm x → Word (bandwidthMaybe x .set) × Word (bandwidthMaybe x .number)
+bandwidth-words Unset h = (omega arith, omega arith)
+bandwidth-words (Set b) h = (omega arith, h)
+
+wait-words : (x : MaybeLength) → LengthForm x → Word (waitLengthMaybe x .set) × Word (waitLengthMaybe x .number)
+wait-words NoLength h = (omega arith, omega arith)
+wait-words (Length d) h = (omega arith, h)
+
+up-words : (x : MaybeBytes) → BytesForm x → Word (upBytesMaybe x .set) × Word (upBytesMaybe x .number)
+up-words NoBytes h = (omega arith, omega arith)
+up-words (Bytes n) h = (omega arith, h)
+
+pub at-words : (l : List ℕ) → Words l → AllWords l
+at-words [] none i = omega arith
+at-words (x ∷ l) (also p h) zero = p
+at-words (x ∷ l) (also p h) (suc i) = at-words l h i
+
+append-words : (a b : List ℕ) → Words a → Words b → Words (a ++ b)
+append-words [] b none q = q
+append-words (x ∷ a) b (also p h) q = also p (append-words a b h q)
+
+model-words : (m : NetworkModel) → FreeModel m → Bound m → Words (modelWords m)
+unfolding modelWords
+model-words m f b =
+    let end = end-words (m .rounds .end) (f .end) in
+    let low = bandwidth-words (m .lower .bandwidth) (b .lowBandwidth) in
+    let send = bandwidth-words (m .rates .send) (b .send) in
+    let ack = bandwidth-words (m .rates .ack) (b .ack) in
+    also (f .count) (also (f .sent) (also (end .0) (also (end .1) (also (b .slot0) (also (b .slot1)
+    (also (b .rtt) (also (b .timestamp) (also (b .lost) (also (f .losses) (also (b .delivered) (also (b .least)
+    (also (flag-word (m .round .limited)) (also (b .bandwidth) (also (b .inflight) (also (low .0) (also (low .1) (also (b .lowInflight)
+    (also (b .high) (also (float-word _ (f .cwnd)) (also (float-word _ (f .pacing)) (also (flag-word (m .limited)) (also (flag-word (m .growth .reached)) (also (b .baseline)
+    (also (f .flat) (also (f .queueing) (also (flag-word (m .growth .ignore)) (also (send .0) (also (send .1) (also (ack .0)
+    (also (ack .1) (also (b .ackedTotal) (also (b .lostTotal) (also (b .moment) none)))))))))))))))))))))))))))))))))
+
+cycle-words : (y : Cycle) → FreeCycle y → BoundCycle y → Words (cycleWords y)
+unfolding cycleWords
+cycle-words y f b =
+    let length = wait-words (y .wait .length) (b .length) in
+    let up = up-words (y .slope .bytes) (b .bytes) in
+    also (phase-word (y .stay .phase)) (also (b .start) (also (b .entered) (also (f .0) (also (f .1) (also (length .0)
+    (also (length .1) (also (b .rounds) (also (up .0) (also (up .1) (also (b .acked) (also (flag-word (y .slope .limited))
+    (also (flag-word (y .advanced)) (also (flag-word (y .probing)) (also (flag-word (y .last .high)) (also (flag-word (y .last .risky)) none)))))))))))))))
+
+pub form-words : (s : State) → InForm s → AllWords (modelWords (s .model) ++ cycleWords (s .cycle))
+form-words s h =
+    at-words (modelWords (s .model) ++ cycleWords (s .cycle))
+    (append-words (modelWords (s .model)) (cycleWords (s .cycle)) (model-words (s .model) (h .free) (h .bound)) (cycle-words (s .cycle) (h .freeCycle) (h .boundCycle)))

@@ -1,0 +1,15 @@
+-- Proofs of the theorems.
+pub mod Choice
+pub mod Decoded
+pub mod Form
+pub mod Kept
+pub mod Numbers
+pub mod Exported
+pub mod Refused
+pub mod Left
+pub mod Answered
+pub mod Reached
+pub mod Events
+pub mod Follow
+pub mod Theorems
+pub mod Examples

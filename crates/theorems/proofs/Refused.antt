@@ -1,0 +1,91 @@
+-- A call that is refused changes nothing, and its answer is its number, 0 and the record as handed in (`refused`). Assumes nothing.
+use Prim.Native.Nat.{ℕ}
+use mathlib.Core.Bool.{Bool, true, false, cond}
+use mathlib.Core.List.{List}
+use mathlib.Core.Path.{_≡_, refl, ap}
+use lib.Dec.{leb, eqb}
+use lib.ListN.{getD}
+use borrow.Author.Tests.{ne-eqb, eqb-true}
+use Rattle.model.specs.declared.network_model.NetworkModel.{NetworkModel}
+use Rattle.model.specs.Answers.{settled}
+use Rattle.model.specs.Bounds.{rowOf}
+use Rattle.model.specs.Calls.{startModel}
+use Rattle.phases.specs.declared.cycle.Cycle.{Cycle}
+use Rattle.phases.specs.Cycle.{freshNumber, freshCycle}
+use Rattle.encoding.specs.Record.{recordIn}
+use Rattle.encoding.specs.Word.{flagWord}
+use Rattle.turns.specs.declared.turn.Turn.{Turn}
+use Rattle.turns.specs.Turn.{isJudged, isAsked, noRecord, startTurn, sendTurn, eventTurn, finishTurn, judgeTurn, askTurn, enterTurn, changeTurn, turnOf}
+use Rattle.drift.specs.Calls.{State}
+use Rattle.theorems.specs.Steps.{Refused, fresh, stateLeft, turnIn}
+use Rattle.theorems.proofs.Choice.{arms, either}
+use Rattle.theorems.proofs.Decoded.{state}
+
+-- ---- what is settled stays as it was
+value-kept : {A : Type 0} (n : ℕ) (x y : A) → (n ≡ 0 → ⊥) → settled n x y ≡ y
+unfolding settled
+value-kept n x y h = rw (ne-eqb n 0 h)
+
+model-kept : (n : ℕ) (m′ m : NetworkModel) (y : Cycle) → (n ≡ 0 → ⊥) → state (settled n m′ m) y ≡ state m y
+model-kept n m′ m y h = ap (λ (z : NetworkModel). state z y) (value-kept n m′ m h)
+
+both-kept : (n : ℕ) (m′ m : NetworkModel) (y′ y : Cycle) → (n ≡ 0 → ⊥) → state (settled n m′ m) (settled n y′ y) ≡ state m y
+both-kept n m′ m y′ y h = λ i. state (value-kept n m′ m h i) (value-kept n y′ y h i)
+
+module _ (w : List ℕ) (s : State) where
+  -- of a call that is a start or not, and an event's or not
+  abbrev P : Bool → Bool → Turn → Type 0
+  P start event t = (t .reply ≡ 0 → ⊥) → (stateLeft t ≡ cond start fresh s) × (t .value ≡ 0) × (t .event ≡ cond event (recordIn w) noRecord)
+
+  plain : (a b : Bool) (t : Turn) → a ≡ false → b ≡ false → P false false t → P a b t
+  plain a b t p q h = rw (p, q) h
+
+  send : P false false (sendTurn w (s .model) (s .cycle))
+  unfolding sendTurn
+  send h = (model-kept _ _ (s .model) (s .cycle) h, refl, refl)
+
+  finish : P false false (finishTurn w (s .model) (s .cycle))
+  unfolding finishTurn
+  finish h = (model-kept _ _ (s .model) (s .cycle) h, refl, refl)
+
+  judge : P false false (judgeTurn w (s .model) (s .cycle))
+  unfolding judgeTurn
+  judge h = (model-kept _ _ (s .model) (s .cycle) h, ap flagWord (value-kept _ _ false h), refl)
+
+  ask : P false false (askTurn w (s .model) (s .cycle))
+  unfolding askTurn
+  ask h = (refl, value-kept _ _ 0 h, refl)
+
+  enter : P false false (enterTurn w (s .model) (s .cycle))
+  unfolding enterTurn
+  enter h = (both-kept _ _ (s .model) _ (s .cycle) h, refl, refl)
+
+  change : P false false (changeTurn w (s .model) (s .cycle))
+  unfolding changeTurn
+  change h = (model-kept _ _ (s .model) (s .cycle) h, refl, refl)
+
+  event : P false true (eventTurn w (s .model) (s .cycle))
+  unfolding eventTurn
+  event h =
+      (model-kept _ _ (s .model) (s .cycle) h, refl, value-kept _ _ (recordIn w) h)
+
+  start : P true false (startTurn w)
+  unfolding startTurn startModel settled freshCycle freshNumber rowOf
+  start h = (rw (ne-eqb _ 0 h), refl, refl)
+
+  turn : P (eqb (getD w 0 0) 0) (eqb (getD w 0 0) 3) (turnIn w s)
+  unfolding turnOf
+  turn =
+      let n = getD w 0 0 in
+      let Q = P (eqb n 0) (eqb n 3) in
+      arms Q (eqb n 1) _ _ (λ e. rw (eqb-true n 1 e) send)
+      (λ _. arms Q (eqb n 3) _ _ (λ e. rw (eqb-true n 3 e) event)
+      (λ no-event. arms Q (eqb n 4) _ _ (λ e. rw (eqb-true n 4 e) finish)
+      (λ _. arms Q (eqb n 0) _ _ (λ e. rw (eqb-true n 0 e) start)
+      (λ no-start.
+      either Q (isJudged n) _ _ (plain _ _ _ no-start no-event judge)
+      (either Q (isAsked n) _ _ (plain _ _ _ no-start no-event ask)
+      (either Q (leb 40 n) _ _ (plain _ _ _ no-start no-event enter) (plain _ _ _ no-start no-event change)))))))
+
+pub refused : (w : List ℕ) (s : State) → (turnIn w s .reply ≡ 0 → ⊥) → Refused w s
+refused w s h = let t = turn w s h in record { state = t .0; value = t .1; event = t .2 }

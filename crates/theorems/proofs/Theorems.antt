@@ -1,0 +1,61 @@
+-- The page of theorems, proved (specs/Theorems.antt). Assumes nothing.
+use mathlib.Core.Logic.{inl, inr}
+use Rattle.phases.proofs.Examples.{marked-examples}
+use Rattle.laws.proofs.Contracts.{every-call}
+use Rattle.laws.proofs.Replies.{every-reply}
+use Rattle.encoding.proofs.Tested.{tested}
+use Rattle.theorems.specs.Runs.{Unasked}
+use Rattle.theorems.specs.Theorems.{Theorems}
+use Rattle.theorems.proofs.Answered.{answer-bytes}
+use Rattle.theorems.proofs.Decoded.{every-turn}
+use Rattle.theorems.proofs.Exported as exported
+use Rattle.theorems.proofs.Follow as follow
+use Rattle.theorems.proofs.Left.{from-form, left-within, started-within, left-taken}
+use Rattle.theorems.proofs.Numbers.{every-number}
+use Rattle.theorems.proofs.Refused.{refused}
+
+unasked : Unasked
+unasked =
+    record {
+      run = λ κ a. tt;
+      filter-run = λ κ a. tt;
+      raise-slope = λ κ a. tt;
+      u64-to-f32 = λ κ a. tt;
+      u64-to-f64 = λ κ a. tt;
+      f32-to-u64 = λ κ a. tt;
+      f64-round-to-u64 = λ κ a. tt;
+      scale = λ κ a. tt;
+      bandwidth = λ κ a. tt;
+      bytes = λ κ a. tt;
+    }
+
+pub theorems : Theorems
+theorems =
+    record {
+      any = unasked;
+      run-row = exported.run-row;
+      filter-row = exported.filter-row;
+      slope-row = exported.slope-row;
+      run-keeps = exported.run-keeps;
+      filter-keeps = exported.filter-keeps;
+      slope-keeps = exported.slope-keeps;
+      run-bounds = λ r ran b c done h. elim h [ inl e ↦ left-within r ran done (from-form (r .state) b) c e | inr e ↦ started-within r ran done (from-form (r .state) b) c e ];
+      run-again = λ r ran b c done. left-taken r ran done (from-form (r .state) b) c;
+      call-answered = answer-bytes;
+      call-refused = refused;
+      words = tested;
+      calls = every-reply;
+      calls-bounds = every-call;
+      run-defined = exported.run-is;
+      filter-defined = exported.filter-is;
+      slope-defined = exported.slope-is;
+      conversions = exported.conversions;
+      one-outcome = exported.one-outcome;
+      turns = every-turn;
+      numbers = every-number;
+      examples = marked-examples;
+      inflight = follow.inflight;
+      bandwidth = follow.bandwidth;
+      usual-inflight = follow.usual-inflight;
+      usual-bandwidth = follow.usual-bandwidth;
+    }

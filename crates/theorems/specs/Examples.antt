@@ -1,0 +1,104 @@
+-- Runs worked out in bytes, at beta 0.3, from 400 bytes of zeros, in which every call but a start is refused: what the
+-- statements of Theorems.antt speak of is there. A run here is one that the definitions make.
+use Prim.Native.Nat.{ℕ, _-_, _*_, _^_}
+use mathlib.Core.Bool.{Bool, false, _&&_}
+use mathlib.Core.List.{List, [], _∷_, _++_}
+use lib.Dec.{eqb}
+use lib.ListN.{length, replicate, take}
+use Rattle.words.specs.Words.{allBytes}
+use Rattle.exports.specs.Examples.{same}
+use Rattle.exports.specs.ModelRun.{modelRow, stateOut, answersOut}
+use Rattle.drift.specs.Exact.{Exact, unset, over, inflightTurn}
+use Rattle.drift.specs.Drift.{usualParts}
+use Rattle.theorems.specs.Runs.{Run, exactAfter}
+
+abbrev zeros : ℕ → List ℕ
+zeros n = replicate n 0
+
+-- words 38 to 48: beta 0.3, the other floats 1, three rounds, and the option set
+abbrev params : List ℕ
+params =
+    0x3e99_999a ∷ 0x3f80_0000 ∷ 0x3f80_0000 ∷ 0x3f80_0000 ∷ 0x3f80_0000 ∷ 0x3f80_0000 ∷ 3 ∷ 0 ∷ 0 ∷ 0 ∷ 1 ∷ []
+
+-- a start at moment 0 with round trip 0; a send of packet n at moment t; a call without arguments
+abbrev start : List ℕ
+start = zeros 38 ++ params
+
+abbrev sends : (t n : ℕ) → List ℕ
+sends t n = (1 ∷ t ∷ 0 ∷ n ∷ 0 ∷ []) ++ zeros 44
+
+abbrev asks : ℕ → List ℕ
+asks number = number ∷ zeros 48
+
+-- an event with the totals n acked and n lost, which acks packet n, with a bandwidth of 1 and a window of 1300
+abbrev acks : ℕ → List ℕ
+acks n = (3 ∷ 1 ∷ 1 ∷ []) ++ zeros 13 ++ (n ∷ n ∷ 1 ∷ n ∷ 0 ∷ 0 ∷ 0 ∷ 1300 ∷ []) ++ zeros 14 ++ params
+
+-- the run of such calls, of so many bytes, with room for n answers
+abbrev ran : (state calls : List ℕ) → (n : ℕ) → Run
+ran state calls n =
+    let answers : List ℕ = replicate (144 * n) 170 in
+    record {
+      state = state;
+      calls = calls;
+      answers = answers;
+      reply = modelRow state calls (length answers);
+      left = stateOut state calls answers;
+      written = answersOut state calls answers;
+    }
+
+-- the words of the state after n such events, with inflight_lo at `lo`
+abbrev after : (n lo : ℕ) → List ℕ
+after n lo =
+    (n ∷ n ∷ 1 ∷ n ∷ 0 ∷ 1 ∷ 0 ∷ 0 ∷ n ∷ n ∷ 0 ∷ 0 ∷ 0 ∷ 1 ∷ 0 ∷ 1 ∷ 1 ∷ lo ∷ [])
+    ++ ((2 ^ 64 - 1) ∷ 0x3f80_0000 ∷ 0x3f80_0000 ∷ []) ++ zeros 5 ++ (1 ∷ []) ++ zeros 4 ++ (n ∷ n ∷ []) ++ zeros 17
+
+abbrev first : Run
+first = ran (zeros 400) (allBytes (start ++ sends 0 1 ++ acks 1)) 3
+
+-- a question; a number that is no call's; a send at a moment that is out of bounds; a send and an event; the question
+abbrev second : Run
+second =
+    ran (allBytes (after 1 910))
+    (allBytes (asks 35 ++ asks 46 ++ sends 9_000_000_000_000_000_000 2 ++ sends 0 2 ++ acks 2 ++ asks 35)) 6
+
+-- a call that clears inflight_lo, of which a byte is missing
+abbrev third : Run
+third = ran (allBytes (after 2 637)) (take 391 (allBytes (asks 19))) 1
+
+abbrev isOver : (num exponent k : ℕ) → Exact → Bool
+isOver num exponent k unset = false
+isOver num exponent k (over a e b) = eqb num a && eqb exponent e && eqb k b
+
+-- 1300 bytes become 910, beside 1300 b after one reduction
+unfoldable pub firstExamples : List Bool
+firstExamples =
+    eqb (first .reply) 0
+    ∷ same (first .left) (allBytes (after 1 910))
+    ∷ isOver (1300 * usualParts) 24 1 (exactAfter inflightTurn usualParts first unset)
+    ∷ []
+
+-- the question is answered 910, the two bad calls 2, the last question 637; beside it 1300 b b after two reductions
+unfoldable pub secondExamples : List Bool
+secondExamples =
+    eqb (second .reply) 0
+    ∷ same (second .left) (allBytes (after 2 637))
+    ∷ same (second .written)
+    (allBytes
+    ((0 ∷ 910 ∷ zeros 16)
+    ++ (2 ∷ zeros 17)
+    ++ (2 ∷ zeros 17)
+    ++ zeros 18
+    ++ (zeros 3 ++ (1300 ∷ 0 ∷ 0 ∷ 1 ∷ 1 ∷ 1 ∷ 0 ∷ 1 ∷ 1 ∷ []) ++ zeros 6)
+    ++ (0 ∷ 637 ∷ zeros 16)))
+    ∷ isOver (1300 * usualParts * usualParts) 48 2
+    (exactAfter inflightTurn usualParts second (over (1300 * usualParts) 24 1))
+    ∷ []
+
+-- the run that is refused leaves the bytes, and the exact value
+unfoldable pub thirdExamples : List Bool
+thirdExamples =
+    eqb (third .reply) 2
+    ∷ same (third .left) (allBytes (after 2 637))
+    ∷ isOver 9 48 2 (exactAfter inflightTurn usualParts third (over 9 48 2))
+    ∷ []

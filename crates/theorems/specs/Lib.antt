@@ -1,0 +1,5 @@
+-- The page of theorems, and what its statements are made of.
+pub mod Steps
+pub mod Runs
+pub mod Theorems
+pub mod Examples

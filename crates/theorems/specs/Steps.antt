@@ -1,0 +1,176 @@
+-- A call's 49 words as the step that they ask for, by its number (docs/LAYOUT.md, "A call"), what a step does to a
+-- state, and the exact run beside it (crates/drift/specs/Exact.antt). Definitions only.
+use Prim.Native.Nat.{ℕ, zero, suc, _+_}
+use mathlib.Core.Bool.{Bool, true, false, cond, _||_}
+use mathlib.Core.List.{List, [], _∷_}
+use mathlib.Core.Path.{_≡_}
+use lib.Dec.{leb, eqb}
+use Rattle.filters.specs.declared.time.Duration.{Duration}
+use Rattle.filters.specs.declared.time.Moment.{Moment}
+use Rattle.model.specs.declared.params.Params.{Params}
+use Rattle.model.specs.Answers.{settled, noLength, noMoment}
+use Rattle.model.specs.Calls.{one, modelNew, startNumber, startModel}
+use Rattle.phases.specs.Cycle.{cycleNew, freshCycle}
+use Rattle.encoding.specs.Word.{word, flagOf, floatOf}
+use Rattle.encoding.specs.Params.{paramsOf}
+use Rattle.encoding.specs.Record.{recordOf, recordIn}
+use Rattle.encoding.specs.Sample.{sampleOf, ackedOf}
+use Rattle.calls.specs.Enter.{downAt}
+use Rattle.turns.specs.declared.turn.Turn.{Turn}
+use Rattle.turns.specs.Turn.{isJudged, isAsked, noRecord, turnOf}
+use Rattle.exports.specs.ModelRun.{callAt}
+use Rattle.drift.specs.Calls as C
+use Rattle.drift.specs.Calls.{Call, Other, State, numberOf, after}
+use Rattle.drift.specs.Exact as X
+use Rattle.drift.specs.Exact.{Exact, unset, exactly}
+
+-- a start; a call that can change the state; or one that keeps it: a question, or a number that is no call's
+pub data Step : Type 0 where
+  begins : Params → Duration → Moment → Step
+  makes : Call → Step
+  keeps : Step
+
+abbrev pub moment : ℕ → Moment
+moment n = record { 0 = n }
+
+abbrev pub duration : ℕ → Duration
+duration n = record { 0 = n }
+
+abbrev other : Other → Step
+other c = makes (C.other c)
+
+-- ---- from words. Calls 5 to 7 and 9
+unfoldable pub judgeStep : List ℕ → Step
+judgeStep w =
+    cond (eqb (word w 0) 5) (other (C.expire (paramsOf w) (recordOf w)))
+    (cond (eqb (word w 0) 6) keeps
+    (cond (eqb (word w 0) 7) (other (C.growth (paramsOf w) (recordOf w)))
+    (cond (eqb (word w 0) 9) (other (C.queue (paramsOf w) (floatOf (word w 1)))) keeps)))
+
+-- calls 40 to 45. A flag of call 40 that no writer writes makes its moment one that is out of bounds (`downAt`)
+unfoldable pub enterStep : List ℕ → Step
+enterStep w =
+    cond (eqb (word w 0) 40)
+    (other (C.down (paramsOf w) (flagOf (word w 1)) (flagOf (word w 2)) (downAt (word w 1) (word w 2) (word w 3))))
+    (cond (eqb (word w 0) 41) (makes (C.cruise (moment (word w 1))))
+    (cond (eqb (word w 0) 42) (makes (C.refill (word w 1) (moment (word w 2))))
+    (cond (eqb (word w 0) 43) (other (C.up (moment (word w 1)) (word w 2)))
+    (cond (eqb (word w 0) 44) (other C.exit)
+    (cond (eqb (word w 0) 45) (other (C.slope (word w 1))) keeps)))))
+
+-- calls 8 and 14 to 22
+unfoldable pub changeStep : List ℕ → Step
+changeStep w =
+    cond (eqb (word w 0) 8) (other C.restart)
+    (cond (eqb (word w 0) 14) (other C.reached)
+    (cond (eqb (word w 0) 15) (other (C.pacing (floatOf (word w 1))))
+    (cond (eqb (word w 0) 16) (other (C.cwnd (floatOf (word w 1))))
+    (cond (eqb (word w 0) 17) (other (C.high (word w 1)))
+    (cond (eqb (word w 0) 18) (makes (C.cap (word w 1)))
+    (cond (eqb (word w 0) 19) (makes C.clearInflight)
+    (cond (eqb (word w 0) 20) (makes C.clearBandwidth)
+    (cond (eqb (word w 0) 21) (other C.advance)
+    (cond (eqb (word w 0) 22) (other (C.postpone (duration (word w 1)))) keeps)))))))))
+
+unfoldable pub stepOf : List ℕ → Step
+stepOf w =
+    cond (eqb (word w 0) 1) (other (C.sent (moment (word w 1)) (word w 2) (word w 3) (word w 4)))
+    (cond (eqb (word w 0) 3) (makes (C.event (paramsOf w) (recordOf w) (sampleOf w) (ackedOf w)))
+    (cond (eqb (word w 0) 4) (other (C.finish (recordOf w)))
+    (cond (eqb (word w 0) 0) (begins (paramsOf w) (duration (word w 2)) (moment (word w 1)))
+    (cond (isJudged (word w 0)) (judgeStep w)
+    (cond (isAsked (word w 0)) keeps
+    (cond (leb 40 (word w 0)) (enterStep w) (changeStep w)))))))
+
+-- ---- what a step does. A start makes model and cycle anew, a refused one at moment 0
+unfoldable pub begun : Params → Duration → Moment → State
+begun p rtt now =
+    record { model = startModel p rtt now; cycle = freshCycle (settled (startNumber p rtt now) now noMoment) }
+
+unfoldable pub afterStep : Step → State → State
+afterStep (begins p rtt now) s = begun p rtt now
+afterStep (makes c) s = after c s
+afterStep keeps s = s
+
+-- n is the number that it is answered with
+abbrev pub Replies : Step → State → ℕ → Type 0
+Replies (begins p rtt now) s n = n ≡ startNumber p rtt now
+Replies (makes c) s n = n ≡ numberOf c s
+Replies keeps s n = Unit {0}
+
+-- the steps of the n calls in bytes from an index on, and what they do, one after the other
+unfoldable pub stepsFrom : List ℕ → ℕ → ℕ → List Step
+stepsFrom calls at zero = []
+stepsFrom calls at (suc n) = stepOf (callAt calls at) ∷ stepsFrom calls (at + 392) n
+
+unfoldable pub walk : List Step → State → State
+walk [] s = s
+walk (c ∷ steps) s = walk steps (afterStep c s)
+
+-- ---- the exact run beside them: a start unsets it, and a call makes its turn where it is done
+unfoldable pub exactStep : (Call → State → X.Turn) → (parts : ℕ) → Step → State → Exact → Exact
+exactStep turn parts (begins p rtt now) s x = unset
+exactStep turn parts (makes c) s x = exactly parts (settled (numberOf c s) (turn c s) X.stays) x
+exactStep turn parts keeps s x = x
+
+unfoldable pub exactWalk : (Call → State → X.Turn) → (parts : ℕ) → List Step → State → Exact → Exact
+exactWalk turn parts [] s x = x
+exactWalk turn parts (c ∷ steps) s x = exactWalk turn parts steps (afterStep c s) (exactStep turn parts c s x)
+
+-- ---- a call's turn (crates/turns/specs/Turn.antt) leaves what its step leaves, and replies its number
+abbrev pub turnIn : List ℕ → State → Turn
+turnIn w s = turnOf w (s .model) (s .cycle)
+
+abbrev pub stateLeft : Turn → State
+stateLeft t = record { model = t .model; cycle = t .cycle }
+
+pub record Makes (w : List ℕ) (s : State) : Type 0 where
+  pub leaves : stateLeft (turnIn w s) ≡ afterStep (stepOf w) s
+  pub replies : Replies (stepOf w) s (turnIn w s .reply)
+
+-- a call that is refused: a start leaves document 01's fresh state at moment 0, any other call the state as it was. Its
+-- answer is its number, 0, and the record: for call 3, words 22 to 37 of the call as they were handed in
+abbrev pub fresh : State
+fresh = record { model = modelNew one one false noLength noMoment; cycle = cycleNew noMoment }
+
+pub record Refused (w : List ℕ) (s : State) : Type 0 where
+  pub state : stateLeft (turnIn w s) ≡ cond (eqb (word w 0) 0) fresh s
+  pub value : turnIn w s .value ≡ 0
+  pub event : turnIn w s .event ≡ cond (eqb (word w 0) 3) (recordIn w) noRecord
+
+-- ---- docs/LAYOUT.md, "A call": the number of each. The step of a number is that number's
+abbrev pub otherCall : Other → ℕ
+otherCall (C.sent now inflight packet bytes) = 1
+otherCall (C.finish e) = 4
+otherCall (C.expire p e) = 5
+otherCall (C.growth p e) = 7
+otherCall (C.queue p gain) = 9
+otherCall C.restart = 8
+otherCall C.reached = 14
+otherCall (C.pacing gain) = 15
+otherCall (C.cwnd gain) = 16
+otherCall (C.high bytes) = 17
+otherCall C.advance = 21
+otherCall (C.postpone d) = 22
+otherCall (C.down p hi risky now) = 40
+otherCall (C.up now window) = 43
+otherCall C.exit = 44
+otherCall (C.slope window) = 45
+
+abbrev pub callNumber : Call → ℕ
+callNumber (C.event p e x acked) = 3
+callNumber (C.cap bytes) = 18
+callNumber C.clearInflight = 19
+callNumber C.clearBandwidth = 20
+callNumber (C.cruise now) = 41
+callNumber (C.refill rounds now) = 42
+callNumber (C.other c) = otherCall c
+
+-- "The numbers 2, 39 and those above 45 are no call's."
+abbrev pub isUnknown : ℕ → Bool
+isUnknown n = eqb n 2 || eqb n 39 || leb 46 n
+
+abbrev pub Numbered : Step → ℕ → Type 0
+Numbered (begins p rtt now) n = n ≡ 0
+Numbered (makes c) n = n ≡ callNumber c
+Numbered keeps n = (eqb n 6 || isAsked n || isUnknown n) ≡ true

@@ -1,0 +1,140 @@
+-- The theorems of Guovssalu: one record, `Theorems`, below. Its one proof is `theorems` in proofs/Theorems.antt, which
+-- the checker has accepted. What stands here are statements: to judge them, no proof need be read.
+--
+-- How to read them. `--` begins a remark. `x : A` says that x is of the kind A: `ℕ` is the whole numbers from 0, `Bool`
+-- is true or false, `Float` a float, `List ℕ` a list of whole numbers. `(x : A) → B` is "for every x of the kind A, B",
+-- and `A → B` is "if A, then B". `A × B` is "A and B", `A ⊎ B` "A or B", `x ≡ y` "x equals y". `⊥` is "never", so that
+-- `A → ⊥` is "not A". `f x y` is f of x and y: arguments have no brackets around them. `r .f` is the field f of the
+-- record r. `λ x. A` is A as a function of x. `[]` is the empty list, `x ∷ l` is the list l with x before it, `k ++ l`
+-- is the list k and then the list l. `let x = a in B` is B, in which x stands for a. `Type 0` is the kind of
+-- statements: a definition that ends in it names one. `abbrev`, `pub` and `use` lines add nothing to what is said.
+--
+-- Bytes, words, the numbers of the calls and those of the refusals are explained in docs/LAYOUT.md, "document 01" in
+-- docs/README.md. The statements are made of names from two files beside this one:
+--   Runs.antt     an exported call as bytes lent and bytes left, of which no more is known than its contract; runs of
+--                 `guovssalu_run` one after the other; where in the bytes a word stands; the exact value beside them
+--   Steps.antt    the 49 words of a call as the step that they ask for, and what a step does to a state
+-- Any other name stands in the crate that its `use` line names; what the lower bounds, exact values and `Follows` are
+-- is explained in crates/drift/specs/Drift.antt.
+use Prim.Native.Nat.{ℕ, _^_, _<_}
+use mathlib.Core.Bool.{true, false}
+use mathlib.Core.List.{List, [], _∷_, _++_}
+use mathlib.Core.Logic.{_⊎_}
+use mathlib.Core.Path.{_≡_}
+use lib.Ieee.{Float}
+use lib.Ieee.Exact.{HasValue}
+use lib.ListN.{length}
+use Rattle.numbers.specs.Scaling.{complement, partsOf}
+use Rattle.numbers.specs.Examples.{all}
+use Rattle.phases.specs.Examples.{markedExamples}
+use Rattle.laws.specs.Laws.{EveryCall}
+use Rattle.laws.specs.Replies.{EveryReply}
+use Rattle.words.specs.Words.{allBytes}
+use Rattle.encoding.specs.Tested.{Tested}
+use Rattle.encoding.specs.Word.{word}
+use Rattle.exports.specs.FilterRun.{runRow, runOut}
+use Rattle.exports.specs.ModelRun.{encodesNone, answerWords, modelRow, stateOut, answersOut}
+use Rattle.exports.specs.Slope.{slopeRow, slopeOut}
+use Rattle.drift.specs.Calls.{Call, State}
+use Rattle.drift.specs.Exact.{Turn, Exact, unset, inflightTurn, bandwidthTurn}
+use Rattle.drift.specs.Drift.{Low, Follows, IsBeta, usualBeta, usualParts, Under}
+use Rattle.theorems.specs.Steps.{Makes, Refused, Numbered, stepOf, turnIn}
+use Rattle.theorems.specs.Runs.{Unasked, Run, Ran, FilterRun, Filtered, SlopeRun, Raised, OneOutcome, Conversions, RunRow, FilterRow, SlopeRow, AreBytes, isWithin, count, call, before, answer, answerWord, Accepted, Starts, Each, History, exactAfter, exactRuns, exactBefore, lowWord, inflightIn, bandwidthIn, HasBetaWord, HasSmallWords, OfEvents}
+
+-- What demand 3 says, of any runs, the last of which is r, that begin with a start (`History`), and in which every
+-- accepted event has words of which P holds: the number that `low` finds in the bytes that r left is near the exact one
+abbrev pub InState : (P : List ℕ → Type 0) (low : List ℕ → Low) (turn : Call → State → Turn) (parts : ℕ)
+    (Near : Low → Exact → Type 0) → Type 0
+InState P low turn parts Near =
+    (runs : List Run) (r : Run) → History (runs ++ (r ∷ [])) → Each (OfEvents P) (runs ++ (r ∷ [])) →
+    Near (low (r .left)) (exactAfter turn parts r (exactRuns turn parts runs unset))
+
+-- and so is the answer to a call 35 of r, "inflight_lo", where i calls of r were made before it
+abbrev pub InAnswers : (P : List ℕ → Type 0) (turn : Call → State → Turn) (parts : ℕ) (Near : Low → Exact → Type 0) →
+    Type 0
+InAnswers P turn parts Near =
+    (runs : List Run) (r : Run) (i : ℕ) → History (runs ++ (r ∷ [])) → Each (OfEvents P) (runs ++ (r ∷ [])) →
+    Accepted 35 r i → Near (lowWord (answerWord r i 1)) (exactBefore turn parts r i (exactRuns turn parts runs unset))
+
+-- inflight_lo, where P is: the event has this beta, and its window and its inflight sample are at most 2^24
+abbrev pub InflightNear : (beta : Float) (parts : ℕ) (Near : Low → Exact → Type 0) → Type 0
+InflightNear beta parts Near =
+    InState (λ w. HasBetaWord beta w × HasSmallWords w) inflightIn inflightTurn parts Near
+    × InAnswers (λ w. HasBetaWord beta w × HasSmallWords w) inflightTurn parts Near
+
+-- bandwidth_lo, where P is: the event has this beta
+abbrev pub BandwidthNear : (beta : Float) (parts : ℕ) (Near : Low → Exact → Type 0) → Type 0
+BandwidthNear beta parts Near = InState (HasBetaWord beta) bandwidthIn bandwidthTurn parts Near
+
+pub record Theorems : Type 0 where
+  -- ==== Demand 1. Every exported call takes any numbers, and ends; bad input gets a refusal by the table, and then
+  -- every lent byte is as it was. (That a function ends and does nothing undefined, the checker proves of each.)
+  -- No contract asks anything of the arguments
+  pub any : Unasked
+  -- A call is refused with the number of the first row that holds, exactly then. The conversions refuse nothing
+  pub run-row : (r : Run) → Ran r → RunRow r
+  pub filter-row : (r : FilterRun) → Filtered r → FilterRow r
+  pub slope-row : (r : SlopeRun) → Raised r → SlopeRow r
+  -- Refused, it leaves every lent byte as it was
+  pub run-keeps : (r : Run) → Ran r → (r .reply ≡ 0 → ⊥) → (r .left ≡ r .state) × (r .written ≡ r .answers)
+  pub filter-keeps : (r : FilterRun) → Filtered r → (r .reply ≡ 0 → ⊥) → r .written ≡ r .output
+  pub slope-keeps : (r : SlopeRun) → Raised r → (r .reply ≡ 0 → ⊥) → r .written ≡ r .output
+  -- A run that is done leaves a state within document 01's bounds, if it was lent one or its first call is a start. The
+  -- premise `AreBytes` says that each byte is below 256: a list here may hold any numbers
+  pub run-bounds : (r : Run) → Ran r → AreBytes (r .state) → AreBytes (r .calls) → r .reply ≡ 0 →
+      (isWithin (r .state) ≡ true) ⊎ Starts r → isWithin (r .left) ≡ true
+  -- It leaves 400 bytes that encode a state, so that the next run takes them
+  pub run-again : (r : Run) → Ran r → AreBytes (r .state) → AreBytes (r .calls) → r .reply ≡ 0 →
+      (length (r .left) ≡ 400) × (encodesNone (r .left) ≡ false)
+  -- In it, call i is answered by its turn (`turnOf`) in the state that the calls before it left
+  pub call-answered : (r : Run) → Ran r → r .reply ≡ 0 → (i : ℕ) → i < count r →
+      answer r i ≡ allBytes (answerWords (turnIn (call r i) (before r i)))
+  -- A call of a run that is refused changes nothing, and is answered its number, 0 and the record as handed in
+  pub call-refused : (w : List ℕ) (s : State) → (turnIn w s .reply ≡ 0 → ⊥) → Refused w s
+  -- Words that no writer writes are out of bounds: what is within them is written in the very words that were read
+  pub words : Tested
+  -- Every public call of the model is refused with the number of the first row that holds, exactly then; refused, it
+  -- leaves what it was given, and done, what its definition says (demand 2); then the state is within its bounds
+  pub calls : EveryReply
+  pub calls-bounds : EveryCall
+
+  -- ==== Demand 2. What an exported call replies and leaves is what its definition says, and nothing else is allowed
+  pub run-defined : (r : Run) → Ran r →
+      (r .reply ≡ modelRow (r .state) (r .calls) (length (r .answers)))
+      × (r .left ≡ stateOut (r .state) (r .calls) (r .answers))
+      × (r .written ≡ answersOut (r .state) (r .calls) (r .answers))
+  pub filter-defined : (r : FilterRun) → Filtered r →
+      (r .reply ≡ runRow (r .window) (r .pairs) (length (r .output)))
+      × (r .written ≡ runOut (r .window) (r .pairs) (r .output))
+  pub slope-defined : (r : SlopeRun) → Raised r →
+      (r .reply ≡ slopeRow (r .rounds) (r .window) (length (r .output)))
+      × (r .written ≡ slopeOut (r .rounds) (r .window) (r .output))
+  pub conversions : Conversions
+  pub one-outcome : OneOutcome
+  -- A call in a run does what its step does, and the step of a call is that of its number, whatever its words are
+  pub turns : (w : List ℕ) (s : State) → Makes w s
+  pub numbers : (w : List ℕ) → Numbered (stepOf w) (word w 0)
+  -- Document 01's twelve marked examples hold of the definitions
+  pub examples : all markedExamples ≡ true
+
+  -- ==== Demand 3. For every f32 beta from 1/1024 to 1023/1024, the float b = 1 - beta is exactly parts / 2^24, and
+  -- inflight_lo is unset exactly where the exact value is; where it is set, after k reductions, it differs from it by
+  -- less than k bytes and by less than 1 / (1 - b) bytes. (`Follows 1 1`; word 17 is 2^64 - 1 where it is unset.)
+  pub inflight : (beta : Float) → IsBeta beta →
+      let parts = partsOf (complement beta) in
+      HasValue (complement beta) false parts (2 ^ 24) × InflightNear beta parts (Follows 1 1 parts)
+  -- bandwidth_lo: the same with 4097 / 8192 bits per second in place of 1 byte
+  pub bandwidth : (beta : Float) → IsBeta beta →
+      let parts = partsOf (complement beta) in BandwidthNear beta parts (Follows 4097 8192 parts)
+  -- At beta 0.3 b is 11744051 / 2^24, and they are under 3.34 bytes and under 1.67 bits per second
+  pub usual-inflight : InflightNear usualBeta usualParts (Under 334)
+  pub usual-bandwidth : BandwidthNear usualBeta usualParts (Under 167)
+
+-- ==== What else must be believed
+-- The kit: that its checker accepts only proofs; that its models of floats and of the machine are those of the
+-- processor; that `Reads.Learnt` is a function's contract; and that its back end compiles what was proved. The page
+-- docs/LAYOUT.md. And the definitions in specs/ of the crates, written from document 01 and the original. Lines, as
+-- `wc -l` counts them, remarks and `use` lines too, without Lib.antt, Examples.antt and Inner.antt, of which no theorem
+-- above speaks:
+--   numbers 212, filters 248, model 331, events 326, phases 195, laws 415, drift 516, words 32,
+--   encoding 485, calls 171, turns 113, exports 198, theorems 582: together 3824
