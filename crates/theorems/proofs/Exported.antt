@@ -58,20 +58,20 @@ pub one-outcome : OneOutcome
 one-outcome =
     record {
       run = λ r q h k e.
-        let a = run-is r h in
-        let b = run-is q k in (
-          a .0 ∙ (λ i. modelRow (e .0 i) (e .1 i) (length (e .2 i))) ∙ sym (b .0),
-          a .1 ∙ (λ i. stateOut (e .0 i) (e .1 i) (e .2 i)) ∙ sym (b .1),
-          a .2 ∙ (λ i. answersOut (e .0 i) (e .1 i) (e .2 i)) ∙ sym (b .2),
-        );
+          let a = run-is r h in
+          let b = run-is q k in (
+            a .0 ∙ (λ i. modelRow (e .0 i) (e .1 i) (length (e .2 i))) ∙ sym (b .0),
+            a .1 ∙ (λ i. stateOut (e .0 i) (e .1 i) (e .2 i)) ∙ sym (b .1),
+            a .2 ∙ (λ i. answersOut (e .0 i) (e .1 i) (e .2 i)) ∙ sym (b .2),
+          );
       filter-run = λ r q h k e.
-        let a = filter-is r h in
-        let b = filter-is q k in
-        (a .0 ∙ (λ i. runRow (e .0 i) (e .1 i) (length (e .2 i))) ∙ sym (b .0), a .1 ∙ (λ i. runOut (e .0 i) (e .1 i) (e .2 i)) ∙ sym (b .1));
+          let a = filter-is r h in
+          let b = filter-is q k in
+          (a .0 ∙ (λ i. runRow (e .0 i) (e .1 i) (length (e .2 i))) ∙ sym (b .0), a .1 ∙ (λ i. runOut (e .0 i) (e .1 i) (e .2 i)) ∙ sym (b .1));
       raise-slope = λ r q h k e.
-        let a = slope-is r h in
-        let b = slope-is q k in
-        (a .0 ∙ (λ i. slopeRow (e .0 i) (e .1 i) (length (e .2 i))) ∙ sym (b .0), a .1 ∙ (λ i. slopeOut (e .0 i) (e .1 i) (e .2 i)) ∙ sym (b .1));
+          let a = slope-is r h in
+          let b = slope-is q k in
+          (a .0 ∙ (λ i. slopeRow (e .0 i) (e .1 i) (length (e .2 i))) ∙ sym (b .0), a .1 ∙ (λ i. slopeOut (e .0 i) (e .1 i) (e .2 i)) ∙ sym (b .1));
     }
 
 -- ---- refused, lent bytes are as they were

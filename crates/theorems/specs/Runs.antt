@@ -231,18 +231,18 @@ pub record History (runs : List Run) : Type 0 where
   pub bytes : Each (λ r. AreBytes (r .state) × AreBytes (r .calls)) runs
   pub order : InOrder runs
 
--- ---- the exact run beside them, given the calls that the bytes hold: after a run, a refused one counting as not made;
--- after runs; and before call i of a run
-unfoldable pub exactAfter : (Call → State → X.Turn) → (parts : ℕ) → Run → Exact → Exact
-exactAfter turn parts r x =
-    settled (r .reply) (exactWalk turn parts (stepsFrom (r .calls) 0 (count r)) (stateFrom (r .state)) x) x
+-- ---- the exact run beside them, given the calls that the bytes hold: before call i of a run
+abbrev pub exactBefore : (Call → State → X.Turn) → (parts : ℕ) → Run → ℕ → Exact → Exact
+exactBefore turn parts r i x = exactWalk turn parts (stepsFrom (r .calls) 0 i) (stateFrom (r .state)) x
 
+-- after it; a run that is refused counts as not made
+unfoldable pub exactAfter : (Call → State → X.Turn) → (parts : ℕ) → Run → Exact → Exact
+exactAfter turn parts r x = settled (r .reply) (exactBefore turn parts r (count r) x) x
+
+-- after several
 unfoldable pub exactRuns : (Call → State → X.Turn) → (parts : ℕ) → List Run → Exact → Exact
 exactRuns turn parts [] x = x
 exactRuns turn parts (r ∷ runs) x = exactRuns turn parts runs (exactAfter turn parts r x)
-
-abbrev pub exactBefore : (Call → State → X.Turn) → (parts : ℕ) → Run → ℕ → Exact → Exact
-exactBefore turn parts r i x = exactWalk turn parts (stepsFrom (r .calls) 0 i) (stateFrom (r .state)) x
 
 -- ---- the lower bounds in bytes. A word: 2^64 - 1 is unset
 unfoldable pub lowWord : ℕ → Low

@@ -97,7 +97,7 @@ pub record Theorems : Type 0 where
   -- leaves what it was given, and done, what its definition says (demand 2); then the state is within its bounds
   pub calls : EveryReply
   pub calls-bounds : EveryCall
-
+  --
   -- ==== Demand 2. What an exported call replies and leaves is what its definition says, and nothing else is allowed
   pub run-defined : (r : Run) → Ran r →
       (r .reply ≡ modelRow (r .state) (r .calls) (length (r .answers)))
@@ -116,7 +116,7 @@ pub record Theorems : Type 0 where
   pub numbers : (w : List ℕ) → Numbered (stepOf w) (word w 0)
   -- Document 01's twelve marked examples hold of the definitions
   pub examples : all markedExamples ≡ true
-
+  --
   -- ==== Demand 3. For every f32 beta from 1/1024 to 1023/1024, the float b = 1 - beta is exactly parts / 2^24, and
   -- inflight_lo is unset exactly where the exact value is; where it is set, after k reductions, it differs from it by
   -- less than k bytes and by less than 1 / (1 - b) bytes. (`Follows 1 1`; word 17 is 2^64 - 1 where it is unset.)
@@ -137,4 +137,4 @@ pub record Theorems : Type 0 where
 -- `wc -l` counts them, remarks and `use` lines too, without Lib.antt, Examples.antt and Inner.antt, of which no theorem
 -- above speaks:
 --   numbers 212, filters 248, model 331, events 326, phases 195, laws 415, drift 516, words 32,
---   encoding 485, calls 171, turns 113, exports 198, theorems 582: together 3824
+--   encoding 485, calls 171, turns 113, exports 198, theorems 583: together 3825
