@@ -11,6 +11,7 @@ use crate::steps::Steps;
 use crate::values::Random;
 use crate::world::Step;
 use crate::world::World;
+use crate::world::START;
 
 /// The forms that a word can miss.
 #[derive(Clone, Copy)]
@@ -54,8 +55,8 @@ const EVENT: [(usize, Form); 8] = [
     (18, Count),
 ];
 
-/// Calls that use such words.
-const CALLS: [u64; 18] = [0, 3, 3, 3, 3, 3, 4, 5, 6, 7, 9, 9, 10, 13, 15, 16, 40, 40];
+/// Calls that use such words, but for a start.
+const CALLS: [u64; 17] = [3, 3, 3, 3, 3, 4, 5, 6, 7, 9, 9, 10, 13, 15, 16, 40, 40];
 
 /// Numbers that are no call's, and not one of the frames' own.
 const NO_CALLS: [u64; 10] = [
@@ -71,7 +72,8 @@ const NO_CALLS: [u64; 10] = [
     u64::MAX,
 ];
 
-/// An endless run of steps on a model and its cycle.
+/// An endless run of steps on a model and its cycle. Those of `Steps` are the
+/// same as without the others: these leave the state, or come before a start.
 pub struct Mixed {
     steps: Steps,
     random: Random,
@@ -102,10 +104,13 @@ impl Mixed {
 
     /// The words of a call, mostly such as are refused.
     fn words(&mut self, world: &World) -> CallWords {
-        let number = self.random.pick(&CALLS);
+        let number = match self.steps.at_end() {
+            true => START,
+            false => self.random.pick(&CALLS),
+        };
         let state = steps::within(&world.state);
         let numbers = match number {
-            0 => vec![0, self.random.below(1000), self.random.of_length(36)],
+            START => vec![START, self.random.below(1000), self.random.of_length(36)],
             _ => self.calls.make(number, &state).numbers(),
         };
         let record = &world.state[CARRIED..];

@@ -123,6 +123,11 @@ impl Steps {
         matches!(step, Step::Call(Call::Start(_)))
     }
 
+    /// Whether a start comes next, whatever the state.
+    pub fn at_end(&self) -> bool {
+        self.planned.is_empty() && self.calls.at_end()
+    }
+
     /// The step to be taken in this world.
     pub fn next(&mut self, world: &World) -> Step {
         if self.planned.is_empty() {
