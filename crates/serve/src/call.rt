@@ -50,8 +50,8 @@ fn state_call(number: u64, state: &mut [u8; 400], call: &[u8], answer: &mut [u8]
     copy(state, answer, 144);
 }
 
-// A call of the model, by the exported run. What the run itself refuses, as an unknown call, is answered by its reply
-// alone.
+// A call of the model, by the exported run. What the run itself refuses, a state with a malformed word, is answered by
+// its reply alone.
 fn model_call(state: &mut [u8], call: &[u8], answer: &mut [u8])
     requires { ⌜ length (now answer) ≡ 544 ⌝ }
 {
