@@ -3,7 +3,9 @@ pub mod Choice
 pub mod Decoded
 pub mod Form
 pub mod Kept
+pub mod Below
 pub mod Numbers
+pub mod Rows
 pub mod Exported
 pub mod Refused
 pub mod Left

@@ -13,6 +13,7 @@ use Rattle.theorems.proofs.Follow as follow
 use Rattle.theorems.proofs.Left.{from-form, left-within, started-within, left-taken}
 use Rattle.theorems.proofs.Numbers.{every-number}
 use Rattle.theorems.proofs.Refused.{refused}
+use Rattle.theorems.proofs.Rows.{every-row}
 
 unasked : Unasked
 unasked =
@@ -42,6 +43,7 @@ theorems =
       run-bounds = λ r ran b c done h. elim h [ inl e ↦ left-within r ran done (from-form (r .state) b) c e | inr e ↦ started-within r ran done (from-form (r .state) b) c e ];
       run-again = λ r ran b c done. left-taken r ran done (from-form (r .state) b) c;
       call-answered = answer-bytes;
+      call-row = every-row;
       call-refused = refused;
       words = tested;
       calls = every-reply;

@@ -1,5 +1,6 @@
 -- The page of theorems, and what its statements are made of.
 pub mod Steps
+pub mod Rows
 pub mod Runs
 pub mod Theorems
 pub mod Examples

@@ -10,10 +10,11 @@
 -- statements: a definition that ends in it names one. `abbrev`, `pub` and `use` lines add nothing to what is said.
 --
 -- Bytes, words, the numbers of the calls and those of the refusals are explained in docs/LAYOUT.md, "document 01" in
--- docs/README.md. The statements are made of names from two files beside this one:
+-- docs/README.md. The statements are made of names from three files beside this one:
 --   Runs.antt     an exported call as bytes lent and bytes left, of which no more is known than its contract; runs of
 --                 `guovssalu_run` one after the other; where in the bytes a word stands; the exact value beside them
 --   Steps.antt    the 49 words of a call as the step that they ask for, and what a step does to a state
+--   Rows.antt     by the number of a call in a run, which rows of document 01's table hold
 -- Any other name stands in the crate that its `use` line names; what the lower bounds, exact values and `Follows` are
 -- is explained in crates/drift/specs/Drift.antt.
 use Prim.Native.Nat.{ℕ, _^_, _<_}
@@ -28,7 +29,7 @@ use Rattle.numbers.specs.Scaling.{complement, partsOf}
 use Rattle.numbers.specs.Examples.{all}
 use Rattle.phases.specs.Examples.{markedExamples}
 use Rattle.laws.specs.Laws.{EveryCall}
-use Rattle.laws.specs.Replies.{EveryReply}
+use Rattle.laws.specs.Replies.{Exactly, EveryReply}
 use Rattle.words.specs.Words.{allBytes}
 use Rattle.encoding.specs.Tested.{Tested}
 use Rattle.encoding.specs.Word.{word}
@@ -38,6 +39,7 @@ use Rattle.exports.specs.Slope.{slopeRow, slopeOut}
 use Rattle.drift.specs.Calls.{Call, State}
 use Rattle.drift.specs.Exact.{Turn, Exact, unset, inflightTurn, bandwidthTurn}
 use Rattle.drift.specs.Drift.{Low, Follows, IsBeta, usualBeta, usualParts, Under}
+use Rattle.theorems.specs.Rows.{rowsOf}
 use Rattle.theorems.specs.Steps.{Makes, Refused, Numbered, stepOf, turnIn}
 use Rattle.theorems.specs.Runs.{Unasked, Run, Ran, FilterRun, Filtered, SlopeRun, Raised, OneOutcome, Conversions, RunRow, FilterRow, SlopeRow, AreBytes, isWithin, count, call, before, answer, answerWord, Accepted, Starts, Each, History, exactAfter, exactRuns, exactBefore, lowWord, inflightIn, bandwidthIn, HasBetaWord, HasSmallWords, OfEvents}
 
@@ -89,6 +91,8 @@ pub record Theorems : Type 0 where
   -- In it, call i is answered by its turn (`turnOf`) in the state that the calls before it left
   pub call-answered : (r : Run) → Ran r → r .reply ≡ 0 → (i : ℕ) → i < count r →
       answer r i ≡ allBytes (answerWords (turnIn (call r i) (before r i)))
+  -- It is refused with the number of the first row that holds, exactly then, be its words what they are
+  pub call-row : (w : List ℕ) (s : State) → Exactly (turnIn w s .reply) (rowsOf w s)
   -- A call of a run that is refused changes nothing, and is answered its number, 0 and the record as handed in
   pub call-refused : (w : List ℕ) (s : State) → (turnIn w s .reply ≡ 0 → ⊥) → Refused w s
   -- Words that no writer writes are out of bounds: what is within them is written in the very words that were read
@@ -137,4 +141,4 @@ pub record Theorems : Type 0 where
 -- `wc -l` counts them, remarks and `use` lines too, without Lib.antt, Examples.antt and Inner.antt, of which no theorem
 -- above speaks:
 --   numbers 212, filters 248, model 331, events 326, phases 195, laws 415, drift 516, words 32,
---   encoding 485, calls 171, turns 113, exports 198, theorems 583: together 3825
+--   encoding 485, calls 171, turns 113, exports 198, theorems 671: together 3913
