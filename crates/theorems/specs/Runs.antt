@@ -1,5 +1,8 @@
 -- The exported calls on lent bytes, of which no more is known than their contracts, and runs of `guovssalu_run` one
--- after the other on the same state (docs/LAYOUT.md). Definitions only.
+-- after the other on the same state (docs/LAYOUT.md). Definitions only. Theorems.antt says how to read them; besides,
+-- `A ↔ B` is "A exactly when B", `Unit` "nothing is asked", `cond t a b` is a where the test t is true and b elsewhere,
+-- and of tests `eqb` is "equals", `ltb` "is below", `&&` "and", `||` "or". `{K : Type 0}` names what is left to the
+-- checker to find.
 use Prim.Native.Nat.{ℕ, _+_, _-_, _*_, _%_, _^_, _≤_, _<_}
 use mathlib.Core.Bool.{Bool, true, false, cond, not, _&&_, _||_}
 use mathlib.Core.List.{List, [], _∷_}
@@ -222,10 +225,13 @@ abbrev pub Chained : List ℕ → List Run → Type 0
 Chained bytes [] = Unit {0}
 Chained bytes (r ∷ runs) = (r .state ≡ bytes) × Chained (r .left) runs
 
+-- of which the first begins with a start
 abbrev pub InOrder : List Run → Type 0
 InOrder [] = ⊥
 InOrder (r ∷ runs) = Starts r × Chained (r .left) runs
 
+-- runs of `guovssalu_run` on one state, each with an outcome that its contract allows, on lists of bytes. The first
+-- begins with a start; after it any run may be refused, and any may start anew
 pub record History (runs : List Run) : Type 0 where
   pub ran : Each Ran runs
   pub bytes : Each (λ r. AreBytes (r .state) × AreBytes (r .calls)) runs
@@ -255,7 +261,8 @@ inflightIn bytes = lowWord (Bytes.word bytes (8 * 17))
 unfoldable pub bandwidthIn : List ℕ → Low
 bandwidthIn bytes = lowOf (bandwidthOf (Bytes.word bytes (8 * 15)) (Bytes.word bytes (8 * 16)))
 
--- ---- of an event's words: beta is word 38; the window, word 23, and the inflight sample, word 10, are at most 2^24
+-- ---- of an event's words: word 38 is read as beta; the window, word 23, and the inflight sample, word 10, are at most
+-- 2^24
 abbrev pub HasBetaWord : Float → List ℕ → Type 0
 HasBetaWord beta w = floatOf (word w 38) ≡ beta
 

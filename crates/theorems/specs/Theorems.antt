@@ -6,8 +6,9 @@
 -- and `A → B` is "if A, then B". `A × B` is "A and B", `A ⊎ B` "A or B", `x ≡ y` "x equals y". `⊥` is "never", so that
 -- `A → ⊥` is "not A". `f x y` is f of x and y: arguments have no brackets around them. `r .f` is the field f of the
 -- record r. `λ x. A` is A as a function of x. `[]` is the empty list, `x ∷ l` is the list l with x before it, `k ++ l`
--- is the list k and then the list l. `let x = a in B` is B, in which x stands for a. `Type 0` is the kind of
--- statements: a definition that ends in it names one. `abbrev`, `pub` and `use` lines add nothing to what is said.
+-- is the list k and then the list l. `let x = a in B` is B, in which x stands for a. A `record` of statements holds
+-- where each of its lines does. `Type 0` is the kind of statements: a definition that ends in it names one. `abbrev`,
+-- `pub` and `use` lines add nothing to what is said.
 --
 -- Bytes, words, the numbers of the calls and those of the refusals are explained in docs/LAYOUT.md, "document 01" in
 -- docs/README.md. The statements are made of names from three files beside this one:
@@ -85,15 +86,16 @@ pub record Theorems : Type 0 where
   -- premise `AreBytes` says that each byte is below 256: a list here may hold any numbers
   pub run-bounds : (r : Run) → Ran r → AreBytes (r .state) → AreBytes (r .calls) → r .reply ≡ 0 →
       (isWithin (r .state) ≡ true) ⊎ Starts r → isWithin (r .left) ≡ true
-  -- It leaves 400 bytes that encode a state, so that the next run takes them
+  -- And it leaves 400 bytes that encode a state, so that the next run takes them
   pub run-again : (r : Run) → Ran r → AreBytes (r .state) → AreBytes (r .calls) → r .reply ≡ 0 →
       (length (r .left) ≡ 400) × (encodesNone (r .left) ≡ false)
-  -- In it, call i is answered by its turn (`turnOf`) in the state that the calls before it left
+  -- In a run that is done, call i is answered by its turn (`turnOf`) in the state that the calls before it left
   pub call-answered : (r : Run) → Ran r → r .reply ≡ 0 → (i : ℕ) → i < count r →
       answer r i ≡ allBytes (answerWords (turnIn (call r i) (before r i)))
-  -- It is refused with the number of the first row that holds, exactly then, be its words what they are
+  -- A call of a run is refused with the number of the first row that holds, exactly then, whatever its words are
   pub call-row : (w : List ℕ) (s : State) → Exactly (turnIn w s .reply) (rowsOf w s)
-  -- A call of a run that is refused changes nothing, and is answered its number, 0 and the record as handed in
+  -- Refused, it changes nothing, and its answer is its number, 0 and the record as handed in. (A refused start has no
+  -- earlier state, and leaves a fresh one at moment 0)
   pub call-refused : (w : List ℕ) (s : State) → (turnIn w s .reply ≡ 0 → ⊥) → Refused w s
   -- Words that no writer writes are out of bounds: what is within them is written in the very words that were read
   pub words : Tested
@@ -115,7 +117,7 @@ pub record Theorems : Type 0 where
       × (r .written ≡ slopeOut (r .rounds) (r .window) (r .output))
   pub conversions : Conversions
   pub one-outcome : OneOutcome
-  -- A call in a run does what its step does, and the step of a call is that of its number, whatever its words are
+  -- A call of a run leaves what its step leaves, and the step is that of the call's number, whatever its words are
   pub turns : (w : List ℕ) (s : State) → Makes w s
   pub numbers : (w : List ℕ) → Numbered (stepOf w) (word w 0)
   -- Document 01's twelve marked examples hold of the definitions
@@ -123,7 +125,7 @@ pub record Theorems : Type 0 where
   --
   -- ==== Demand 3. For every f32 beta from 1/1024 to 1023/1024, the float b = 1 - beta is exactly parts / 2^24, and
   -- inflight_lo is unset exactly where the exact value is; where it is set, after k reductions, it differs from it by
-  -- less than k bytes and by less than 1 / (1 - b) bytes. (`Follows 1 1`; word 17 is 2^64 - 1 where it is unset.)
+  -- less than k bytes and by less than 1 / (1 - b) bytes (`Follows 1 1`). Word 17 is 2^64 - 1 where it is unset
   pub inflight : (beta : Float) → IsBeta beta →
       let parts = partsOf (complement beta) in
       HasValue (complement beta) false parts (2 ^ 24) × InflightNear beta parts (Follows 1 1 parts)
@@ -140,5 +142,5 @@ pub record Theorems : Type 0 where
 -- docs/LAYOUT.md. And the definitions in specs/ of the crates, written from document 01 and the original. Lines, as
 -- `wc -l` counts them, remarks and `use` lines too, without Lib.antt, Examples.antt and Inner.antt, of which no theorem
 -- above speaks:
---   numbers 212, filters 248, model 331, events 326, phases 195, laws 415, drift 516, words 32,
---   encoding 485, calls 171, turns 113, exports 198, theorems 671: together 3913
+--   numbers 212, filters 250, model 331, events 331, phases 195, laws 417, drift 516, words 32,
+--   encoding 485, calls 171, turns 113, exports 198, theorems 680: together 3931
