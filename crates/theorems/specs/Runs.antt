@@ -37,7 +37,8 @@ use Rattle.theorems.specs.Steps.{stepsFrom, walk, exactWalk}
 
 -- ---- contracts. `Reads.Learnt` of a function is its contract as the checker reads it: of lifetimes κ, arguments a, a
 -- reply n and what is left at the exit e. `.0`, `.1 .0`, `.1 .1 .0` are the first, second and third of several, and
--- `now` is what a lent slice holds. Here: P holds of some outcome that the contract allows
+-- `now` is what a lent slice holds. Here: P holds of some outcome that the contract allows. (That there is an outcome
+-- for all arguments is what the checker proves of each function)
 abbrev pub Allowed : {K : Type 0} {A E : K → Type 0} {R : Type 0} →
     ((κ : K) → A κ → R → E κ → Type 0) → ((κ : K) → A κ → R → E κ → Type 0) → Type 0
 Allowed {K} {A} {E} {R} learnt P = (κ : K) × (a : A κ) × (n : R) × (e : E κ) × learnt κ a n e × P κ a n e

@@ -16,6 +16,7 @@
 --                 `guovssalu_run` one after the other; where in the bytes a word stands; the exact value beside them
 --   Steps.antt    the 49 words of a call as the step that they ask for, and what a step does to a state
 --   Rows.antt     by the number of a call in a run, which rows of document 01's table hold
+-- and Examples.antt has three runs worked out in bytes, so that one sees what the statements speak of.
 -- Any other name stands in the crate that its `use` line names; what the lower bounds, exact values and `Follows` are
 -- is explained in crates/drift/specs/Drift.antt.
 use Prim.Native.Nat.{ℕ, _^_, _<_}
@@ -143,4 +144,4 @@ pub record Theorems : Type 0 where
 -- `wc -l` counts them, remarks and `use` lines too, without Lib.antt, Examples.antt and Inner.antt, of which no theorem
 -- above speaks:
 --   numbers 212, filters 250, model 331, events 331, phases 195, laws 417, drift 516, words 32,
---   encoding 485, calls 171, turns 113, exports 198, theorems 680: together 3931
+--   encoding 485, calls 171, turns 113, exports 198, theorems 682: together 3933
