@@ -7,7 +7,8 @@ Every public function of a library crate has one row, and every row is of such a
 is cited in the function's contract, and a name alone is a definition of that crate's specs/ or of a lower crate's; what the
 contract cites besides, the row names too. Two wrong programs or more, an origin, must-fail edits that are there, in the
 crate's must-fail/ or in tests/wrong. Every edit is named somewhere. Where a crate has proofs/Determined.antt, each of its
-functions stands in it. And the paths that this and the other pages name are there. A line for each fault, and then 1."""
+functions stands in it. The paths that this and the other pages name are there. And the page of theorems counts the lines
+that its reader has to believe as they are. A line for each fault, and then 1."""
 
 import collections
 import glob
@@ -17,6 +18,7 @@ import sys
 
 ROOT = os.path.dirname(os.path.dirname(os.path.abspath(__file__)))
 PAGE = "docs/CONTRACTS.md"
+THEOREMS = "crates/theorems/specs/Theorems.antt"
 PAGES = ["docs/*.md", "*.md", "rust/README.md", "oracle/README.md", "hostile/README.md"]
 COLUMNS = ["function", "answers", "definition", "from", "rules out", "must-fail"]
 FOLDERS = ["crates", "docs", "tests", "rust", "oracle", "include", "bench", "hostile"]
@@ -112,6 +114,30 @@ def check_paths(path, crates):
                 faults.append(f"{path}:{index}: there is no {named}")
 
 
+def believed(page):
+    """The lines of the definitions that a page is made of, by crate: of every file of specs/ that `use` lines lead to."""
+    reached, ahead = set(), [page]
+    while ahead:
+        path = ahead.pop()
+        reached.add(path)
+        for crate, name in re.findall(r"^(?:pub )?use Rattle·(\w+)(?:·specs)?\.specs\.(\w+)(?=[.\s])", read(path), re.M):
+            used = f"crates/{crate}/specs/{name}.antt"
+            if used not in reached and exists(used):
+                ahead.append(used)
+    lines = collections.Counter()
+    for path in reached:
+        lines[path.split("/")[1]] += read(path).count("\n")
+    return lines
+
+
+def check_count(page, crates):
+    """The page's last lines are that count."""
+    lines = believed(page)
+    count = ", ".join(f"{crate} {lines[crate]}" for crate in crates if lines[crate]) + f": together {sum(lines.values())}"
+    if not " ".join(read(page).replace("\n--", " ").split()).endswith(count):
+        faults.append(f"{page}: it should end with: {count}")
+
+
 def check_sentence(at, row, declared, edits):
     """A sentence of document 01: the definitions and theorems that it names are there, and the edits."""
     for name in (name for cell in row[1:3] for name in SPAN.findall(cell) if NAME.fullmatch(name)):
@@ -168,6 +194,7 @@ def main():
             faults.append(f"{PAGE}: the must-fail edit {edit} is named nowhere")
     for path in (path for pattern in PAGES for path in files(pattern)):
         check_paths(path, lower)
+    check_count(THEOREMS, lower)
     print("".join(line + "\n" for line in faults), end="")
     if faults:
         print(f"contracts: faults: {len(faults)}")

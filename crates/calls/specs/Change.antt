@@ -21,7 +21,8 @@ changeMore call n m =
     (cond (eqb call 19) (record { number = storedNumber m; next = clearInflightNext m })
     (cond (eqb call 20) (record { number = storedNumber m; next = clearBandwidthNext m })
     (cond (eqb call 21) (record { number = storedNumber m; next = advanceNext m })
-    (cond (eqb call 22) (record { number = postponeNumber m (record { 0 = n }); next = postponeNext m (record { 0 = n }) })
+    (cond (eqb call 22)
+    (record { number = postponeNumber m (record { 0 = n }); next = postponeNext m (record { 0 = n }) })
     (record { number = unknownNumber m; next = m }))))))
 
 -- calls 8 and 14 to 22; `gain` is n's f32. Any other number is refused

@@ -95,11 +95,11 @@ OfEvent Q (Calls.cruise now) = Unit {0}
 OfEvent Q (Calls.refill rounds now) = Unit {0}
 OfEvent Q (Calls.other c) = Unit {0}
 
--- "beta fixed"
+-- beta is fixed
 abbrev pub HasBeta : Float → Call → Type 0
 HasBeta beta = OfEvent (λ p e y. p .beta ≡ beta)
 
--- "windows and inflight samples at most 16,777,216 bytes"
+-- windows and inflight samples are at most 16,777,216 bytes
 abbrev pub IsSmall : Call → Type 0
 IsSmall = OfEvent (λ p e y. (e .window ≤ 2 ^ 24) × (y .inflight ≤ 2 ^ 24))
 

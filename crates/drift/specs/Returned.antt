@@ -1,5 +1,6 @@
 -- The same of the code: a run made by the public functions themselves, of which no more is known than their contracts.
 -- A contract is `Reads.Learnt` of its function, as the checker reads it: so this page cites the modules that hold them.
+-- crates/theorems/specs/Theorems.antt says more: it speaks of the bytes of the exported run, which makes these calls.
 use Prim.Native.Nat.{ℕ, _^_}
 use mathlib.Core.Bool.{false}
 use mathlib.Core.List.{List, [], _∷_}

@@ -1,19 +1,24 @@
 -- What was written is read back as it was (specs/RoundTrip.antt): word by word. Assumes nothing.
-use Prim.Native.Nat.{ℕ}
-use mathlib.Core.List.{List, _++_}
+use Prim.Native.Nat.{ℕ, _+_, _≤_}
+use mathlib.Core.List.{List, _∷_, _++_}
 use mathlib.Core.Path.{_≡_, refl, _∙_}
 use lib.Dec.{T}
 use lib.Ieee.{binary32, fits}
 use native.Mathlib.Nat.{add-zero}
 use lib.ListN.{length, getD}
 use lib.Seq.{getD-append-add}
+use borrow.Author.Tests.{le-leb}
 use Rattle.model.specs.declared.network_model.NetworkModel.{NetworkModel}
+use Rattle.model.specs.declared.params.Params.{Params}
 use Rattle.events.specs.declared.record.Record.{Record}
+use Rattle.events.specs.declared.record.Sample.{Sample}
 use Rattle.phases.specs.declared.cycle.Cycle.{Cycle}
 use Rattle.encoding.specs.NetworkModel.{modelOf, modelWords}
 use Rattle.encoding.specs.Cycle.{cycleOf, cycleWords}
 use Rattle.encoding.specs.Record.{recordFits, recordFrom, recordOf, recordWords}
-use Rattle.encoding.specs.RoundTrip.{RoundTrip}
+use Rattle.encoding.specs.Sample.{sampleFits, sampleOf, sampleWords}
+use Rattle.encoding.specs.Params.{paramsOf, paramsWords}
+use Rattle.encoding.specs.RoundTrip.{AreF32, RoundTrip}
 use Rattle.encoding.proofs.Laws.{flag-written, flag-back, float-back, phase-back, bandwidth-back, end-back, up-bytes-back, wait-length-back, length-back}
 
 model-back : (m : NetworkModel) (c : Cycle) → T (fits binary32 (m .gains .cwnd)) → T (fits binary32 (m .gains .pacing)) → modelOf (modelWords m ++ cycleWords c) ≡ m
@@ -47,5 +52,18 @@ record-length : (e : Record) → length (recordWords e) ≡ 16
 unfolding recordWords
 record-length e = refl
 
+sample-back : (number : ℕ) (after : List ℕ) (s : Sample) → getD after 0 0 ≤ 3 → sampleOf (number ∷ (sampleWords s ++ after)) ≡ s
+unfolding sampleOf sampleFits sampleWords
+sample-back number after s few = simp (flag-written, le-leb (getD after 0 0) 3 few, bandwidth-back, length-back, flag-back)
+
+module _ (before after : List ℕ) (p : Params) (h : length before ≡ 38) where
+  at : (i : ℕ) → getD (before ++ (paramsWords p ++ after)) (38 + i) 0 ≡ getD (paramsWords p ++ after) i 0
+  at i = rw (← h) (getD-append-add before (paramsWords p ++ after) i 0)
+
+  params-back : AreF32 p → paramsOf (before ++ (paramsWords p ++ after)) ≡ p
+  unfolding paramsOf paramsWords
+  params-back f =
+      simp (at 0, at 1, at 2, at 3, at 4, at 5, at 6, at 7, at 8, at 9, at 10, flag-written, flag-back, float-back (p .beta) (f .beta), float-back (p .loss) (f .loss), float-back (p .headroom) (f .headroom), float-back (p .growth) (f .growth), float-back (p .cwnd) (f .cwnd), float-back (p .pacing) (f .pacing))
+
 pub round-trip : RoundTrip
-round-trip = record { model = model-back; cycle = cycle-back; event = record-back; stateLength = state-length; recordLength = record-length }
+round-trip = record { model = model-back; cycle = cycle-back; event = record-back; stateLength = state-length; recordLength = record-length; sample = sample-back; parameters = params-back; gain = float-back }

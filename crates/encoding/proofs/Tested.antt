@@ -19,9 +19,9 @@ use Rattle.encoding.specs.declared.maybe.Maybe.{Maybe}
 use Rattle.encoding.specs.Word.{outside, orOutside, flagWord, flagOf, flagFits, floatWord, floatOf}
 use Rattle.encoding.specs.Maybe.{unset, held, isUnset, maybeOf, bandwidthMaybe, bandwidthOf}
 use Rattle.encoding.specs.Record.{lengthMaybe, lengthOf, recordFits, recordFrom, recordOf, wordsFrom, recordWords}
-use Rattle.encoding.specs.Sample.{sampleFits, sampleOf}
-use Rattle.encoding.specs.Params.{paramsOf}
-use Rattle.encoding.specs.Tested.{sampleWords, paramsWords, Tested}
+use Rattle.encoding.specs.Sample.{sampleFits, sampleOf, sampleWords}
+use Rattle.encoding.specs.Params.{paramsOf, paramsWords}
+use Rattle.encoding.specs.Tested.{Tested}
 
 -- ---- a flag
 flag-same : (w : ℕ) → flagFits w ≡ true → flagWord (flagOf w) ≡ w
@@ -30,7 +30,7 @@ flag-same (suc zero) h = refl
 flag-same (suc (suc n)) h = absurd (omega (arith, leb-true (suc (suc n)) 1 h))
 
 -- ---- a number that is given with flags
-fits-where : (ok : ℕ → Bool) (fits : Bool) (n : ℕ) → ok outside ≡ false → ok (orOutside fits n) ≡ true → fits ≡ true
+pub fits-where : (ok : ℕ → Bool) (fits : Bool) (n : ℕ) → ok outside ≡ false → ok (orOutside fits n) ≡ true → fits ≡ true
 fits-where ok true n bad h = refl
 fits-where ok false n bad h = sym bad ∙ h
 

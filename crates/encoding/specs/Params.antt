@@ -1,9 +1,9 @@
--- The parameters in words 38 to 48 of a call. A flag that no writer writes makes a length of time that is out of bounds:
--- "a parameter is outside the bounds below". Definitions only.
+-- The parameters in words 38 to 48 of a call. A flag that no writer writes makes a length of time that is out of
+-- bounds: "a parameter is outside the bounds below". Definitions only.
 use Prim.Native.Nat.{ℕ}
-use mathlib.Core.List.{List}
+use mathlib.Core.List.{List, [], _∷_}
 use Rattle.model.specs.declared.params.Params.{Params}
-use Rattle.encoding.specs.Word.{word, orOutside, flagOf, flagFits, floatOf}
+use Rattle.encoding.specs.Word.{word, orOutside, flagWord, flagOf, flagFits, floatWord, floatOf}
 
 unfoldable pub paramsOf : List ℕ → Params
 paramsOf l =
@@ -20,3 +20,19 @@ paramsOf l =
       base = record { 0 = word l 47 };
       ignore = flagOf (word l 48);
     }
+
+-- ---- into words: what a caller writes for them (docs/LAYOUT.md)
+unfoldable pub paramsWords : Params → List ℕ
+paramsWords p =
+    floatWord (p .beta)
+    ∷ floatWord (p .loss)
+    ∷ floatWord (p .headroom)
+    ∷ floatWord (p .growth)
+    ∷ floatWord (p .cwnd)
+    ∷ floatWord (p .pacing)
+    ∷ p .rounds
+    ∷ p .queueing
+    ∷ p .period .0
+    ∷ p .base .0
+    ∷ flagWord (p .ignore)
+    ∷ []

@@ -1,14 +1,15 @@
 -- What an event's call is given: the sampler's answer in words 1 to 17 of the call, the acked packets' numbers in 18 to
--- 21. A flag that no writer writes, and a count above the room, make the extra acked bytes out of bounds. Definitions only.
+-- 21. A flag that no writer writes, and a count above the room, make the extra acked bytes out of bounds. Definitions
+-- only.
 use Prim.Native.Nat.{ℕ, min}
 use mathlib.Core.Bool.{Bool, _&&_}
-use mathlib.Core.List.{List, [], _∷_}
+use mathlib.Core.List.{List, [], _∷_, _++_}
 use lib.Dec.{leb}
 use lib.ListN.{take}
 use Rattle.events.specs.declared.record.Sample.{Sample}
-use Rattle.encoding.specs.Word.{word, orOutside, flagOf, flagFits}
-use Rattle.encoding.specs.Maybe.{bandwidthOf}
-use Rattle.encoding.specs.Record.{lengthOf, sendStateOf}
+use Rattle.encoding.specs.Word.{word, orOutside, flagWord, flagOf, flagFits}
+use Rattle.encoding.specs.Maybe.{maybeWords, bandwidthMaybe, bandwidthOf}
+use Rattle.encoding.specs.Record.{lengthMaybe, lengthOf, sendStateOf}
 
 -- its three flags, sample_is_app_limited and the send state's is_valid and is_app_limited; the count of acked numbers
 unfoldable pub sampleFits : List ℕ → Bool
@@ -37,3 +38,21 @@ ackedNumbers l = word l 19 ∷ word l 20 ∷ word l 21 ∷ []
 
 unfoldable pub ackedOf : List ℕ → List ℕ
 ackedOf l = take (ackedCount l) (ackedNumbers l)
+
+-- ---- into words: what a caller writes for the sampler's answer (docs/LAYOUT.md)
+unfoldable pub sampleWords : Sample → List ℕ
+sampleWords s =
+    maybeWords (bandwidthMaybe (s .bandwidth))
+    ++ maybeWords (bandwidthMaybe (s .send))
+    ++ maybeWords (bandwidthMaybe (s .ack))
+    ++ flagWord (s .limited)
+    ∷ maybeWords (lengthMaybe (s .rtt))
+    ++ s .inflight
+    ∷ s .extra
+    ∷ flagWord (s .state .valid)
+    ∷ flagWord (s .state .limited)
+    ∷ s .state .acked
+    ∷ s .state .inflight
+    ∷ s .totals .acked
+    ∷ s .totals .lost
+    ∷ []

@@ -1,7 +1,7 @@
 -- One word, a number of 64 bits: a flag, an f32. Definitions only.
--- Every word is read as something. What no writer writes is read as something out of bounds, so that the call that is
--- given it refuses it: a float as the NaN, a pair as the number `outside`. A flag has no bounds of its own, so a number
--- that is given with it is read as `outside` (`orOutside`).
+-- Every word is read as something. What no writer writes, a malformed word, is read as something out of bounds, so that
+-- the call that is given it refuses it: a float as the NaN, a pair as the number `outside`. A flag has no bounds of its
+-- own, so a number that is given with it is read as `outside` (`orOutside`).
 use Prim.Native.Nat.{ℕ, _-_, _^_}
 use mathlib.Core.Bool.{Bool, cond}
 use mathlib.Core.List.{List}
@@ -31,8 +31,8 @@ flagOf w = eqb w 1
 abbrev pub flagFits : ℕ → Bool
 flagFits w = leb w 1
 
--- an f32: its pattern of 32 bits. Every NaN's pattern is read as the one NaN, which is written 0x7fc0_0000; so is a word
--- with bits above the 32nd, which no writer writes
+-- an f32: its pattern of 32 bits. Every NaN's pattern is read as the one NaN, which is written 0x7fc0_0000; so is a
+-- word with bits above the 32nd, which no writer writes
 abbrev pub floatWord : Float → ℕ
 floatWord x = toBits binary32 x
 

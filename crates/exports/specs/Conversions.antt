@@ -24,7 +24,7 @@ f64RoundToU64 bits = floatToInt 64 (roundAway binary64 (ofBits binary64 bits))
 abbrev pub scaledBy : ℕ → ℕ → ℕ
 scaledBy n gain = scaled n (ofBits binary32 gain)
 
--- `Bandwidth`: "Its product with an f32 .. and to_bytes_per_period"
+-- `Bandwidth`: "Its product with an f32, its order and `to_bytes_per_period` are written down from `bandwidth.rs`."
 abbrev pub bandwidthBy : ℕ → ℕ → ℕ
 bandwidthBy bandwidth gain = timesF32 (record { 0 = bandwidth }) (ofBits binary32 gain) .0
 

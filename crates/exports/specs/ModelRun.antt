@@ -71,8 +71,8 @@ wordsLeft state src = leftBy (modelOf (stateIn state)) (cycleOf (stateIn state))
 -- docs/LAYOUT.md, "What the run itself replies", rows 1, 2 and 7: "Of several the lowest is given; then no byte is written"
 unfoldable pub modelRow : (state src : List ℕ) (room : ℕ) → ℕ
 modelRow state src room =
-    orShort (rowOf (encodesNone state) (not (eqb (length state) 400) || not (eqb (length src % 392) 0)) false false false)
-    (ltb room (144 * callsIn src))
+    let uneven = not (eqb (length state) 400) || not (eqb (length src % 392) 0) in
+    orShort (rowOf (encodesNone state) uneven false false false) (ltb room (144 * callsIn src))
 
 unfoldable pub answersOut : (state src out : List ℕ) → List ℕ
 answersOut state src out = answered (modelRow state src (length out)) (answersFrom state src) out

@@ -13,6 +13,7 @@
 -- reply x and of what is left at the exit. `now a` is what a lent slice a holds at the call.
 use Prim.Native.Nat.{ℕ, _-_, _*_, _^_}
 use mathlib.Core.Bool.{Bool, true, false, not, _&&_, _||_}
+use mathlib.Core.List.{List}
 use mathlib.Core.Path.{_≡_}
 use lib.Dec.{ltb, eqb}
 use lib.Ieee.{Float}
@@ -106,14 +107,57 @@ EveryLent {K} {A} {E} {R} learnt P = (κ : K) (a : A κ) (x : R) (s : E κ) → 
 abbrev pub isMost : ℕ → Bool
 isMost n = eqb n (2 ^ 64 - 1)
 
--- ---- calls that only answer. First the rows of one that is given nothing: the stored numbers alone are tested
+-- ---- the rows of the calls. One that is given nothing: the stored numbers alone are tested
 abbrev pub storedRows : NetworkModel → Rows
 storedRows m = rows (not (modelOk m)) false false false false
 
--- and of one that is given something, of which `fine` says whether it is within its bounds
-abbrev pub givenRows : NetworkModel → Bool → Rows
+-- one that is given something, of which `fine` says whether it is within its bounds
+abbrev pub givenRows : NetworkModel → (fine : Bool) → Rows
 givenRows m fine = rows (not (modelOk m)) (not fine) false false false
 
+-- one that takes the parameters; `full` says whether its rule adds 1 to a counter that is full
+abbrev pub judgedRows : NetworkModel → Params → (fine full : Bool) → Rows
+judgedRows m p fine full = rows (not (modelOk m && paramsOk p)) (not fine) false false full
+
+abbrev pub startRows : Params → Duration → Moment → Rows
+startRows p rtt t = rows (not (paramsOk p)) (not (lengthOk rtt && momentOk t)) false false false
+
+abbrev pub sentRows : NetworkModel → Moment → (inflight bytes : ℕ) → Rows
+sentRows m t inflight bytes =
+    rows (not (modelOk m)) (not (momentOk t && bytesOk inflight && bytesOk bytes)) (isBefore t (m .moment)) false false
+
+-- an event. Row 4: a total below the stored one. Row 5: a round ends and the count of rounds is full, or bytes were
+-- lost and the count of loss events is
+abbrev pub eventRows : NetworkModel → Params → Record → Sample → (acked : List ℕ) → Rows
+eventRows m p e y acked =
+    rows (not (modelOk m && paramsOk p)) (not (recordOk e && sampleOk y)) (isBefore (e .time) (m .moment))
+    (ltb (y .totals .acked) (m .totals .acked) || ltb (y .totals .lost) (m .totals .lost))
+    ((endsRound (m .rounds .end) acked && isMost (m .rounds .count))
+    || (ltb 0 (bytesLost m y) && isMost (m .round .losses)))
+
+-- row 5: the bandwidth has not grown, so that the round counts, and the count is full
+abbrev pub growthRows : NetworkModel → Params → Record → Rows
+growthRows m p e =
+    judgedRows m p (recordOk e)
+    (not (hasGrown (m .growth) (maxGet (m .most)) p) && countsFlat (m .growth) (e .state) && isMost (m .growth .flat))
+
+-- row 5: the round queues, and the count of such rounds is full
+abbrev pub queueRows : NetworkModel → Params → Float → Rows
+queueRows m p gain = judgedRows m p (gainOk gain) (isQueueing m gain && isMost (m .growth .queueing))
+
+-- an entry into a phase, where `params` and `argument` say whether the parameters and the other arguments are within
+-- their bounds: "sends, events and phase entries share" the last accepted moment
+abbrev pub entryRows : NetworkModel → Cycle → (params argument : Bool) → Moment → Rows
+entryRows m c params argument t =
+    rows (not (modelOk m && cycleOk c && params)) (not (momentOk t && argument)) (isBefore t (m .moment)) false false
+
+abbrev pub exitRows : NetworkModel → Cycle → Rows
+exitRows m c = rows (not (modelOk m && cycleOk c)) false false false false
+
+abbrev pub slopeRows : Cycle → (window : ℕ) → Rows
+slopeRows c window = rows (not (cycleOk c)) (not (bytesOk window)) false false false
+
+-- ---- calls that only answer
 pub record EveryAnswer : Type 0 where
   pub bdp : (m : NetworkModel) (b : Bandwidth) (gain : Float) →
       Every model.bdp.Reads.Learnt (λ κ. (m, (b, (gain, tt))))
@@ -126,11 +170,10 @@ pub record EveryAnswer : Type 0 where
       (λ x. Answered (x .reply) (storedRows m) (x .value) (bdpOf m (maxGet (m .most)) one) 0)
   pub inflightHiWithHeadroom : (m : NetworkModel) (p : Params) →
       Every model.inflight_hi_with_headroom.Reads.Learnt (λ κ. (m, (p, tt)))
-      (λ x. Answered (x .reply) (rows (not (modelOk m && paramsOk p)) false false false false) (x .value)
-      (headroomOf (m .high) (p .headroom)) 0)
+      (λ x. Answered (x .reply) (judgedRows m p true false) (x .value) (headroomOf (m .high) (p .headroom)) 0)
   pub isInflightTooHigh : (m : NetworkModel) (p : Params) (e : Record) (limit : ℕ) →
       Every judge.is_inflight_too_high.Reads.Learnt (λ κ. (m, (p, (e, (limit, tt)))))
-      (λ x. Answered (x .reply) (rows (not (modelOk m && paramsOk p)) (not (recordOk e)) false false false) (x .yes)
+      (λ x. Answered (x .reply) (judgedRows m p (recordOk e) false) (x .yes)
       (isTooHigh (m .round) (e .state) limit (p .loss)) false)
   pub bandwidthEstimate : (m : NetworkModel) →
       Every model.bandwidth_estimate.Reads.Learnt (λ κ. (m, tt))
@@ -188,14 +231,11 @@ pub record EveryChange : Type 0 where
   -- app-limited option off"
   pub start : (p : Params) (rtt : Duration) (t : Moment) →
       Every model.new.Reads.Learnt (λ κ. (p, (rtt, (t, tt))))
-      (λ x. Answered (x .reply) (rows (not (paramsOk p)) (not (lengthOk rtt && momentOk t)) false false false)
-      (x .model) (modelNew (p .cwnd) (p .pacing) (p .ignore) rtt t) (modelNew one one false noLength noMoment))
+      (λ x. Answered (x .reply) (startRows p rtt t) (x .model)
+      (modelNew (p .cwnd) (p .pacing) (p .ignore) rtt t) (modelNew one one false noLength noMoment))
   pub sent : (m : NetworkModel) (t : Moment) (inflight packet bytes : ℕ) →
       Every model.on_packet_sent.Reads.Learnt (λ κ. (m, (t, (inflight, (packet, (bytes, tt))))))
-      (λ x. Answered (x .reply)
-      (rows (not (modelOk m)) (not (momentOk t && bytesOk inflight && bytesOk bytes)) (isBefore t (m .moment))
-      false false)
-      (x .model) (sentNext m t inflight packet bytes) m)
+      (λ x. Answered (x .reply) (sentRows m t inflight bytes) (x .model) (sentNext m t inflight packet bytes) m)
   pub restart : (m : NetworkModel) →
       Every model.restart_round_early.Reads.Learnt (λ κ. (m, tt))
       (λ x. Answered (x .reply) (storedRows m) (x .model) (restartNext m) m)
@@ -231,8 +271,6 @@ pub record EveryChange : Type 0 where
 -- ---- calls that carry an event, or count rounds. "A later call that gets an event's record doesn't test its moment
 -- for 3"
 pub record EveryEvent : Type 0 where
-  -- row 4: a total below the stored one. Row 5: a round ends and the count of rounds is full, or bytes were lost and
-  -- the count of loss events is
   pub starts :
       EveryLent event.on_congestion_event_start.Reads.Learnt
       (λ κ a x.
@@ -241,43 +279,24 @@ pub record EveryEvent : Type 0 where
       let e = a .1 .1 .0 in
       let y = a .1 .1 .1 .0 in
       let acked = now (a .1 .1 .1 .1 .0) in
-      Answered {A = NetworkModel × Record} (x .reply)
-      (rows (not (modelOk m && paramsOk p)) (not (recordOk e && sampleOk y)) (isBefore (e .time) (m .moment))
-      (ltb (y .totals .acked) (m .totals .acked) || ltb (y .totals .lost) (m .totals .lost))
-      ((endsRound (m .rounds .end) acked && isMost (m .rounds .count))
-      || (ltb 0 (bytesLost m y) && isMost (m .round .losses))))
-      (x .model, x .record) (modelNext m p e y acked, recordNext m e y acked) (m, e))
+      Answered {A = NetworkModel × Record} (x .reply) (eventRows m p e y acked) (x .model, x .record)
+      (modelNext m p e y acked, recordNext m e y acked) (m, e))
   pub finish : (m : NetworkModel) (e : Record) →
       Every judge.on_congestion_event_finish.Reads.Learnt (λ κ. (m, (e, tt)))
       (λ x. Answered (x .reply) (givenRows m (recordOk e)) (x .model) (finishNext m e) m)
   pub expire : (m : NetworkModel) (p : Params) (e : Record) →
       Every judge.maybe_expire_min_rtt.Reads.Learnt (λ κ. (m, (p, (e, tt))))
-      (λ x. Answered {A = NetworkModel × Bool} (x .reply)
-      (rows (not (modelOk m && paramsOk p)) (not (recordOk e)) false false false) (x .model, x .yes)
+      (λ x. Answered {A = NetworkModel × Bool} (x .reply) (judgedRows m p (recordOk e) false) (x .model, x .yes)
       (expireNext m p e, isExpired (e .rtt) (e .time) (m .least) (p .period)) (m, false))
-  -- row 5: the bandwidth has not grown, so that the round counts, and the count is full
   pub growth : (m : NetworkModel) (p : Params) (e : Record) →
       Every judge.has_bandwidth_growth.Reads.Learnt (λ κ. (m, (p, (e, tt))))
-      (λ x.
-      let grown = hasGrown (m .growth) (maxGet (m .most)) p in
-      Answered {A = NetworkModel × Bool} (x .reply)
-      (rows (not (modelOk m && paramsOk p)) (not (recordOk e)) false false
-      (not grown && countsFlat (m .growth) (e .state) && isMost (m .growth .flat)))
-      (x .model, x .yes) (growthNext m p e, grown) (m, false))
-  -- row 5: the round queues, and the count of such rounds is full
+      (λ x. Answered {A = NetworkModel × Bool} (x .reply) (growthRows m p e) (x .model, x .yes)
+      (growthNext m p e, hasGrown (m .growth) (maxGet (m .most)) p) (m, false))
   pub queue : (m : NetworkModel) (p : Params) (gain : Float) →
       Every judge.check_persistent_queue.Reads.Learnt (λ κ. (m, (p, (gain, tt))))
-      (λ x. Answered (x .reply)
-      (rows (not (modelOk m && paramsOk p)) (not (gainOk gain)) false false
-      (isQueueing m gain && isMost (m .growth .queueing)))
-      (x .model) (queueNext m p gain) m)
+      (λ x. Answered (x .reply) (queueRows m p gain) (x .model) (queueNext m p gain) m)
 
--- ---- calls that leave a cycle. First the rows of an entry, where `params` and `argument` say whether the parameters
--- and the other arguments are within their bounds: "sends, events and phase entries share" the last accepted moment
-abbrev pub entryRows : NetworkModel → Cycle → (params argument : Bool) → Moment → Rows
-entryRows m c params argument t =
-    rows (not (modelOk m && cycleOk c && params)) (not (momentOk t && argument)) (isBefore t (m .moment)) false false
-
+-- ---- calls that leave a cycle
 pub record EveryPhase : Type 0 where
   -- a refused fresh cycle is one at moment 0
   pub fresh : (t : Moment) →
@@ -302,12 +321,11 @@ pub record EveryPhase : Type 0 where
       (restartedAt m t, upCycle c t window) (m, c))
   pub exit : (m : NetworkModel) (c : Cycle) →
       Every phases.exit_probe_down.Reads.Learnt (λ κ. (m, (c, tt)))
-      (λ x. Answered {A = NetworkModel × Cycle} (x .reply) (rows (not (modelOk m && cycleOk c)) false false false false)
-      (x .model, x .cycle) (exitModel m c, exitCycle c) (m, c))
+      (λ x. Answered {A = NetworkModel × Cycle} (x .reply) (exitRows m c) (x .model, x .cycle)
+      (exitModel m c, exitCycle c) (m, c))
   pub slope : (c : Cycle) (window : ℕ) →
       Every phases.raise_inflight_high_slope.Reads.Learnt (λ κ. (c, (window, tt)))
-      (λ x. Answered (x .reply) (rows (not (cycleOk c)) (not (bytesOk window)) false false false) (x .cycle)
-      (slopeCycle c window) c)
+      (λ x. Answered (x .reply) (slopeRows c window) (x .cycle) (slopeCycle c window) c)
 
 -- ---- the filters: "A windowed filter's update takes any u64 and gives only 0 or 3". A count of rounds that is full is
 -- row 5's

@@ -13,5 +13,6 @@ pub mod Answered
 pub mod Reached
 pub mod Events
 pub mod Follow
+pub mod Casts
 pub mod Theorems
 pub mod Examples

@@ -1,19 +1,37 @@
 -- The page of theorems, proved (specs/Theorems.antt). Assumes nothing.
+use Prim.Native.Nat.{ℕ, _^_, _≤_}
+use mathlib.Core.Bool.{true, _&&_}
 use mathlib.Core.Logic.{inl, inr}
+use mathlib.Core.Path.{_≡_, refl}
+use lib.Dec.{leb}
+use borrow.Author.Tests.{leb-true}
+use Rattle.model.specs.Bounds.{momentOk}
+use Rattle.model.proofs.Rows.{and-left, and-right}
 use Rattle.phases.proofs.Examples.{marked-examples}
 use Rattle.laws.proofs.Contracts.{every-call}
 use Rattle.laws.proofs.Replies.{every-reply}
-use Rattle.encoding.proofs.Tested.{tested}
+use Rattle.encoding.specs.Word.{flagFits}
+use Rattle.encoding.proofs.RoundTrip.{round-trip}
+use Rattle.encoding.proofs.Tested.{fits-where, tested}
+use Rattle.calls.specs.Enter.{downAt}
 use Rattle.theorems.specs.Runs.{Unasked}
+use Rattle.theorems.specs.Steps.{moment}
 use Rattle.theorems.specs.Theorems.{Theorems}
+use Rattle.theorems.proofs.Casts.{casts}
 use Rattle.theorems.proofs.Answered.{answer-bytes}
 use Rattle.theorems.proofs.Decoded.{every-turn}
 use Rattle.theorems.proofs.Exported as exported
 use Rattle.theorems.proofs.Follow as follow
-use Rattle.theorems.proofs.Left.{from-form, left-within, started-within, left-taken}
+use Rattle.theorems.proofs.Left.{left-whole, from-form, left-within, started-within, left-taken}
 use Rattle.theorems.proofs.Numbers.{every-number}
 use Rattle.theorems.proofs.Refused.{refused}
 use Rattle.theorems.proofs.Rows.{every-row}
+
+-- call 40 with a flag that is neither 0 nor 1 is given a moment that is out of bounds
+down-flags : (a b n : ℕ) → momentOk (downAt a b n) ≡ true → (a ≤ 1) × (b ≤ 1) × (downAt a b n ≡ moment n)
+down-flags a b n h =
+    let fit = fits-where (λ m. leb m (2 ^ 62)) (flagFits a && flagFits b) n refl h in
+    (leb-true a 1 (and-left (flagFits a) (flagFits b) fit), leb-true b 1 (and-right (flagFits a) (flagFits b) fit), rw fit)
 
 unasked : Unasked
 unasked =
@@ -42,16 +60,20 @@ theorems =
       slope-keeps = exported.slope-keeps;
       run-bounds = λ r ran b c done h. elim h [ inl e ↦ left-within r ran done (from-form (r .state) b) c e | inr e ↦ started-within r ran done (from-form (r .state) b) c e ];
       run-again = λ r ran b c done. left-taken r ran done (from-form (r .state) b) c;
+      run-left = left-whole;
       call-answered = answer-bytes;
       call-row = every-row;
       call-refused = refused;
       words = tested;
+      down-flags = down-flags;
+      words-back = round-trip;
       calls = every-reply;
       calls-bounds = every-call;
       run-defined = exported.run-is;
       filter-defined = exported.filter-is;
       slope-defined = exported.slope-is;
       conversions = exported.conversions;
+      casts = casts;
       one-outcome = exported.one-outcome;
       turns = every-turn;
       numbers = every-number;

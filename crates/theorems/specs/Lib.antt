@@ -2,5 +2,6 @@
 pub mod Steps
 pub mod Rows
 pub mod Runs
+pub mod Casts
 pub mod Theorems
 pub mod Examples

@@ -1,8 +1,9 @@
 -- The exported calls on lent bytes, of which no more is known than their contracts, and runs of `guovssalu_run` one
--- after the other on the same state (docs/LAYOUT.md). Definitions only. Theorems.antt says how to read them; besides,
--- `A ↔ B` is "A exactly when B", `Unit` "nothing is asked", `cond t a b` is a where the test t is true and b elsewhere,
--- and of tests `eqb` is "equals", `ltb` "is below", `&&` "and", `||` "or". `{K : Type 0}` names what is left to the
--- checker to find.
+-- after the other on the same state (docs/LAYOUT.md). Definitions only.
+-- `word w i` is word i of a list of words, `Bytes.word l i` the word in the 8 bytes of l from byte i on.
+-- Theorems.antt says how to read them; besides, `A ↔ B` is "A exactly when B", `Unit` "nothing is asked", `cond t a
+-- b` is a where the test t is true and b elsewhere, and of tests `eqb` is "equals", `ltb` "is below", `&&` "and",
+-- `||` "or". `{K : Type 0}` names what is left to the checker to find.
 use Prim.Native.Nat.{ℕ, _+_, _-_, _*_, _%_, _^_, _≤_, _<_}
 use mathlib.Core.Bool.{Bool, true, false, cond, not, _&&_, _||_}
 use mathlib.Core.List.{List, [], _∷_}
@@ -37,8 +38,8 @@ use Rattle.theorems.specs.Steps.{stepsFrom, walk, exactWalk}
 
 -- ---- contracts. `Reads.Learnt` of a function is its contract as the checker reads it: of lifetimes κ, arguments a, a
 -- reply n and what is left at the exit e. `.0`, `.1 .0`, `.1 .1 .0` are the first, second and third of several, and
--- `now` is what a lent slice holds. Here: P holds of some outcome that the contract allows. (That there is an outcome
--- for all arguments is what the checker proves of each function)
+-- `now` is what a lent slice holds. `(κ : K) × ..` is "there is a κ, with ..". Here: P holds of some outcome that the
+-- contract allows. (That there is an outcome for all arguments is what the checker proves of each function)
 abbrev pub Allowed : {K : Type 0} {A E : K → Type 0} {R : Type 0} →
     ((κ : K) → A κ → R → E κ → Type 0) → ((κ : K) → A κ → R → E κ → Type 0) → Type 0
 Allowed {K} {A} {E} {R} learnt P = (κ : K) × (a : A κ) × (n : R) × (e : E κ) × learnt κ a n e × P κ a n e

@@ -1,5 +1,8 @@
 -- A call's 49 words as the step that they ask for, by its number (docs/LAYOUT.md, "A call"), what a step does to a
 -- state, and the exact run beside it (crates/drift/specs/Exact.antt). Definitions only.
+-- `data` lists the kinds of a thing. `zero` is 0, and `suc n` the number after n. `eqb a b` and `leb a b` test
+-- whether a equals b and whether it is at most b, `||` is "or" of tests, and `cond t a b` is a where the test t
+-- holds, b elsewhere. `record { f = a; .. }` is the record with those fields.
 use Prim.Native.Nat.{ℕ, zero, suc, _+_}
 use mathlib.Core.Bool.{Bool, true, false, cond, _||_}
 use mathlib.Core.List.{List, [], _∷_}

@@ -3,23 +3,26 @@
 --
 -- How to read them. `--` begins a remark. `x : A` says that x is of the kind A: `ℕ` is the whole numbers from 0, `Bool`
 -- is true or false, `Float` a float, `List ℕ` a list of whole numbers. `(x : A) → B` is "for every x of the kind A, B",
--- and `A → B` is "if A, then B". `A × B` is "A and B", `A ⊎ B` "A or B", `x ≡ y` "x equals y". `⊥` is "never", so that
--- `A → ⊥` is "not A". `f x y` is f of x and y: arguments have no brackets around them. `r .f` is the field f of the
--- record r. `λ x. A` is A as a function of x. `[]` is the empty list, `x ∷ l` is the list l with x before it, `k ++ l`
--- is the list k and then the list l. `let x = a in B` is B, in which x stands for a. A `record` of statements holds
--- where each of its lines does. `Type 0` is the kind of statements: a definition that ends in it names one. `abbrev`,
--- `pub` and `use` lines add nothing to what is said.
+-- and `A → B` is "if A, then B"; between kinds of values it is a function from A to B. `A × B` is "A and B", `A ⊎ B` "A
+-- or B", `x ≡ y` "x equals y". `⊥` is "never", so that `A → ⊥` is "not A". `f x y` is f of x and y: arguments have no
+-- brackets around them. `r .f` is the field f of the record r. `λ x. A` is A as a function of x. `[]` is the empty
+-- list, `x ∷ l` is the list l with x before it, `k ++ l` is the list k and then the list l. `let x = a in B` is B, in
+-- which x stands for a. A `record` of statements holds where each of its lines does. `Type 0` is the kind of
+-- statements: a definition that ends in it names one. `a ≤ b`, `a < b` and `2 ^ n` are as in school. `HasValue x false
+-- a c` says that the float x is finite, not negative, and a / c in size. `abbrev`, `unfoldable`, `pub` and `use` lines
+-- add nothing to what is said.
 --
 -- Bytes, words, the numbers of the calls and those of the refusals are explained in docs/LAYOUT.md, "document 01" in
--- docs/README.md. The statements are made of names from three files beside this one:
+-- docs/README.md. The statements are made of names from four files beside this one:
 --   Runs.antt     an exported call as bytes lent and bytes left, of which no more is known than its contract; runs of
 --                 `guovssalu_run` one after the other; where in the bytes a word stands; the exact value beside them
 --   Steps.antt    the 49 words of a call as the step that they ask for, and what a step does to a state
 --   Rows.antt     by the number of a call in a run, which rows of document 01's table hold
+--   Casts.antt    that the casts of the definitions are those of the Rust Reference
 -- and Examples.antt has three runs worked out in bytes, so that one sees what the statements speak of.
 -- Any other name stands in the crate that its `use` line names; what the lower bounds, exact values and `Follows` are
 -- is explained in crates/drift/specs/Drift.antt.
-use Prim.Native.Nat.{ℕ, _^_, _<_}
+use Prim.Native.Nat.{ℕ, _^_, _≤_, _<_}
 use mathlib.Core.Bool.{true, false}
 use mathlib.Core.List.{List, [], _∷_, _++_}
 use mathlib.Core.Logic.{_⊎_}
@@ -30,19 +33,23 @@ use lib.ListN.{length}
 use Rattle.numbers.specs.Scaling.{complement, partsOf}
 use Rattle.numbers.specs.Examples.{all}
 use Rattle.phases.specs.Examples.{markedExamples}
+use Rattle.model.specs.Bounds.{momentOk}
 use Rattle.laws.specs.Laws.{EveryCall}
 use Rattle.laws.specs.Replies.{Exactly, EveryReply}
 use Rattle.words.specs.Words.{allBytes}
+use Rattle.encoding.specs.RoundTrip.{RoundTrip}
 use Rattle.encoding.specs.Tested.{Tested}
 use Rattle.encoding.specs.Word.{word}
+use Rattle.calls.specs.Enter.{downAt}
 use Rattle.exports.specs.FilterRun.{runRow, runOut}
-use Rattle.exports.specs.ModelRun.{encodesNone, answerWords, modelRow, stateOut, answersOut}
+use Rattle.exports.specs.ModelRun.{stateWords, encodesNone, answerWords, modelRow, stateOut, answersOut}
 use Rattle.exports.specs.Slope.{slopeRow, slopeOut}
 use Rattle.drift.specs.Calls.{Call, State}
 use Rattle.drift.specs.Exact.{Turn, Exact, unset, inflightTurn, bandwidthTurn}
 use Rattle.drift.specs.Drift.{Low, Follows, IsBeta, usualBeta, usualParts, Under}
 use Rattle.theorems.specs.Rows.{rowsOf}
-use Rattle.theorems.specs.Steps.{Makes, Refused, Numbered, stepOf, turnIn}
+use Rattle.theorems.specs.Casts.{Casts}
+use Rattle.theorems.specs.Steps.{moment, Makes, Refused, Numbered, stepOf, turnIn}
 use Rattle.theorems.specs.Runs.{Unasked, Run, Ran, FilterRun, Filtered, SlopeRun, Raised, OneOutcome, Conversions, RunRow, FilterRow, SlopeRow, AreBytes, isWithin, count, call, before, answer, answerWord, Accepted, Starts, Each, History, exactAfter, exactRuns, exactBefore, lowWord, inflightIn, bandwidthIn, HasBetaWord, HasSmallWords, OfEvents}
 
 -- What demand 3 says, of any runs, the last of which is r, that begin with a start (`History`), and in which every
@@ -90,18 +97,26 @@ pub record Theorems : Type 0 where
   -- And it leaves 400 bytes that encode a state, so that the next run takes them
   pub run-again : (r : Run) → Ran r → AreBytes (r .state) → AreBytes (r .calls) → r .reply ≡ 0 →
       (length (r .left) ≡ 400) × (encodesNone (r .left) ≡ false)
+  -- Those bytes are the words of the state that the calls left, one after the other (`before r (count r)`)
+  pub run-left : (r : Run) → Ran r → r .reply ≡ 0 →
+      let s = before r (count r) in r .left ≡ allBytes (stateWords (s .model) (s .cycle))
   -- In a run that is done, call i is answered by its turn (`turnOf`) in the state that the calls before it left
   pub call-answered : (r : Run) → Ran r → r .reply ≡ 0 → (i : ℕ) → i < count r →
       answer r i ≡ allBytes (answerWords (turnIn (call r i) (before r i)))
   -- A call of a run is refused with the number of the first row that holds, exactly then, whatever its words are
   pub call-row : (w : List ℕ) (s : State) → Exactly (turnIn w s .reply) (rowsOf w s)
-  -- Refused, it changes nothing, and its answer is its number, 0 and the record as handed in. (A refused start has no
-  -- earlier state, and leaves a fresh one at moment 0)
+  -- Refused, it changes nothing (a refused start has no earlier state, and leaves a fresh one at moment 0). Its answer
+  -- is the refusal's number, 0 and, of call 3, the record as handed in; of the others 16 zeros
   pub call-refused : (w : List ℕ) (s : State) → (turnIn w s .reply ≡ 0 → ⊥) → Refused w s
-  -- Words that no writer writes are out of bounds: what is within them is written in the very words that were read
+  -- Words that no writer writes are out of bounds: what is within them is written in the very words that were read. So
+  -- are the two flags of call 40, whose moment is read with them
   pub words : Tested
-  -- Every public call of the model is refused with the number of the first row that holds, exactly then; refused, it
-  -- leaves what it was given, and done, what its definition says (demand 2); then the state is within its bounds
+  pub down-flags : (a b n : ℕ) → momentOk (downAt a b n) ≡ true → (a ≤ 1) × (b ≤ 1) × (downAt a b n ≡ moment n)
+  -- And what a writer writes is read as what was written, within the bounds or not
+  pub words-back : RoundTrip
+  -- Every public call of the model, the cycle, the windowed filter and the round counter is refused with the number of
+  -- the first row that holds, exactly then; refused, it leaves what it was given, and done, what its definition says
+  -- (demand 2); then the state is within its bounds
   pub calls : EveryReply
   pub calls-bounds : EveryCall
   --
@@ -116,7 +131,9 @@ pub record Theorems : Type 0 where
   pub slope-defined : (r : SlopeRun) → Raised r →
       (r .reply ≡ slopeRow (r .rounds) (r .window) (length (r .output)))
       × (r .written ≡ slopeOut (r .rounds) (r .window) (r .output))
+  -- The seven conversions; and the casts that they are made of are those of the Rust Reference
   pub conversions : Conversions
+  pub casts : Casts
   pub one-outcome : OneOutcome
   -- A call of a run leaves what its step leaves, and the step is that of the call's number, whatever its words are
   pub turns : (w : List ℕ) (s : State) → Makes w s
@@ -139,9 +156,10 @@ pub record Theorems : Type 0 where
 
 -- ==== What else must be believed
 -- The kit: that its checker accepts only proofs; that its models of floats and of the machine are those of the
--- processor; that `Reads.Learnt` is a function's contract; and that its back end compiles what was proved. The page
--- docs/LAYOUT.md. And the definitions in specs/ of the crates, written from document 01 and the original. Lines, as
--- `wc -l` counts them, remarks and `use` lines too, without Lib.antt, Examples.antt and Inner.antt, of which no theorem
--- above speaks:
---   numbers 212, filters 250, model 331, events 331, phases 195, laws 417, drift 516, words 32,
---   encoding 485, calls 171, turns 113, exports 198, theorems 682: together 3933
+-- processor; that `Reads.Learnt` is a function's contract, and that for all arguments it allows an outcome, which the
+-- checker proves with the function; that the names under `declared` are the types of src/; and that its back end
+-- compiles what was proved. The page docs/LAYOUT.md. And the definitions that this page is made of, written from
+-- document 01, the original and docs/LAYOUT.md: all files of specs/ to which `use` lines lead from here, with their
+-- remarks. A script of the gate counts their lines (tests/contracts.py):
+--   numbers 257, filters 299, model 331, events 400, phases 228, laws 435, drift 368, words 32, encoding 509,
+--   calls 172, turns 114, exports 198, theorems 709: together 4052

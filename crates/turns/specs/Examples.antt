@@ -33,7 +33,8 @@ call number = number ∷ zeros 37 ++ (0x3f00_0000 ∷ 0 ∷ 0 ∷ 0x3f80_0000 �
 -- its answer is the number n, no value, and these 16 words
 abbrev shows : List ℕ → List ℕ → ℕ → List ℕ → Bool
 shows words state n event =
-    let t = turnOf words (modelOf state) (cycleOf state) in eqb (t .reply) n && eqb (t .value) 0 && same (t .event) event
+    let t = turnOf words (modelOf state) (cycleOf state) in
+    eqb (t .reply) n && eqb (t .value) 0 && same (t .event) event
 
 abbrev replies : List ℕ → ℕ → Bool
 replies words n = shows words sound n (zeros 16)
@@ -54,7 +55,8 @@ turnExamples =
     ∷ replies (with (call 40) 1 2) 2
     ∷ replies (with (call 40) 2 (2 ^ 64 - 1)) 2
     ∷ replies (with (call 40) 1 1) 0
-    -- in the words of the parameters: a flag of 2, an f32 with a bit above the 32nd; with a flag of the call's own it is 1
+    -- in the words of the parameters: a flag of 2, an f32 with a bit above the 32nd; it is 1 too with a flag of the
+    -- call's own
     ∷ replies (with (call 40) 48 2) 1
     ∷ replies (with (call 40) 43 0x1_3f80_0000) 1
     ∷ replies (with (with (call 40) 48 2) 1 2) 1

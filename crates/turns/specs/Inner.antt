@@ -1,4 +1,5 @@
--- What the parts of the code are stated with. No exported contract and no theorem speaks of these.
+-- What parts of the code are stated with. These definitions follow the code: no exported contract and no theorem cites
+-- them, and a reader need not believe them.
 use Prim.Native.Nat.{ℕ}
 use mathlib.Core.Bool.{cond}
 use mathlib.Core.List.{List}

@@ -60,7 +60,8 @@ abbrev pub startedLeaves : List ℕ → NetworkModel → NetworkModel
 startedLeaves w m = settled (startedNumber w m) (modelNext m (paramsOf w) (recordOf w) (sampleOf w) (ackedOf w)) m
 
 abbrev pub startedWords : List ℕ → NetworkModel → List ℕ
-startedWords w m = settled (startedNumber w m) (recordWords (recordNext m (recordOf w) (sampleOf w) (ackedOf w))) (recordIn w)
+startedWords w m =
+    settled (startedNumber w m) (recordWords (recordNext m (recordOf w) (sampleOf w) (ackedOf w))) (recordIn w)
 
 -- its answer has the record: "an event's record as handed in" where it is refused, word by word
 unfoldable pub eventTurn : List ℕ → NetworkModel → Cycle → Turn
