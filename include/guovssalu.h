@@ -10,7 +10,8 @@
  * An f32 or an f64 crosses as its bits. Every pattern of a NaN counts as a NaN.
  *
  * Where a call replies with a number: 0 is done, and any other number is a refusal, which leaves
- * every lent byte as it was. Where several apply, the lowest is given.
+ * every lent byte as it was. Where several apply, the lowest is given. The calls inside a run have
+ * answers of their own: guovssalu_run, below.
  */
 #ifndef GUOVSSALU_H
 #define GUOVSSALU_H
@@ -89,8 +90,10 @@ enum {
 
 /* Carries out calls in order on the state in lent bytes, and leaves the new state there: the model
  * and its cycle, 50 words. A call has 49 words, its answer 18; docs/LAYOUT.md has them all. A call
- * that is refused is answered with its number and changes nothing, and the run goes on. Bytes of
- * answers past the last keep what they held. Begin with call 0, a start, on a state of zeros.
+ * that is refused is answered with its number, and the run goes on. It changes nothing, but for a
+ * start (call 0), which then replaces the state by a fresh one at moment 0: look at its answer
+ * before going on. Bytes of answers past the last keep what they held. Begin with a start on a
+ * state of zeros.
  *
  * A call's words are tested. A flag that is neither 0 nor 1, an f32 with bits above the 32nd, a
  * number beside the 0 of an unset one, and a count of acked numbers above 3 refuse the call that

@@ -139,7 +139,8 @@ impl Answer {
 ///
 /// `state` is [`STATE_BYTES`] long, `calls` has [`Call::BYTES`] for each call, and `answers` room for
 /// [`Answer::BYTES`] each; what it has beyond them keeps its bytes. A call that is refused says so
-/// in its answer, and the run goes on.
+/// in its answer, and the run goes on. It changes nothing, but for a start (call 0), which then
+/// replaces the state by a fresh one at moment 0: look at its answer before going on.
 ///
 /// # Errors
 ///

@@ -2,9 +2,10 @@
 //! archive that `rt staticlib exports` writes for x86-64.
 //!
 //! A [`NetworkModel`] and a [`Cycle`] hold their state as bytes, and their methods have the
-//! original's names. Each call is done, or it is refused with a [`Refusal`] and changes nothing. The
-//! clock is the caller's: a [`Moment`] is a number of nanoseconds after a base moment of its choice.
-//! Nothing allocates and nothing is kept between calls.
+//! original's names. Each call is done, or it is refused with a [`Refusal`] and changes nothing. (One
+//! exception, in a [`run`] over bytes: a refused start, call 0, replaces the state by a fresh one at
+//! moment 0.) The clock is the caller's: a [`Moment`] is a number of nanoseconds after a base moment
+//! of its choice. Nothing allocates and nothing is kept between calls.
 //!
 //! What is proved is what the archive does with the bytes it is lent. This crate, which writes and
 //! reads those bytes, is tested.

@@ -1,10 +1,12 @@
 use std::error::Error;
 use std::fmt;
 
-/// Why a call was refused: rows 1 to 7 of the table of refusals. A refused call has changed nothing;
-/// where several rows apply, the lowest is given. Malformed words (docs/LAYOUT.md) can only be in
-/// calls that were not written by this package, or by [`Call::new`](crate::Call::new) with other
-/// arguments than the call has.
+/// Why a call was refused: rows 1 to 7 of the table of refusals. Where several rows apply, the lowest
+/// is given. A refused call has changed nothing, but for a start (call 0) in a [`run`](crate::run),
+/// which has then replaced the state by a fresh one at moment 0.
+///
+/// Malformed words (docs/LAYOUT.md) can only be in calls that were not written by this package, or by
+/// [`Call::new`](crate::Call::new) with other arguments than the call has.
 #[derive(Clone, Copy, Debug, PartialEq, Eq, Hash)]
 pub enum Refusal {
     /// 1: a stored number or a parameter is outside its bounds, a parameter's word is malformed, or

@@ -1,5 +1,6 @@
 //! Refusals: each row at its limit and just past it, by the methods, and malformed words, which no
-//! method writes, by a run. A refused call changes nothing.
+//! method writes, by a run. A refused call changes nothing, but for a start in a run, which leaves a
+//! fresh state at moment 0.
 
 use guovssalu::raise_inflight_high_slope;
 use guovssalu::run;
@@ -458,24 +459,69 @@ fn malformed_parameters_are_out_of_bounds() {
     }
 }
 
-/// A start with malformed parameters leaves what every refused start does.
+/// A state in use: after a send, an event and its end, an entry into Up, and a send.
+fn lived() -> [u8; STATE_BYTES] {
+    let mut state = started();
+    for number in [1, 3, 4, 43, 1] {
+        assert_eq!(reply(&mut state, good(number).as_bytes()), 0);
+    }
+    state
+}
+
+/// A state within its bounds that has no word of a fresh one: its numbers are 7, all that can be is
+/// set, the flags are on, the gains 2, the phase Cruise.
+fn full() -> [u8; STATE_BYTES] {
+    let mut words = [7; 50];
+    for pair in [2, 15, 27, 29, 39, 42] {
+        words[pair] = 1;
+    }
+    for flag in [12, 21, 22, 26, 45, 46, 47, 48, 49] {
+        words[flag] = 1;
+    }
+    words[19] = 2.0f32.to_bits() as u64;
+    words[20] = words[19];
+    words[34] = 3;
+    let mut state = [0; STATE_BYTES];
+    for (at, word) in words.iter().enumerate() {
+        state[8 * at..8 * at + 8].copy_from_slice(&word.to_le_bytes());
+    }
+    state
+}
+
+/// A refused start replaces the state by a fresh one: moment 0, round trip 0, both gains 1, the
+/// option of word 26 off, all else as in every fresh model and cycle.
 #[test]
-fn a_start_with_malformed_parameters_is_refused() {
-    let refused = |words: &[(usize, u64)]| {
-        let mut call = good(0).as_bytes().to_vec();
-        for &(at, word) in words {
-            call = changed(&call, at, word);
+fn a_refused_start_leaves_a_fresh_state() {
+    let mut fresh = [0; 50];
+    // The round's smallest inflight, inflight_lo and inflight_hi are unset.
+    for unset in [11, 17, 18] {
+        fresh[unset] = u64::MAX;
+    }
+    // cwnd_gain and pacing_gain.
+    fresh[19] = 1.0f32.to_bits() as u64;
+    fresh[20] = fresh[19];
+
+    for before in [started(), lived(), full()] {
+        // The state is one that calls are done in.
+        assert_eq!(reply(&mut { before }, good(43).as_bytes()), 0);
+        for (row, at, bad) in [
+            // Malformed parameters, one out of bounds, and a moment out of bounds.
+            (1, 48, 255),
+            (1, 48, 2),
+            (1, 43, 1 << 32),
+            (1, 38, 0),
+            (2, 1, MOST_MOMENT + 1),
+        ] {
+            let mut state = before;
+            let start = changed(good(0).as_bytes(), at, bad);
+            assert_eq!(reply(&mut state, &start), row);
+            for (at, expected) in fresh.iter().enumerate() {
+                assert_eq!(word(&state, at), *expected, "word {}", at);
+            }
         }
-        let mut state = started();
-        assert_eq!(reply(&mut state, &call), 1);
-        state
-    };
-    let fresh = refused(&[(38, 0)]);
-    assert!(refused(&[(48, 2)]) == fresh);
-    assert!(refused(&[(43, 1 << 32)]) == fresh);
-    let words = [0, 6, 7, 19, 20, 26, 33, 35].map(|at| word(&fresh, at));
-    let one = 1.0f32.to_bits() as u64;
-    assert_eq!(words, [0, 0, 0, one, one, 0, 0, 0]);
+    }
+    let full = full();
+    assert!((0..50).all(|at| word(&full, at) != fresh[at]));
 }
 
 /// Of several refusals the lowest is given.
