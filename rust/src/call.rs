@@ -128,10 +128,18 @@ impl Answer {
         Ok(words::get(&self.bytes, 1))
     }
 
-    /// The event's record after call 3; where that was refused, the one handed in. All zeros after the
-    /// others.
-    pub fn event(&self) -> CongestionEvent {
-        words::get_event(&self.bytes, 2)
+    /// The event's record after call 3, all zeros after the others; or why the call was refused.
+    ///
+    /// The record of a refused event is the one that was handed in, and its words can be malformed,
+    /// which no [`CongestionEvent`] is. Whoever wants it has it in bytes 176 to 303 of the call, and
+    /// again in bytes 16 to 143 of the answer.
+    ///
+    /// # Panics
+    ///
+    /// If the bytes are none of a run's.
+    pub fn event(&self) -> Result<CongestionEvent, Refusal> {
+        Refusal::of(words::get(&self.bytes, 0))?;
+        Ok(words::get_event(&self.bytes, 2))
     }
 }
 

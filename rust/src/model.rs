@@ -128,7 +128,7 @@ impl NetworkModel {
     ) -> Result<(), Refusal> {
         let event = &*congestion_event;
         let call = Call::on_congestion_event_start(acked_packets, event, sample, params);
-        *congestion_event = self.make(&call)?.event();
+        *congestion_event = self.make(&call)?.event()?;
         Ok(())
     }
 

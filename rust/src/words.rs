@@ -1,4 +1,5 @@
-//! Words in bytes, as docs/LAYOUT.md has them.
+//! Words in bytes, as docs/LAYOUT.md has them. What is read here was written by a run, or taken by
+//! one: a malformed word is in none of it, and none is read as something else.
 
 use crate::Bandwidth;
 use crate::CongestionEvent;
@@ -18,8 +19,17 @@ pub fn put(bytes: &mut [u8], at: usize, word: u64) {
     bytes[8 * at..8 * at + 8].copy_from_slice(&word.to_le_bytes());
 }
 
+/// The flag at a place.
+///
+/// # Panics
+///
+/// If the word is malformed.
 pub fn get_flag(bytes: &[u8], at: usize) -> bool {
-    get(bytes, at) == 1
+    match get(bytes, at) {
+        0 => false,
+        1 => true,
+        word => panic!("{} is no flag", word),
+    }
 }
 
 pub fn put_flag(bytes: &mut [u8], at: usize, yes: bool) {
@@ -31,11 +41,15 @@ pub fn put_gain(bytes: &mut [u8], at: usize, gain: f32) {
 }
 
 /// The number at a place and the next one, if it is set.
+///
+/// # Panics
+///
+/// If the two words are malformed.
 pub fn get_option(bytes: &[u8], at: usize) -> Option<u64> {
-    if get_flag(bytes, at) {
-        Some(get(bytes, at + 1))
-    } else {
-        None
+    match (get(bytes, at), get(bytes, at + 1)) {
+        (0, 0) => None,
+        (1, number) => Some(number),
+        (set, number) => panic!("{} and {} are no number and not unset", set, number),
     }
 }
 

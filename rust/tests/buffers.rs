@@ -186,22 +186,31 @@ fn a_refused_call_is_answered_and_the_run_goes_on() {
     assert_eq!(word(&state, 1), 11);
 }
 
-/// A refused event's record comes back byte for byte, whatever its words are.
-#[test]
-fn a_refused_event_gives_its_record_back() {
+/// The state after the calls above.
+fn begun() -> [u8; STATE_BYTES] {
     let mut state = [0; STATE_BYTES];
     let mut answers = [0; 3 * Answer::BYTES];
     assert_eq!(run(&mut state, &calls(), &mut answers), Ok(()));
+    state
+}
+
+/// An event at moment 8, with some words that are others.
+fn event_with(words: &[(usize, u64)]) -> [u8; Call::BYTES] {
     let event = CongestionEvent::new(Moment::from_nanos(8), 1300, 1300, false);
     let (sample, params) = (Sample::default(), Params::default());
     let good = Call::on_congestion_event_start(&[9], &event, &sample, &params);
-    let with = |words: &[(usize, u64)]| {
-        let mut call = *good.as_bytes();
-        for (at, word) in words {
-            call[8 * at..8 * at + 8].copy_from_slice(&word.to_le_bytes());
-        }
-        call
-    };
+    let mut call = *good.as_bytes();
+    for (at, word) in words {
+        call[8 * at..8 * at + 8].copy_from_slice(&word.to_le_bytes());
+    }
+    call
+}
+
+/// A refused event's record comes back byte for byte, whatever its words are.
+#[test]
+fn a_refused_event_gives_its_record_back() {
+    let mut state = begun();
+    let with = event_with;
     let most = u64::MAX;
     let all: Vec<(usize, u64)> = (22..38).map(|at| (at, most - at as u64)).collect();
     for (row, call) in [
@@ -215,6 +224,7 @@ fn a_refused_event_gives_its_record_back() {
         (2, with(&[(30, 0), (31, 5)])),
         (2, with(&[(32, 2), (33, 5)])),
         (2, with(&[(34, 255), (35, 1 << 32)])),
+        (2, with(&[(28, 2), (29, 255), (32, 0), (33, 5)])),
         (2, with(&[(23, most)])),
         (2, with(&all)),
         // A malformed argument beside a good record, and an earlier moment.
@@ -227,10 +237,55 @@ fn a_refused_event_gives_its_record_back() {
         assert_eq!((word(&answer, 0), word(&answer, 1)), (row, 0));
         assert!(answer[16..] == call[8 * 22..8 * 38]);
         assert!(state == before);
+        // It is not read: it could have words that no record of the package has.
+        let refusal = Answer::from_bytes(&answer).event().unwrap_err();
+        assert_eq!(refusal.number(), row);
     }
     let mut answer = [0x77; Answer::BYTES];
     assert_eq!(run(&mut state, &with(&[]), &mut answer), Ok(()));
     assert_eq!(word(&answer, 0), 0);
+    let event = Answer::from_bytes(&answer).event().unwrap();
+    assert!(event.event_time == Moment::from_nanos(8) && event.end_of_round_trip);
+}
+
+/// An event's record goes from its answer into the end of the event: a done one's is taken, by its
+/// bytes and as it is read; a refused one's is still malformed.
+#[test]
+fn a_record_is_handed_on_as_it_is() {
+    let bad = [(28, 2), (29, 255), (32, 0), (33, 5)];
+    for (words, row) in [(&[][..], 0), (&bad[..], 2)] {
+        let mut state = begun();
+        let mut answer = [0x77; Answer::BYTES];
+        assert_eq!(run(&mut state, &event_with(words), &mut answer), Ok(()));
+        let event = Answer::from_bytes(&answer).event();
+        let mut end = *Call::new(4, &[]).as_bytes();
+        end[8 * 22..8 * 38].copy_from_slice(&answer[16..]);
+        match event {
+            Ok(event) => assert!(end == *Call::new(4, &[]).with_event(&event).as_bytes()),
+            Err(refusal) => assert_eq!(refusal.number(), row),
+        }
+        assert_eq!(run(&mut state, &end, &mut answer), Ok(()));
+        assert_eq!(word(&answer, 0), row);
+    }
+}
+
+/// The event of an answer of zeros but for one word.
+fn event_of(at: usize, word: u64) -> CongestionEvent {
+    let mut answer = [0; Answer::BYTES];
+    answer[8 * at..8 * at + 8].copy_from_slice(&word.to_le_bytes());
+    Answer::from_bytes(&answer).event().unwrap()
+}
+
+#[test]
+#[should_panic(expected = "2 is no flag")]
+fn a_flag_that_no_run_writes_is_not_read() {
+    event_of(8, 2);
+}
+
+#[test]
+#[should_panic(expected = "0 and 5 are no number and not unset")]
+fn a_pair_that_no_run_writes_is_not_read() {
+    event_of(11, 5);
 }
 
 fn pairs(pairs: &[(u64, u64)]) -> Vec<u8> {

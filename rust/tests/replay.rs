@@ -386,13 +386,15 @@ fn by_bytes(case: &Case) -> Result<(), String> {
     let mut out = [0; Answer::BYTES];
     run(&mut state, call.as_bytes(), &mut out).unwrap();
     let answer = Answer::from_bytes(&out);
-    let left = if case.call[0] == 3 {
-        answer.event()
-    } else {
-        assert_eq!(answer.event(), CongestionEvent::default());
-        case.event()
-    };
-    case.held(answer.number(), &state, left)
+    // A refused event's record is in its bytes alone.
+    let record: Vec<u64> = (2..18).map(|at| word(&out, at)).collect();
+    let left = event(&record);
+    assert_eq!(answer.event(), answer.number().map(|_| left));
+    if case.call[0] == 3 {
+        return case.held(answer.number(), &state, left);
+    }
+    assert_eq!(left, CongestionEvent::default());
+    case.held(answer.number(), &state, case.event())
 }
 
 /// Runs the filter with the output that the call lends; all of the memory is compared.
@@ -458,5 +460,5 @@ fn send_state(numbers: &[u64]) -> SendTimeState {
 fn event(numbers: &[u64]) -> CongestionEvent {
     let mut answer = [0; Answer::BYTES];
     answer[16..].copy_from_slice(&bytes(&numbers[..16]));
-    Answer::from_bytes(&answer).event()
+    Answer::from_bytes(&answer).event().unwrap()
 }
