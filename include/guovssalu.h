@@ -89,16 +89,19 @@ enum {
 };
 
 /* Carries out calls in order on the state in lent bytes, and leaves the new state there: the model
- * and its cycle, 50 words. A call has 49 words, its answer 18; docs/LAYOUT.md has them all. A call
- * that is refused is answered with its number, and the run goes on. It changes nothing, but for a
- * start (call 0), which then replaces the state by a fresh one at moment 0: look at its answer
- * before going on. Bytes of answers past the last keep what they held. Begin with a start on a
- * state of zeros.
+ * and its cycle, 50 words. A call has 49 words, its answer 18; docs/LAYOUT.md has them all. Begin
+ * with call 0, a start, on a state of zeros. Bytes of answers past the last keep what they held.
  *
- * A call's words are tested. A flag that is neither 0 nor 1, an f32 with bits above the 32nd, a
- * number beside the 0 of an unset one, and a count of acked numbers above 3 refuse the call that
- * uses them: with 2, or with 1 in the parameters. So a flag is written as (flag ? 1 : 0). A number
- * that is no call's is refused with 2, or with 1 where the stored model is out of bounds.
+ * Word 0 of a call's answer is 0 where the call was done, and the refusal's number, 1 to 5, where it
+ * was refused; the run goes on. The run's own reply of 0 says nothing of its calls: look at each
+ * answer. A refused call changes nothing, but for a start, which then replaces the state by a fresh
+ * one at moment 0: look at its answer before going on.
+ *
+ * A call's words are tested. A flag that is neither 0 nor 1, an f32 with bits above the 32nd, two
+ * words of a number that may be unset that are neither 1 and the number nor 0 and 0, and a count of
+ * acked numbers above 3 refuse the call that uses them: with 2, or with 1 in the parameters. So a
+ * flag is written as (flag ? 1 : 0). A number that is no call's is refused with 2, or with 1 where
+ * the stored model is out of bounds.
  *
  * The run itself replies 1 for 400 bytes that encode no state, 2 for a state of another length or
  * calls that are no whole number of 392 bytes, 7 for answers under 144 bytes a call. */

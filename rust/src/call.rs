@@ -155,6 +155,8 @@ impl Answer {
 /// `OutOfBounds` for bytes that encode no state; `BadArgument` for a state of another length or calls
 /// not in whole records; `ShortOutput` for answers without room. Then no byte is changed.
 ///
+/// `Ok` says nothing of the calls: whether one was refused, and why, is in its [`Answer`].
+///
 /// ```
 /// use guovssalu::{run, Answer, Call, Params, STATE_BYTES};
 ///
