@@ -129,7 +129,7 @@ fn a_number_of_no_call_is_answered_and_the_run_goes_on() {
     let mut state = [0; STATE_BYTES];
     let mut answers = [0; 5 * Answer::BYTES];
     assert_eq!(run(&mut state, &known, &mut answers), Ok(()));
-    for number in [2, 39, 46, 47, 99, 1 << 32, (1 << 32) + 1, u64::MAX] {
+    for number in [2, 39, 46, 47, 99, 256, 1 << 32, (1 << 32) + 1, u64::MAX] {
         // In the middle: the calls before and after it do as they do without it.
         let (before, after) = known.split_at(3 * Call::BYTES);
         let unknown = Call::new(number, &[]);
