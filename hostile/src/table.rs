@@ -62,7 +62,8 @@ impl Rows {
 }
 
 /// The rows of one call in a state that its bytes encode. A number that is no call's is itself the
-/// bad argument; such a call gets the model, and tests it.
+/// bad argument. That such a call gets the model and tests it, and not the cycle, is a choice
+/// (decision 64).
 pub fn call_rows(state: &State, call: &Call) -> Rows {
     let number = call[0];
     let stored =
