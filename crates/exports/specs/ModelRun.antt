@@ -51,10 +51,11 @@ turnAt m y src at = turnOf (callAt src at) m y
 unfoldable pub answerWords : Turn → List ℕ
 answerWords t = t .reply ∷ t .value ∷ t .event
 
--- the answers to the n calls from an index on, each carried out in the state that the one before it left: "A call that is refused is answered with its number, changes nothing, and the run goes on"
+-- the answers to the n calls from an index on, each carried out in the state that the one before it left
 unfoldable pub answersTo : NetworkModel → Cycle → List ℕ → ℕ → ℕ → List ℕ
 answersTo m y src at zero = []
-answersTo m y src at (suc n) = let t = turnAt m y src at in answerWords t ++ answersTo (t .model) (t .cycle) src (at + 392) n
+answersTo m y src at (suc n) =
+    let t = turnAt m y src at in answerWords t ++ answersTo (t .model) (t .cycle) src (at + 392) n
 
 -- the words of the state that they leave
 unfoldable pub leftBy : NetworkModel → Cycle → List ℕ → ℕ → ℕ → List ℕ
@@ -68,7 +69,7 @@ answersFrom state src = answersTo (modelOf (stateIn state)) (cycleOf (stateIn st
 unfoldable pub wordsLeft : (state src : List ℕ) → List ℕ
 wordsLeft state src = leftBy (modelOf (stateIn state)) (cycleOf (stateIn state)) src 0 (callsIn src)
 
--- docs/LAYOUT.md, "What the run itself replies", rows 1, 2 and 7: "Of several the lowest is given; then no byte is written"
+-- docs/LAYOUT.md, "What the run itself replies", 1, 2 and 7: "Of several the lowest is given; then no byte is written"
 unfoldable pub modelRow : (state src : List ℕ) (room : ℕ) → ℕ
 modelRow state src room =
     let uneven = not (eqb (length state) 400) || not (eqb (length src % 392) 0) in

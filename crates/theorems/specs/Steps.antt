@@ -132,7 +132,7 @@ pub record Makes (w : List ℕ) (s : State) : Type 0 where
   pub replies : Replies (stepOf w) s (turnIn w s .reply)
 
 -- a call that is refused: a start leaves document 01's fresh state at moment 0, any other call the state as it was. Its
--- answer is its number, 0, and the record: for call 3, words 22 to 37 of the call as they were handed in
+-- answer has the value 0 and the record: for call 3, words 22 to 37 of the call as they were handed in
 abbrev pub fresh : State
 fresh = record { model = modelNew one one false noLength noMoment; cycle = cycleNew noMoment }
 

@@ -131,7 +131,7 @@ pub record Theorems : Type 0 where
   pub slope-defined : (r : SlopeRun) → Raised r →
       (r .reply ≡ slopeRow (r .rounds) (r .window) (length (r .output)))
       × (r .written ≡ slopeOut (r .rounds) (r .window) (r .output))
-  -- The seven conversions; and the casts that they are made of are those of the Rust Reference
+  -- The seven conversions; and their casts are those of the Rust Reference, their rounding that of Rust's `f64::round`
   pub conversions : Conversions
   pub casts : Casts
   pub one-outcome : OneOutcome
@@ -162,4 +162,4 @@ pub record Theorems : Type 0 where
 -- document 01, the original and docs/LAYOUT.md: all files of specs/ to which `use` lines lead from here, with their
 -- remarks. A script of the gate counts their lines (tests/contracts.py):
 --   numbers 257, filters 299, model 331, events 400, phases 228, laws 435, drift 368, words 32, encoding 509,
---   calls 172, turns 114, exports 198, theorems 709: together 4052
+--   calls 172, turns 114, exports 199, theorems 709: together 4053
