@@ -1,19 +1,14 @@
 -- Worked calls: what the definitions say of a few inputs. The slope's are document 01's example 11; the run's first two pairs are those of example 9.
-use Prim.Native.Nat.{ℕ, _+_}
-use mathlib.Core.Bool.{Bool, true, false, _&&_}
+use Prim.Native.Nat.{ℕ}
+use mathlib.Core.Bool.{Bool}
 use mathlib.Core.List.{List, [], _∷_, _++_}
 use lib.Dec.{eqb}
-use lib.ListN.{take, drop, replicate}
+use lib.ListN.{take, replicate}
 use Rattle.words.specs.Words.{allBytes}
+use Rattle.turns.specs.Examples.{same, zeros, with}
 use Rattle.exports.specs.FilterRun.{runRow, runOut}
 use Rattle.exports.specs.ModelRun.{modelRow, stateOut, answersOut}
 use Rattle.exports.specs.Slope.{slopeRow, slopeOut}
-
-abbrev pub same : List ℕ → List ℕ → Bool
-same [] [] = true
-same [] (y ∷ l) = false
-same (x ∷ k) [] = false
-same (x ∷ k) (y ∷ l) = eqb x y && same k l
 
 -- bytes that a call may write over
 abbrev pub room : ℕ → List ℕ
@@ -33,13 +28,7 @@ falling = allBytes (0 ∷ 5 ∷ 2 ∷ 1 ∷ 1 ∷ 1 ∷ [])
 abbrev pub refused : List ℕ
 refused = allBytes (3 ∷ 5 ∷ 2 ∷ 5 ∷ [])
 
--- a state of zeros, in which every call is refused; the same with one word put anew
-abbrev pub zeros : ℕ → List ℕ
-zeros n = replicate n 0
-
-abbrev pub with : List ℕ → ℕ → ℕ → List ℕ
-with words i x = take i words ++ (x ∷ drop (i + 1) words)
-
+-- a state of zeros, in which every call is refused, with one word put anew
 abbrev pub states : ℕ → ℕ → List ℕ
 states i x = allBytes (with (zeros 50) i x)
 

@@ -6,14 +6,16 @@
 -- How to read it. `ℕ` is the whole numbers from 0, `Bool` is yes or no (`true` or `false`), and `Type 0` is the types
 -- and the statements. A `record` is several things or several statements at once, `abbrev` gives a name to what stands
 -- behind `=`. `f a b` is the function f of a and b, `x .f` the field f of x, and `.0` and `.1` are the first and the
--- rest of a list of arguments. `A × B` is "A and B", `A → B` is "from A follows B", `(a : A) → B` is "B for every a of
--- the type A", `a ≡ b` is "a equals b", `⊥` is "never", `λ x. t` is "t, for x". Of tests, `&&` is "and", `||` is "or",
--- `ltb a b` is "a is below b", `eqb a b` is "a equals b". A contract, as the checker reads it, is `Reads.Learnt` of its
--- function. It speaks of lifetimes κ, of the arguments in the order of the source, written (first, (second, tt)), of a
--- reply x and of what is left at the exit. `now a` is what a lent slice a holds at the call.
+-- rest of a list of arguments. `A × B` is "A and B", `A → B` is "from A follows B", `A ↔ B` is "A exactly when B", `(a
+-- : A) → B` is "B for every a of the type A", `a ≡ b` is "a equals b", `⊥` is "never", `λ x. t` is "t, for x". Of
+-- tests, `&&` is "and", `||` is "or", `ltb a b` is "a is below b", `eqb a b` is "a equals b". A contract, as the
+-- checker reads it, is `Reads.Learnt` of its function. It speaks of lifetimes κ, of the arguments in the order of the
+-- source, written (first, (second, tt)), of a reply x and of what is left at the exit. `now a` is what a lent slice a
+-- holds at the call.
 use Prim.Native.Nat.{ℕ, _-_, _*_, _^_}
 use mathlib.Core.Bool.{Bool, true, false, not, _&&_, _||_}
 use mathlib.Core.List.{List}
+use mathlib.Core.Logic.{_↔_}
 use mathlib.Core.Path.{_≡_}
 use lib.Dec.{ltb, eqb}
 use lib.Ieee.{Float}
@@ -66,10 +68,6 @@ pub record Rows : Type 0 where
 abbrev pub rows : (stored argument earlier lower full : Bool) → Rows
 rows a b c d e = record { stored = a; argument = b; earlier = c; lower = d; full = e }
 
--- each follows from the other
-abbrev pub Iff : Type 0 → Type 0 → Type 0
-Iff A B = (A → B) × (B → A)
-
 abbrev pub Holds : Bool → Type 0
 Holds test = test ≡ true
 
@@ -79,13 +77,13 @@ Fails test = test ≡ false
 -- the reply's number n is that of the first row that holds, and 0 exactly where none does
 pub record Exactly (n : ℕ) (r : Rows) : Type 0 where
   pub is0 :
-      Iff (n ≡ 0) (Fails (r .stored) × Fails (r .argument) × Fails (r .earlier) × Fails (r .lower) × Fails (r .full))
-  pub is1 : Iff (n ≡ 1) (Holds (r .stored))
-  pub is2 : Iff (n ≡ 2) (Fails (r .stored) × Holds (r .argument))
-  pub is3 : Iff (n ≡ 3) (Fails (r .stored) × Fails (r .argument) × Holds (r .earlier))
-  pub is4 : Iff (n ≡ 4) (Fails (r .stored) × Fails (r .argument) × Fails (r .earlier) × Holds (r .lower))
+      n ≡ 0 ↔ Fails (r .stored) × Fails (r .argument) × Fails (r .earlier) × Fails (r .lower) × Fails (r .full)
+  pub is1 : n ≡ 1 ↔ Holds (r .stored)
+  pub is2 : n ≡ 2 ↔ Fails (r .stored) × Holds (r .argument)
+  pub is3 : n ≡ 3 ↔ Fails (r .stored) × Fails (r .argument) × Holds (r .earlier)
+  pub is4 : n ≡ 4 ↔ Fails (r .stored) × Fails (r .argument) × Fails (r .earlier) × Holds (r .lower)
   pub is5 :
-      Iff (n ≡ 5) (Fails (r .stored) × Fails (r .argument) × Fails (r .earlier) × Fails (r .lower) × Holds (r .full))
+      n ≡ 5 ↔ Fails (r .stored) × Fails (r .argument) × Fails (r .earlier) × Fails (r .lower) × Holds (r .full)
 
 -- the reply to a call with such rows, and what it left or answered: `next` where it is done, `old` where it is refused
 pub record Answered {A : Type 0} (reply : Reply) (r : Rows) (got next old : A) : Type 0 where

@@ -6,14 +6,11 @@ use mathlib.Core.List.{List, [], _∷_, _++_}
 use lib.Dec.{eqb}
 use lib.ListN.{length, replicate, take}
 use Rattle.words.specs.Words.{allBytes}
-use Rattle.exports.specs.Examples.{same}
+use Rattle.turns.specs.Examples.{same, zeros}
 use Rattle.exports.specs.ModelRun.{modelRow, stateOut, answersOut}
 use Rattle.drift.specs.Exact.{Exact, unset, over, inflightTurn}
 use Rattle.drift.specs.Drift.{usualParts}
 use Rattle.theorems.specs.Runs.{Run, exactAfter}
-
-abbrev zeros : ℕ → List ℕ
-zeros n = replicate n 0
 
 -- words 38 to 48: beta 0.3, the other floats 1, three rounds, and the option set
 abbrev params : List ℕ

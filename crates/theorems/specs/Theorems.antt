@@ -161,5 +161,5 @@ pub record Theorems : Type 0 where
 -- compiles what was proved. The page docs/LAYOUT.md. And the definitions that this page is made of, written from
 -- document 01, the original and docs/LAYOUT.md: all files of specs/ to which `use` lines lead from here, with their
 -- remarks. A script of the gate counts their lines (tests/contracts.py):
---   numbers 257, filters 299, model 331, events 400, phases 228, laws 435, drift 368, words 32, encoding 509,
---   calls 172, turns 114, exports 199, theorems 709: together 4053
+--   numbers 257, filters 299, model 331, events 400, phases 228, laws 433, drift 368, words 32, encoding 509,
+--   calls 172, turns 114, exports 199, theorems 709: together 4051

@@ -9,17 +9,17 @@ use Rattle.encoding.specs.Cycle.{cycleOf}
 use Rattle.turns.specs.declared.turn.Turn.{Turn}
 use Rattle.turns.specs.Turn.{turnOf}
 
-abbrev same : List ℕ → List ℕ → Bool
+abbrev pub same : List ℕ → List ℕ → Bool
 same [] [] = true
 same [] (y ∷ l) = false
 same (x ∷ k) [] = false
 same (x ∷ k) (y ∷ l) = eqb x y && same k l
 
-abbrev zeros : ℕ → List ℕ
+abbrev pub zeros : ℕ → List ℕ
 zeros n = replicate n 0
 
 -- words with word i put anew
-abbrev with : List ℕ → ℕ → ℕ → List ℕ
+abbrev pub with : List ℕ → ℕ → ℕ → List ℕ
 with words i x = take i words ++ (x ∷ drop (i + 1) words)
 
 -- a state within its bounds: both gains are 1
