@@ -1,6 +1,6 @@
 // One word: a flag, an f32.
 ghost use mathlib.Core.Path.{_≡_};
-ghost use Rattle.encoding.specs.Word.{outside, orOutside, flagWord, flagFits, floatWord, floatOf};
+ghost use Rattle.encoding.specs.Word.{orOutside, flagWord, flagFits, floatWord, floatOf};
 use words::float_bits::f32_bits;
 use words::float_bits::f32_of;
 
