@@ -107,7 +107,7 @@ fn cases() -> Vec<Case> {
 /// The words of a file of the program `serve`.
 fn kept(name: &str) -> Vec<u64> {
     let file = Path::new(env!("CARGO_MANIFEST_DIR"))
-        .join("../crates/serve")
+        .join("../../crates/serve")
         .join(name);
     let bytes = fs::read(&file).unwrap_or_else(|why| panic!("{:?}: {}", file, why));
     (0..bytes.len() / 8).map(|at| word(&bytes, at)).collect()

@@ -9,7 +9,7 @@ use guovssalu::Duration;
 /// The lines of a kept list (oracle/README.md), each as its numbers.
 fn list(name: &str) -> Vec<Vec<u64>> {
     let file = Path::new(env!("CARGO_MANIFEST_DIR"))
-        .join("../crates/answers/data")
+        .join("../../crates/answers/data")
         .join(name);
     let text = fs::read_to_string(&file).unwrap_or_else(|why| panic!("{:?}: {}", file, why));
     let number = |word: &str| word.parse().unwrap();

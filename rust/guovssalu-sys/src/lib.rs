@@ -1,0 +1,100 @@
+//! The exported calls of Guovssalu for Rust, raw, as include/guovssalu.h declares them. The package
+//! `guovssalu` has them safe, behind types.
+//!
+//! Every call takes any numbers and any bytes, keeps nothing between calls and allocates nothing.
+//! A lent range of bytes is a pointer and a length; with the length 0 the pointer is not used. Two
+//! ranges of one call must not overlap. A word is a `u64` in 8 bytes, the lowest byte first, at any
+//! alignment.
+//!
+//! An f32 or an f64 crosses as its bits. Every pattern of a NaN counts as a NaN.
+//!
+//! Where a call replies with a number: 0 is done, and any other number is a refusal, which leaves
+//! every lent byte as it was. Where several apply, the lowest is given. The calls inside a run have
+//! answers of their own: [`guovssalu_run`].
+//!
+//! # Safety
+//!
+//! A call on numbers is always safe. A call on bytes needs ranges that may be read, and written
+//! where the pointer is `*mut`, and that don't overlap. No call keeps a pointer.
+//!
+//! # Linking
+//!
+//! The feature `link`, which is on by default, has the archive linked that `rt staticlib guovssalu`
+//! writes for x86-64. Without it nothing is linked and no archive is looked for.
+
+#![no_std]
+#![deny(missing_docs)]
+
+extern "C" {
+    /// The bits of the f32 nearest to n, a tie to the one whose last digit is even.
+    pub fn guovssalu_u64_to_f32(n: u64) -> u32;
+
+    /// The bits of the f64 nearest to n, a tie to the one whose last digit is even.
+    pub fn guovssalu_u64_to_f64(n: u64) -> u64;
+
+    /// The f32 without its fraction; 0 for a NaN or a negative, 2^64 - 1 for what is too large.
+    pub fn guovssalu_f32_to_u64(bits: u32) -> u64;
+
+    /// The f64 to the nearest whole number, a half away from zero; 0 for a NaN or a negative, 2^64 - 1
+    /// for what is too large.
+    pub fn guovssalu_f64_round_to_u64(bits: u64) -> u64;
+
+    /// n as an f32, times the gain, without its fraction.
+    pub fn guovssalu_scale(n: u64, gain: u32) -> u64;
+
+    /// A bandwidth in bits per second times the gain, by way of an f64, to the nearest whole number.
+    pub fn guovssalu_bandwidth_mul_f32(bandwidth: u64, gain: u32) -> u64;
+
+    /// The whole bytes that a bandwidth in bits per second carries in so many nanoseconds, at most
+    /// 2^64 - 1. The bandwidth 2^64 - 1 stands for an infinite one.
+    pub fn guovssalu_to_bytes_per_period(bandwidth: u64, nanos: u64) -> u64;
+
+    /// Writes two words, 16 bytes: the next probe_up_rounds, which is rounds + 1 or at most 30, and
+    /// probe_up_bytes, which is window / 2^rounds or at least 1300. Bytes past them keep what they
+    /// held. Replies 1 for rounds over 30, 2 for a window above 2^40, 7 for an output under 16 bytes.
+    pub fn guovssalu_raise_inflight_high_slope(
+        rounds: u64,
+        window: u64,
+        out: *mut u8,
+        out_len: usize,
+    ) -> u64;
+
+    /// Runs an empty filter of the given window over pairs of words, a time and a sample, 16 bytes to a
+    /// pair. For each pair it writes three words, 24 bytes: the best, the second best and the third
+    /// best sample after that pair. Bytes past the answer keep what they held. Replies 2 if src_len is
+    /// no multiple of 16, 3 if a pair's time is earlier than one of the three times that the filter
+    /// holds then, 7 for an output under 24 bytes a pair.
+    pub fn guovssalu_filter_run(
+        window: u64,
+        src: *const u8,
+        src_len: usize,
+        out: *mut u8,
+        out_len: usize,
+    ) -> u64;
+
+    /// Carries out calls in order on the state in lent bytes, and leaves the new state there: the model
+    /// and its cycle, 50 words. A call has 49 words, its answer 18; docs/LAYOUT.md has them all. Begin
+    /// with call 0, a start, on a state of zeros. Bytes of answers past the last keep what they held.
+    ///
+    /// Word 0 of a call's answer is 0 where the call was done, and the refusal's number, 1 to 5, where it
+    /// was refused; the run goes on. The run's own reply of 0 says nothing of its calls: look at each
+    /// answer. A refused call changes nothing, but for a start, which then replaces the state by a fresh
+    /// one at moment 0: look at its answer before going on.
+    ///
+    /// A call's words are tested. A flag that is neither 0 nor 1, an f32 with bits above the 32nd, two
+    /// words of a number that may be unset that are neither 1 and the number nor 0 and 0, and a count of
+    /// acked numbers above 3 refuse the call that uses them: with 2, or with 1 in the parameters. So a
+    /// flag is written as (flag ? 1 : 0). A number that is no call's is refused with 2, or with 1 where
+    /// the stored model is out of bounds.
+    ///
+    /// The run itself replies 1 for 400 bytes that encode no state, 2 for a state of another length or
+    /// calls that are no whole number of 392 bytes, 7 for answers under 144 bytes a call.
+    pub fn guovssalu_run(
+        state: *mut u8,
+        state_len: usize,
+        calls: *const u8,
+        calls_len: usize,
+        answers: *mut u8,
+        answers_len: usize,
+    ) -> u64;
+}
