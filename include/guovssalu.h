@@ -1,6 +1,7 @@
 /*
- * The calls of Guovssalu for C, on x86-64. `rt staticlib exports` proves them and writes the archive
- * to link, target/staticlib/libexports.a.
+ * The calls of Guovssalu for C, on x86-64. `make install PREFIX=/usr/local` puts this header, the
+ * archive of the proved calls, libguovssalu.a, and guovssalu.pc there; `pkg-config --cflags --libs
+ * guovssalu` gives the flags to compile and link. The archive asks for nothing but memcpy.
  *
  * Every call takes any numbers and any bytes, keeps nothing between calls and allocates nothing.
  * A lent range of bytes is a pointer and a length; with the length 0 the pointer is not used. Two
@@ -22,6 +23,16 @@
 #ifdef __cplusplus
 extern "C" {
 #endif
+
+/* ---- The version. The file VERSION has it. */
+
+#define GUOVSSALU_VERSION_MAJOR 0
+#define GUOVSSALU_VERSION_MINOR 2
+#define GUOVSSALU_VERSION_PATCH 0
+
+/* The layout's number. It is raised when a call takes other arguments, or a word of a state, a call
+ * or an answer gets another place or meaning: a state that was kept is for its own number alone. */
+#define GUOVSSALU_LAYOUT 1
 
 /* ---- Replies. */
 
