@@ -1,5 +1,5 @@
 # make run: proves, builds and runs the demonstration. make test: the whole gate. README.md has the others.
-.PHONY: run test contracts diff patterns changes mutants drift picture lists rust year hostile bench clean kit archive
+.PHONY: run test contracts diff patterns changes mutants drift picture lists rust year hostile bench install clean kit archive
 
 run: kit
 	rt check show
@@ -81,11 +81,11 @@ picture: kit
 
 # ---- the archive of the exported calls, and what links it: on x86-64
 
-# A year of one connection from SEED, in EVENTS events: inflight_lo beside its exact value (rust/examples/year). It
-# shows each week, and ends with a report.
+# A year of one connection from SEED, in EVENTS events: inflight_lo beside its exact value
+# (rust/guovssalu/examples/year). It shows each week, and ends with a report.
 EVENTS = 300000000
 year: archive
-	$(CARGO) run --release --quiet --manifest-path rust/Cargo.toml --example year -- $(SEED) $(EVENTS)
+	$(CARGO) run --release --quiet --manifest-path rust/guovssalu/Cargo.toml --example year -- $(SEED) $(EVENTS)
 
 # Bad input for every exported call, from SEED: CALLS calls, each reply known beforehand (hostile/README.md).
 hostile: archive
@@ -95,17 +95,32 @@ hostile: archive
 bench: archive
 	$(CARGO) run --release --quiet --manifest-path bench/Cargo.toml
 
-# The Rust package and the C example: tests and examples. Elsewhere the package is only checked.
+# All that links the archive, tested: symbols, Rust packages, examples, some bad input, the install. Elsewhere the
+# packages are only checked.
 rust: kit
-	sh tests/rust.sh
+	@[ "$$(uname -m)" != x86_64 ] || $(MAKE) archive
+	sh tests/links.sh
+
+# Header, archive and pkg-config file to PREFIX, below DESTDIR if that is given. An archive that is there is taken.
+PREFIX = /usr/local
+install:
+	@case '$(PREFIX)' in /*) ;; *) echo "PREFIX has to be a full path, as /usr/local."; exit 1 ;; esac
+	@[ -f $(ARCHIVE) ] || $(MAKE) archive
+	install -d '$(DESTDIR)$(PREFIX)/include' '$(DESTDIR)$(PREFIX)/lib/pkgconfig'
+	install -m 644 include/guovssalu.h '$(DESTDIR)$(PREFIX)/include/guovssalu.h'
+	install -m 644 $(ARCHIVE) '$(DESTDIR)$(PREFIX)/lib/libguovssalu.a'
+	sed -e 's|@PREFIX@|$(PREFIX)|' -e "s|@VERSION@|$$(sed -n 1p VERSION)|" \
+		-e "s|@LAYOUT@|$$(sed -n 's/^layout //p' VERSION)|" \
+		include/guovssalu.pc.in >'$(DESTDIR)$(PREFIX)/lib/pkgconfig/guovssalu.pc'
 
 CARGO = CARGO_TARGET_DIR=$(CURDIR)/target/cargo cargo
+ARCHIVE = target/staticlib/libguovssalu.a
 archive: kit
 	@[ "$$(uname -m)" = x86_64 ] || { \
 		echo "The archive is for x86-64, and this machine is $$(uname -m): nothing that links it can be run here."; \
 		exit 1; \
 	}
-	rt staticlib exports
+	rt staticlib guovssalu
 
 clean:
 	rm -rf target oracle/target rust/target bench/target hostile/target
