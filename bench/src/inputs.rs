@@ -1,11 +1,11 @@
 //! The inputs, the same for both sides and in every run.
 
 use crate::model::Call;
-use crate::model::Host;
 use crate::model::Record;
 use crate::model::Sample;
 use crate::model::SendState;
 use crate::model::Start;
+use crate::recovery::gcongestion::Host;
 use crate::values::Random;
 
 /// Bytes of the state, of a call and of its answer (docs/LAYOUT.md).

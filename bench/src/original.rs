@@ -7,11 +7,11 @@ use crate::inputs::bytes;
 use crate::inputs::ANSWER;
 use crate::inputs::CALL;
 use crate::inputs::STATE;
-use crate::model::Host;
 use crate::model::Record;
 use crate::model::Sample;
 use crate::model::Start;
 use crate::recovery::bandwidth::Bandwidth;
+use crate::recovery::gcongestion::Host;
 use crate::recovery::gcongestion::WindowedFilter;
 
 /// The functions on single numbers. The port's are behind a call that can't be folded into the

@@ -2,8 +2,6 @@
 //! What answers them is `Host`, which is appended to probe_bw.rs of the
 //! original, where it reaches what is private.
 
-pub use crate::recovery::gcongestion::Host;
-
 /// The 66 fields in the order of README.md: the model, the last accepted
 /// moment, the cycle, the record of the current event.
 pub type State = [u64; 66];

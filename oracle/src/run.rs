@@ -6,12 +6,12 @@ use crate::marks::Marks;
 use crate::model::field::*;
 use crate::model::Call;
 use crate::model::Getter;
-use crate::model::Host;
 use crate::model::Record;
 use crate::model::Sample;
 use crate::model::SendState;
 use crate::model::Start;
 use crate::model::State;
+use crate::recovery::gcongestion::Host;
 use crate::world::Step;
 
 pub struct Run<'a> {

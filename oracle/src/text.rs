@@ -1,8 +1,8 @@
 //! Steps as text, one a line, and the names of calls and fields.
 
 use crate::model::Call;
-use crate::model::Host;
 use crate::model::Record;
+use crate::recovery::gcongestion::Host;
 use crate::replies;
 use crate::scalars;
 use crate::world::Step;
