@@ -3,12 +3,12 @@
 
 use std::collections::BTreeMap;
 
+use crate::list::List;
 use crate::recovery::gcongestion::MaxBandwidth;
 use crate::recovery::gcongestion::MinRtt;
 use crate::recovery::gcongestion::Rounds;
 use crate::recovery::gcongestion::WindowedFilter;
 use crate::values::Random;
-use crate::List;
 
 type Estimates = Option<[(u64, u64); 3]>;
 

@@ -9,6 +9,7 @@ mod filter_steps;
 mod filters;
 mod frame;
 mod limits;
+mod list;
 mod malformed;
 mod marks;
 mod model;
@@ -36,6 +37,7 @@ use std::process;
 use export_steps::ExportSteps;
 use files::Files;
 use filter_steps::FilterSteps;
+use list::List;
 use malformed::Mixed;
 use port::Port;
 use scalars::Runs;
@@ -45,31 +47,6 @@ use steps::Steps;
 #[derive(Debug)]
 pub enum Error {
     CongestionControl,
-}
-
-/// One list: every line an answer.
-pub struct List {
-    name: String,
-    text: String,
-}
-
-impl List {
-    fn new(name: impl Into<String>) -> Self {
-        List {
-            name: name.into(),
-            text: String::new(),
-        }
-    }
-
-    fn add(&mut self, numbers: &[u64]) {
-        for (at, number) in numbers.iter().enumerate() {
-            if at > 0 {
-                self.text.push(' ');
-            }
-            self.text.push_str(&number.to_string());
-        }
-        self.text.push('\n');
-    }
 }
 
 const USAGE: &str = "\

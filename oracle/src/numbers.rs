@@ -3,6 +3,7 @@
 
 use std::time::Duration;
 
+use crate::list::List;
 use crate::recovery::bandwidth::Bandwidth;
 use crate::recovery::gcongestion::first_reduction;
 use crate::recovery::gcongestion::without_headroom;
@@ -11,7 +12,6 @@ use crate::values::whole;
 use crate::values::Random;
 use crate::values::Set;
 use crate::values::GAINS;
-use crate::List;
 
 pub fn to_f32() -> List {
     let mut random = Random::new(1);
