@@ -3,13 +3,13 @@
 
 use crate::filter_steps;
 use crate::filter_steps::WINDOWS;
+use crate::frame::MEMORY;
+use crate::frame::MOST_PAIRS;
 use crate::replies::BYTES;
 use crate::replies::UP_ROUNDS;
 use crate::values::Random;
 use crate::windowed;
 use crate::world::Step;
-use crate::world::MEMORY;
-use crate::world::MOST_PAIRS;
 
 /// An endless choice of calls, each for itself.
 pub struct ExportSteps {

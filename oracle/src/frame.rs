@@ -6,8 +6,6 @@ use std::io::ErrorKind;
 use std::io::Read;
 use std::io::Write;
 
-use crate::world::SUMMED;
-
 /// Calls in a frame.
 pub const CALLS: usize = 100;
 
@@ -27,6 +25,29 @@ pub const ANSWER: usize = 2 + RECORD + CARRIED;
 /// Words of a frame.
 pub const REQUEST: usize = CARRIED + CALLS * CALL;
 pub const ANSWERS: usize = CALLS * ANSWER;
+
+/// The numbers of a start and of an event.
+pub const START: u64 = 0;
+pub const EVENT: u64 = 3;
+
+/// The numbers of calls that are not the model's: on a windowed filter, of
+/// functions on numbers, of the exported run of a filter, of the exported
+/// slope, and of what puts numbers into the state; that of the last but one,
+/// in a frame's first call, also has the answers summed up.
+pub const WINDOWED_FILTER: u64 = 46;
+pub const NUMBERS: u64 = 47;
+pub const FILTER_RUN: u64 = 48;
+pub const SLOPE: u64 = 49;
+pub const SUMMED: u64 = 98;
+pub const PUT: u64 = 99;
+
+/// The most numbers that one call puts.
+pub const MOST_PUT: usize = 23;
+
+/// The most bytes of pairs that a run of a filter is given, and the bytes of
+/// the memory of which a part is lent to an exported call.
+pub const MOST_PAIRS: u64 = 360;
+pub const MEMORY: usize = 528;
 
 /// A call: its number, its arguments, the record and the parameters.
 pub type CallWords = [u64; CALL];

@@ -5,13 +5,13 @@ use crate::calls::Calls;
 use crate::frame;
 use crate::frame::CallWords;
 use crate::frame::CARRIED;
+use crate::frame::START;
 use crate::replies;
 use crate::steps;
 use crate::steps::Steps;
 use crate::values::Random;
 use crate::world::Step;
 use crate::world::World;
-use crate::world::START;
 
 /// The forms that a word can miss.
 #[derive(Clone, Copy)]

@@ -1,20 +1,20 @@
 //! Steps as text, one a line, and the names of calls and fields.
 
+use crate::frame::EVENT;
+use crate::frame::FILTER_RUN;
+use crate::frame::MEMORY;
+use crate::frame::MOST_PAIRS;
+use crate::frame::NUMBERS;
+use crate::frame::PUT;
+use crate::frame::SLOPE;
+use crate::frame::START;
+use crate::frame::WINDOWED_FILTER;
 use crate::model::Call;
 use crate::model::Record;
 use crate::recovery::gcongestion::Host;
 use crate::replies;
 use crate::scalars;
 use crate::world::Step;
-use crate::world::EVENT;
-use crate::world::FILTER_RUN;
-use crate::world::MEMORY;
-use crate::world::MOST_PAIRS;
-use crate::world::NUMBERS;
-use crate::world::PUT;
-use crate::world::SLOPE;
-use crate::world::START;
-use crate::world::WINDOWED_FILTER;
 
 const RECORD: u64 = 2;
 const WORDS: u64 = 50;

@@ -6,6 +6,15 @@ use crate::frame::Answer;
 use crate::frame::Asked;
 use crate::frame::CallWords;
 use crate::frame::CARRIED;
+use crate::frame::EVENT;
+use crate::frame::FILTER_RUN;
+use crate::frame::MEMORY;
+use crate::frame::MOST_PUT;
+use crate::frame::NUMBERS;
+use crate::frame::PUT;
+use crate::frame::SLOPE;
+use crate::frame::START;
+use crate::frame::WINDOWED_FILTER;
 use crate::model::field::CWND_GAIN;
 use crate::model::field::PACING_GAIN;
 use crate::model::field::PROBE_UP_BYTES;
@@ -20,30 +29,7 @@ use crate::scalars;
 use crate::windowed;
 use crate::windowed::Filter;
 
-/// The numbers of a start and of an event.
-pub const START: u64 = 0;
-pub const EVENT: u64 = 3;
-
-/// The numbers of calls that are not the model's: on a windowed filter, of
-/// functions on numbers, of the exported run of a filter, of the exported
-/// slope, and of what puts numbers into the state; that of the last but one,
-/// in a frame's first call, also has the answers summed up.
-pub const WINDOWED_FILTER: u64 = 46;
-pub const NUMBERS: u64 = 47;
-pub const FILTER_RUN: u64 = 48;
-pub const SLOPE: u64 = 49;
-pub const SUMMED: u64 = 98;
-pub const PUT: u64 = 99;
-
-/// The most numbers that one call puts.
-pub const MOST_PUT: usize = 23;
-
-/// The most bytes of pairs that a run of a filter is given, and the bytes of
-/// the memory of which a part is lent to an exported call.
-pub const MOST_PAIRS: u64 = 360;
-pub const MEMORY: usize = 528;
-
-/// What each byte of that memory is before the call.
+/// What each byte of the memory of an exported call is before the call.
 const UNTOUCHED: u8 = 165;
 
 /// What is done to the original and to the port.
