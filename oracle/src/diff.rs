@@ -8,11 +8,11 @@ use std::time::Instant;
 
 use crate::frame;
 use crate::frame::Frame;
-use crate::model::Call;
 use crate::port::Port;
 use crate::text;
 use crate::world::Step;
 use crate::world::World;
+use crate::world::FILLER;
 
 /// How often the progress is told.
 const PROGRESS: Duration = Duration::from_secs(10);
@@ -148,9 +148,6 @@ impl<'a> Comparison<'a> {
         Ok(())
     }
 }
-
-/// Fills up a frame.
-pub const FILLER: Step = Step::Call(Call::Bdp0);
 
 /// Makes this many calls, each step chosen by what was before it, and tells
 /// how it went; whether nothing differed.

@@ -7,7 +7,6 @@ use std::io;
 use std::mem;
 use std::path::Path;
 
-use crate::diff::FILLER;
 use crate::export_steps::ExportSteps;
 use crate::filter_steps::FilterSteps;
 use crate::frame;
@@ -17,6 +16,7 @@ use crate::frame::Frame;
 use crate::scalars::Runs;
 use crate::world::Step;
 use crate::world::World;
+use crate::world::FILLER;
 
 pub struct Files {
     pub world: World,

@@ -61,6 +61,9 @@ pub enum Step {
     Slope { rounds: u64, window: u64, lent: u64 },
 }
 
+/// Fills up a frame.
+pub const FILLER: Step = Step::Call(Call::Bdp0);
+
 pub struct World {
     host: Host,
     pub state: State,
