@@ -13,7 +13,7 @@ use crate::frame;
 use crate::frame::Answer;
 use crate::frame::Asked;
 use crate::frame::Frame;
-use crate::scalars::Runs;
+use crate::number_steps::NumberSteps;
 use crate::world::Step;
 use crate::world::World;
 use crate::world::FILLER;
@@ -55,7 +55,7 @@ impl Files {
 
     /// Makes this many calls on windowed filters, as many on numbers and as
     /// many of the exported filter and slope.
-    pub fn choose_others(&mut self, seed: u64, mut numbers: Runs, each: u64) {
+    pub fn choose_others(&mut self, seed: u64, mut numbers: NumberSteps, each: u64) {
         let mut filters = FilterSteps::new(seed);
         self.take(each, |world| filters.next(world));
         self.take(each, |_| numbers.next());

@@ -13,6 +13,7 @@ mod list;
 mod malformed;
 mod marks;
 mod model;
+mod number_steps;
 mod numbers;
 mod port;
 mod replies;
@@ -39,8 +40,8 @@ use files::Files;
 use filter_steps::FilterSteps;
 use list::List;
 use malformed::Mixed;
+use number_steps::NumberSteps;
 use port::Port;
-use scalars::Runs;
 use steps::Steps;
 
 /// Named by gcongestion/mod.rs of the original.
@@ -98,8 +99,8 @@ fn compare(arguments: &[&str]) -> bool {
             diff::run(&mut port(), number(calls), FilterSteps::begins, choose)
         }
         ["numbers", seed, calls] => {
-            let mut runs = Runs::new(number(seed));
-            diff::run(&mut port(), number(calls), |_| true, |_| runs.next())
+            let mut steps = NumberSteps::new(number(seed));
+            diff::run(&mut port(), number(calls), |_| true, |_| steps.next())
         }
         ["exports", seed, calls] => {
             let mut steps = ExportSteps::new(number(seed));
@@ -107,7 +108,7 @@ fn compare(arguments: &[&str]) -> bool {
         }
         ["patterns", name, other] => {
             let function = scalars::on_patterns(name).unwrap_or_else(|| fail(USAGE));
-            let mut patterns = scalars::patterns(function, number(other));
+            let mut patterns = number_steps::patterns(function, number(other));
             let calls = (1 << 32) / scalars::RUN;
             diff::run(&mut port(), calls, |_| true, |_| patterns())
         }
@@ -147,7 +148,7 @@ fn kept() -> Files {
     limits::add(&mut files);
     let mut steps = Steps::new(KEPT_SEED);
     files.take(KEPT_CALLS, |world| steps.next(world));
-    files.choose_others(KEPT_SEED, Runs::at_random(KEPT_SEED), KEPT_CALLS);
+    files.choose_others(KEPT_SEED, NumberSteps::at_random(KEPT_SEED), KEPT_CALLS);
     for reply in [0, 1, 2, 3, 4, 5, 7] {
         assert!(files.replies.contains_key(&reply), "no reply {reply}");
     }
@@ -164,7 +165,7 @@ fn fresh(seed: u64, calls: u64) -> Files {
     let tenth = calls / 10;
     let mut steps = Mixed::new(seed);
     files.take(calls - 3 * tenth, |world| steps.next(world));
-    files.choose_others(seed, Runs::new(seed), tenth);
+    files.choose_others(seed, NumberSteps::new(seed), tenth);
     files
 }
 
