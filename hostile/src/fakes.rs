@@ -9,9 +9,9 @@ use std::slice;
 
 use crate::after;
 use crate::filter;
-use crate::foreign::page;
 use crate::foreign::Port;
 use crate::foreign::Run;
+use crate::pages::page;
 use crate::random;
 use crate::reckon;
 use crate::slope;

@@ -3,7 +3,7 @@
 use std::ptr;
 
 use crate::dice::Dice;
-use crate::foreign::Area;
+use crate::pages::Area;
 
 /// At least so many guard bytes stand on a side that has no page without access.
 const GUARD: usize = 64;

@@ -19,6 +19,7 @@ mod misreads;
 mod model;
 mod next;
 mod numbers;
+mod pages;
 mod reckon;
 mod slope;
 mod table;
