@@ -4,6 +4,7 @@
 use crate::next;
 use crate::reckon;
 use crate::table;
+use crate::words;
 use crate::words::call as c;
 use crate::words::gain;
 use crate::words::optional;
@@ -56,13 +57,6 @@ fn started(call: &Call) -> State {
     fresh(call[1], call[2], cwnd_gain, pacing_gain, option)
 }
 
-/// The record as it is handed in, whatever its words are.
-pub fn record(call: &Call) -> [u64; 16] {
-    let mut record = [0; 16];
-    record.copy_from_slice(&call[c::RECORD..c::PARAMS]);
-    record
-}
-
 /// The state after a call: a refusal changes nothing but at a start.
 pub fn state(before: &State, call: &Call, due: u64) -> State {
     match (call[0], due) {
@@ -92,7 +86,7 @@ fn refused(call: &Call, due: u64) -> Answer {
     let mut answer = [0; 18];
     answer[0] = due;
     if call[0] == 3 {
-        answer[2..].copy_from_slice(&record(call));
+        answer[2..].copy_from_slice(&words::record(call));
     }
     answer
 }
@@ -100,7 +94,7 @@ fn refused(call: &Call, due: u64) -> Answer {
 /// The number that an accepted call answers, as network_model.rs has it.
 fn number(state: &State, call: &Call) -> u64 {
     match call[0] {
-        5 => expires(state, call) as u64,
+        5 => next::expires(state, call) as u64,
         6 => is_inflight_too_high(state, call) as u64,
         7 => table::grows(state, call) as u64,
         10 => table::bdp(state, call[1], gain(call[2])),
@@ -134,12 +128,6 @@ fn stored(number: u64) -> Option<usize> {
         37 => s::ROUNDS_WITH_QUEUEING,
         _ => return None,
     })
-}
-
-/// "Expiry needs a sample and a moment not earlier than the stored one plus the period".
-pub fn expires(state: &State, call: &Call) -> bool {
-    let due = state[s::MIN_RTT_TIMESTAMP].saturating_add(call[c::PROBE_RTT_PERIOD]);
-    optional(call, c::RECORD_RTT).is_some() && call[c::EVENT_TIME] >= due
 }
 
 /// `is_inflight_too_high` of network_model.rs.

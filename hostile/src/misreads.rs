@@ -3,7 +3,6 @@
 
 use std::ops::Range;
 
-use crate::after;
 use crate::fakes::lent;
 use crate::fakes::notices;
 use crate::fakes::run_by;
@@ -72,7 +71,7 @@ macro_rules! reads {
                 let read = |$words: &mut Call, $place: usize, $kind: Kind| $read;
                 let mut answer = step(state, &read_as(call, &PARTS[PART], read));
                 if call[0] == 3 && answer[0] != 0 {
-                    answer[2..].copy_from_slice(&after::record(call));
+                    answer[2..].copy_from_slice(&words::record(call));
                 }
                 answer
             };
@@ -277,7 +276,7 @@ exported!(stops_at_no_call, |state, calls, answers| {
 makes!(refused_record_written_again, |state, call| {
     let mut answer = step(state, call);
     if call[0] == 3 && answer[0] != 0 {
-        answer[2..].copy_from_slice(&after::record(&read_as(call, &RECORD, mend)));
+        answer[2..].copy_from_slice(&words::record(&read_as(call, &RECORD, mend)));
     }
     answer
 });

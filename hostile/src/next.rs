@@ -1,9 +1,9 @@
 //! The state and the record after an accepted call, written from network_model.rs and probe_bw.rs
 //! of the original, in their order.
 
-use crate::after;
 use crate::reckon;
 use crate::table;
+use crate::words;
 use crate::words::call as c;
 use crate::words::gain;
 use crate::words::optional;
@@ -26,7 +26,7 @@ pub fn state(before: &State, call: &Call) -> State {
         1 => on_packet_sent(&mut state, call),
         3 => drop(event(&mut state, call)),
         4 if yes(call[c::END_OF_ROUND_TRIP]) => on_new_round(&mut state),
-        5 if after::expires(before, call) => {
+        5 if expires(before, call) => {
             state[s::MIN_RTT] = call[c::RECORD_RTT + 1];
             state[s::MIN_RTT_TIMESTAMP] = call[c::EVENT_TIME];
         }
@@ -74,7 +74,7 @@ fn on_packet_sent(state: &mut State, call: &Call) {
 
 /// on_congestion_event_start: changes the state and answers the record.
 fn event(state: &mut State, call: &Call) -> [u64; 16] {
-    let mut record = after::record(call);
+    let mut record = words::record(call);
     let ends = table::ends_a_round(state, call);
     if ends {
         state[s::ROUND_TRIP_COUNT] += 1;
@@ -171,6 +171,12 @@ fn adapt_lower_bounds(state: &mut State, call: &Call) {
     }
     let inflight = reckon::scale(state[s::INFLIGHT_LO], b);
     state[s::INFLIGHT_LO] = inflight.max(state[s::INFLIGHT_LATEST]);
+}
+
+/// "Expiry needs a sample and a moment not earlier than the stored one plus the period".
+pub fn expires(state: &State, call: &Call) -> bool {
+    let due = state[s::MIN_RTT_TIMESTAMP].saturating_add(call[c::PROBE_RTT_PERIOD]);
+    optional(call, c::RECORD_RTT).is_some() && call[c::EVENT_TIME] >= due
 }
 
 fn on_new_round(state: &mut State) {

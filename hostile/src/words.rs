@@ -213,6 +213,13 @@ pub fn acked(call: &Call) -> Option<&[u64]> {
     }
 }
 
+/// The record as it is handed in, whatever its words are.
+pub fn record(call: &Call) -> [u64; 16] {
+    let mut record = [0; 16];
+    record.copy_from_slice(&call[call::RECORD..call::PARAMS]);
+    record
+}
+
 /// Whether a flag says yes.
 pub fn yes(word: u64) -> bool {
     flag(word) == Some(true)
