@@ -8,14 +8,14 @@ use std::ptr;
 use std::slice;
 
 use crate::after;
+use crate::cases::random;
+use crate::cases::sweep;
 use crate::filter;
 use crate::foreign::Port;
 use crate::foreign::Run;
 use crate::pages::page;
-use crate::random;
 use crate::reckon;
 use crate::slope;
-use crate::sweep;
 use crate::table;
 use crate::tally::Export;
 use crate::tally::Fault;

@@ -6,6 +6,7 @@
 mod after;
 #[cfg(not(test))]
 mod archive;
+mod cases;
 mod choose;
 mod dice;
 #[cfg(test)]
@@ -30,11 +31,6 @@ mod values;
 mod watch;
 mod words;
 
-use filter::Filter;
-use model::Model;
-use slope::Slope;
-use trial::Trial;
-
 #[cfg(not(test))]
 fn main() {
     let numbers: Vec<u64> = std::env::args()
@@ -49,34 +45,9 @@ fn main() {
         }
     };
     watch::begin(calls);
-    let mut trial = Trial::new(&archive::PORT, seed);
-    sweep(&mut trial);
-    random(&mut trial, calls);
+    let mut trial = trial::Trial::new(&archive::PORT, seed);
+    cases::sweep(&mut trial);
+    cases::random(&mut trial, calls);
     print!("{}", trial.tally.report());
     std::process::exit((trial.tally.wrongs() > 0) as i32);
-}
-
-/// Hands in, one after the other, every number where something turns in every place.
-pub fn sweep(trial: &mut Trial) {
-    let mut model = Model::new();
-    model.each_word(trial);
-    model.each_malformed(trial);
-    model.each_no_call(trial);
-    model.each_length(trial);
-    Filter::new().each_length(trial);
-    Slope::new().each(trial);
-    numbers::each(trial);
-}
-
-/// Hands in what chance makes of good and hostile parts, until so many calls are made in all.
-pub fn random(trial: &mut Trial, calls: u64) {
-    let (mut model, mut filter, mut slope) = (Model::new(), Filter::new(), Slope::new());
-    while trial.tally.made() < calls {
-        match trial.dice.below(20) {
-            0..=11 => model.case(trial),
-            12..=14 => filter.case(trial),
-            15 => slope.case(trial),
-            _ => numbers::case(trial),
-        }
-    }
 }
