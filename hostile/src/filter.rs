@@ -1,12 +1,11 @@
 //! Hostile runs of the windowed filter.
 
+use crate::checks;
 use crate::choose;
 use crate::dice::Dice;
 use crate::lent::Ground;
-use crate::model::guards;
 use crate::table::Rows;
 use crate::tally::Export;
-use crate::tally::Fault;
 use crate::tally::Tally;
 use crate::trial::Trial;
 use crate::values;
@@ -172,29 +171,11 @@ impl Filter {
         };
         let (rows, written) = due(window, src, out.len());
         tally.replied(Export::FilterRun, &rows, given, tell);
-        let mut left = out.to_vec();
-        if rows.due() == 0 {
-            left[..written.len()].copy_from_slice(&written);
-        }
-        if self.out.bytes() != left {
-            let fault = if rows.due() == 0 {
-                Fault::Content
-            } else {
-                Fault::Touched
-            };
-            tally.wrong(fault, || format!("the output\n{}", tell()));
-        }
-        if self.src.bytes() != src {
-            tally.wrong(Fault::Touched, || {
-                format!("the pairs' own bytes\n{}", tell())
-            });
-        }
-        guards(tally, &mut self.src, || {
-            format!("guards of the pairs\n{}", tell())
-        });
-        guards(tally, &mut self.out, || {
-            format!("guards of the output\n{}", tell())
-        });
+        let written = (rows.due() == 0).then_some(written);
+        checks::output(tally, &self.out, out, written, tell);
+        checks::input(tally, &self.src, src, "pairs", tell);
+        checks::guards(tally, &mut self.src, "pairs", tell);
+        checks::guards(tally, &mut self.out, "output", tell);
     }
 }
 

@@ -7,6 +7,7 @@ mod after;
 #[cfg(not(test))]
 mod archive;
 mod cases;
+mod checks;
 mod choose;
 mod dice;
 #[cfg(test)]

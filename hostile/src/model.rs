@@ -1,6 +1,7 @@
 //! Hostile runs of the model.
 
 use crate::after;
+use crate::checks;
 use crate::choose;
 use crate::choose::Beside;
 use crate::choose::Spoilt;
@@ -274,15 +275,10 @@ impl Model {
             ("calls", &mut self.calls),
             ("answers", &mut self.answers),
         ] {
-            guards(&mut trial.tally, ground, || {
-                format!("guards of the {}\n{}", name, tell(lent))
-            });
+            checks::guards(&mut trial.tally, ground, name, || tell(lent));
         }
-        if self.calls.bytes() != lent.calls {
-            trial.tally.wrong(Fault::Touched, || {
-                format!("the calls' own bytes\n{}", tell(lent))
-            });
-        }
+        let (calls, tally) = (&lent.calls, &mut trial.tally);
+        checks::input(tally, &self.calls, calls, "calls", || tell(lent));
         given
     }
 
@@ -374,15 +370,6 @@ fn with_each(count: usize) -> impl Iterator<Item = (usize, Beside)> {
 /// Each of so many words, with each number where something turns.
 fn turns(count: usize) -> impl Iterator<Item = (usize, u64)> {
     (0..count).flat_map(|index| values::turns().map(move |value| (index, value)))
-}
-
-/// Compares the guards of a ground and counts them.
-pub fn guards(tally: &mut Tally, ground: &mut Ground, about: impl Fn() -> String) {
-    tally.guarded(ground.guards());
-    if let Some(place) = ground.touched() {
-        ground.mend();
-        tally.wrong(Fault::Touched, || format!("byte {} of {}", place, about()));
-    }
 }
 
 /// A case in readable form: lengths, the words made hostile, and the words that aren't 0.

@@ -1,12 +1,11 @@
 //! Hostile calls of the exported slope.
 
+use crate::checks;
 use crate::choose;
 use crate::lent::Ground;
-use crate::model::guards;
 use crate::table;
 use crate::table::Rows;
 use crate::tally::Export;
-use crate::tally::Fault;
 use crate::tally::Tally;
 use crate::trial::Trial;
 use crate::values;
@@ -92,20 +91,8 @@ impl Slope {
         };
         let rows = rows(rounds, window, out.len());
         tally.replied(Export::Slope, &rows, given, tell);
-        let mut left = out.to_vec();
-        if rows.due() == 0 {
-            left[..ANSWER_BYTES].copy_from_slice(&written(rounds, window));
-        }
-        if self.out.bytes() != left {
-            let fault = if rows.due() == 0 {
-                Fault::Content
-            } else {
-                Fault::Touched
-            };
-            tally.wrong(fault, || format!("the output\n{}", tell()));
-        }
-        guards(tally, &mut self.out, || {
-            format!("guards of the output\n{}", tell())
-        });
+        let written = (rows.due() == 0).then(|| written(rounds, window));
+        checks::output(tally, &self.out, out, written, tell);
+        checks::guards(tally, &mut self.out, "output", tell);
     }
 }
