@@ -73,8 +73,11 @@ unsafe extern "C" fn to_bytes_per_period(bandwidth: u64, nanos: u64) -> u64 {
     reckon::bytes_per_period(bandwidth, nanos)
 }
 
+/// Where a range begins, and how many bytes it has.
+type Range = (*mut u8, usize);
+
 /// A lent range as a slice; without bytes the pointer is not used.
-pub unsafe fn lent<'a>(start: *mut u8, len: usize) -> &'a mut [u8] {
+pub unsafe fn lent<'a>((start, len): Range) -> &'a mut [u8] {
     if len == 0 {
         &mut []
     } else {
@@ -90,7 +93,7 @@ unsafe extern "C" fn raise_inflight_high_slope(
 ) -> u64 {
     let due = slope::rows(rounds, window, out_len).due();
     if due == 0 {
-        lent(out, out_len)[..16].copy_from_slice(&slope::written(rounds, window));
+        lent((out, out_len))[..16].copy_from_slice(&slope::written(rounds, window));
     }
     due
 }
@@ -102,24 +105,37 @@ unsafe extern "C" fn filter_run(
     out: *mut u8,
     out_len: usize,
 ) -> u64 {
-    let (rows, written) = filter::due(window, lent(src as *mut u8, src_len), out_len);
+    let (rows, written) = filter::due(window, lent((src as *mut u8, src_len)), out_len);
     if rows.due() == 0 {
-        lent(out, out_len)[..written.len()].copy_from_slice(&written);
+        lent((out, out_len))[..written.len()].copy_from_slice(&written);
     }
     rows.due()
 }
 
-unsafe extern "C" fn run(
-    state: *mut u8,
-    state_len: usize,
-    calls: *const u8,
-    calls_len: usize,
-    answers: *mut u8,
-    answers_len: usize,
-) -> u64 {
-    let (state, calls) = (lent(state, state_len), lent(calls as *mut u8, calls_len));
-    run_by(step, state, calls, lent(answers, answers_len))
+/// An exported run, for each number of a kind if it is for several: what is done with the three
+/// ranges, and the reply.
+macro_rules! exported_run {
+    ($name:ident $(<$kind:ident>)?, |$state:ident, $calls:ident, $answers:ident| $reply:expr) => {
+        unsafe extern "C" fn $name $(<const $kind: usize>)? (
+            state: *mut u8,
+            state_len: usize,
+            calls: *const u8,
+            calls_len: usize,
+            answers: *mut u8,
+            answers_len: usize,
+        ) -> u64 {
+            let $state = (state, state_len);
+            let $calls = (calls as *mut u8, calls_len);
+            let $answers = (answers, answers_len);
+            $reply
+        }
+    };
 }
+pub(crate) use exported_run;
+
+exported_run!(run, |state, calls, answers| {
+    run_by(step, lent(state), lent(calls), lent(answers))
+});
 
 /// A run that makes each of its calls by a function.
 pub fn run_by(
@@ -152,20 +168,10 @@ pub fn step(state: &mut State, call: &Call) -> Answer {
 /// The right run with something added after it, which gets the reply and the three ranges.
 macro_rules! run_with {
     ($name:ident, |$reply:ident, $state:ident, $calls:ident, $answers:ident| $more:expr) => {
-        unsafe extern "C" fn $name(
-            state: *mut u8,
-            state_len: usize,
-            calls: *const u8,
-            calls_len: usize,
-            answers: *mut u8,
-            answers_len: usize,
-        ) -> u64 {
-            let $reply = run(state, state_len, calls, calls_len, answers, answers_len);
-            let $state = (state, state_len);
-            let $calls = (calls as *mut u8, calls_len);
-            let $answers = (answers, answers_len);
+        exported_run!($name, |$state, $calls, $answers| {
+            let $reply = run_by(step, lent($state), lent($calls), lent($answers));
             $more
-        }
+        });
     };
 }
 
@@ -175,14 +181,14 @@ unsafe fn flip(start: *mut u8, place: usize) {
 }
 
 /// Flips a bit of the byte just after a range, where it may be written.
-unsafe fn flip_after((start, len): (*mut u8, usize)) {
+unsafe fn flip_after((start, len): Range) {
     if !start.is_null() && (start as usize + len) % page() != 0 {
         flip(start, len);
     }
 }
 
 /// Flips a bit of the byte just before a range, where it may be written.
-unsafe fn flip_before((start, _): (*mut u8, usize)) {
+unsafe fn flip_before((start, _): Range) {
     if !start.is_null() && start as usize % page() != 0 {
         flip(start.sub(1), 0);
     }
@@ -286,45 +292,39 @@ run_with!(reads_after_state, |reply, state, _c, _a| {
     reply
 });
 
-unsafe extern "C" fn filter_off(
-    window: u64,
-    src: *const u8,
-    src_len: usize,
-    out: *mut u8,
-    out_len: usize,
-) -> u64 {
-    let reply = filter_run(window, src, src_len, out, out_len);
-    if reply == 0 && src_len > 0 {
-        flip(out, 8);
+/// The right filter run with something added after it, which gets the reply, the length of the
+/// pairs and the output.
+macro_rules! filter_with {
+    ($name:ident, |$reply:ident, $length:ident, $out:ident| $more:expr) => {
+        unsafe extern "C" fn $name(
+            window: u64,
+            src: *const u8,
+            src_len: usize,
+            out: *mut u8,
+            out_len: usize,
+        ) -> u64 {
+            let $reply = filter_run(window, src, src_len, out, out_len);
+            let ($length, $out) = (src_len, (out, out_len));
+            $more
+        }
+    };
+}
+
+filter_with!(filter_off, |reply, length, out| {
+    if reply == 0 && length > 0 {
+        flip(out.0, 8);
     }
     reply
-}
-
-unsafe extern "C" fn filter_takes_all(
-    window: u64,
-    src: *const u8,
-    src_len: usize,
-    out: *mut u8,
-    out_len: usize,
-) -> u64 {
-    let reply = filter_run(window, src, src_len, out, out_len);
-    if reply == 3 {
-        0
-    } else {
-        reply
-    }
-}
-
-unsafe extern "C" fn filter_writes_after(
-    window: u64,
-    src: *const u8,
-    src_len: usize,
-    out: *mut u8,
-    out_len: usize,
-) -> u64 {
-    flip_after((out, out_len));
-    filter_run(window, src, src_len, out, out_len)
-}
+});
+filter_with!(filter_takes_all, |reply, _l, _o| if reply == 3 {
+    0
+} else {
+    reply
+});
+filter_with!(filter_writes_after, |reply, _l, out| {
+    flip_after(out);
+    reply
+});
 
 unsafe extern "C" fn slope_off(rounds: u64, window: u64, out: *mut u8, out_len: usize) -> u64 {
     raise_inflight_high_slope(rounds.min(29), window, out, out_len)
@@ -364,8 +364,15 @@ fn found(port: Port) -> Tally {
 }
 
 /// Whether the checks notice this fault of a port.
-pub fn notices(port: Port, fault: Fault) -> bool {
+fn notices(port: Port, fault: Fault) -> bool {
     found(port).count(fault) > 0
+}
+
+/// Fails for a run whose fault the checks don't notice.
+pub fn assert_noticed(fault: Fault, runs: &[(&str, Run)]) {
+    for &(name, run) in runs {
+        assert!(notices(Port { run, ..RIGHT }, fault), "{}", name);
+    }
 }
 
 #[test]
@@ -394,83 +401,71 @@ fn every_reply_is_asked_for() {
 
 #[test]
 fn wrong_replies_are_noticed() {
-    for (name, run) in [
-        ("of a run", other_run_reply as Run),
-        ("of a call", never_refuses_calls),
-    ] {
-        assert!(notices(Port { run, ..RIGHT }, Fault::Reply), "{}", name);
-    }
-    let filter_run = filter_takes_all;
-    assert!(notices(
-        Port {
-            filter_run,
-            ..RIGHT
-        },
-        Fault::Reply
-    ));
-    let raise_inflight_high_slope = slope_off;
-    assert!(notices(
-        Port {
-            raise_inflight_high_slope,
-            ..RIGHT
-        },
-        Fault::Reply
-    ));
+    assert_noticed(
+        Fault::Reply,
+        &[
+            ("of a run", other_run_reply as Run),
+            ("of a call", never_refuses_calls),
+        ],
+    );
+    let port = Port {
+        filter_run: filter_takes_all,
+        ..RIGHT
+    };
+    assert!(notices(port, Fault::Reply));
+    let port = Port {
+        raise_inflight_high_slope: slope_off,
+        ..RIGHT
+    };
+    assert!(notices(port, Fault::Reply));
 }
 
 #[test]
 fn touched_bytes_are_noticed() {
-    for (name, run) in [
-        ("refused run", touches_refused_run as Run),
-        ("refused run's answers", touches_refused_answers),
-        ("refused call", touches_refused_state),
-        ("calls", touches_calls),
-        ("past the answers", writes_past_answers),
-        ("after the state", writes_after_state),
-        ("before the state", writes_before_state),
-        ("after the calls", writes_after_calls),
-        ("before the answers", writes_before_answers),
-        ("after the answers", writes_after_answers),
-    ] {
-        assert!(notices(Port { run, ..RIGHT }, Fault::Touched), "{}", name);
-    }
-    let filter_run = filter_writes_after;
-    assert!(notices(
-        Port {
-            filter_run,
-            ..RIGHT
-        },
-        Fault::Touched
-    ));
-    let raise_inflight_high_slope = slope_before;
-    assert!(notices(
-        Port {
-            raise_inflight_high_slope,
-            ..RIGHT
-        },
-        Fault::Touched
-    ));
+    assert_noticed(
+        Fault::Touched,
+        &[
+            ("refused run", touches_refused_run as Run),
+            ("refused run's answers", touches_refused_answers),
+            ("refused call", touches_refused_state),
+            ("calls", touches_calls),
+            ("past the answers", writes_past_answers),
+            ("after the state", writes_after_state),
+            ("before the state", writes_before_state),
+            ("after the calls", writes_after_calls),
+            ("before the answers", writes_before_answers),
+            ("after the answers", writes_after_answers),
+        ],
+    );
+    let port = Port {
+        filter_run: filter_writes_after,
+        ..RIGHT
+    };
+    assert!(notices(port, Fault::Touched));
+    let port = Port {
+        raise_inflight_high_slope: slope_before,
+        ..RIGHT
+    };
+    assert!(notices(port, Fault::Touched));
 }
 
 #[test]
 fn wrong_answers_and_states_are_noticed() {
-    for (name, run) in [
-        ("number", answers_wrong_bit as Run),
-        ("record", answers_a_record),
-        ("out of bounds", leaves_bad_state),
-        ("within bounds", changes_more_at_events),
-        ("run and single calls", long_runs_differ),
-    ] {
-        assert!(notices(Port { run, ..RIGHT }, Fault::Content), "{}", name);
-    }
-    let filter_run = filter_off;
-    assert!(notices(
-        Port {
-            filter_run,
-            ..RIGHT
-        },
-        Fault::Content
-    ));
+    assert_noticed(
+        Fault::Content,
+        &[
+            ("number", answers_wrong_bit as Run),
+            ("record", answers_a_record),
+            ("out of bounds", leaves_bad_state),
+            ("within bounds", changes_more_at_events),
+            ("run and single calls", long_runs_differ),
+        ],
+    );
+    let port = Port {
+        filter_run: filter_off,
+        ..RIGHT
+    };
+    assert!(notices(port, Fault::Content));
 }
 
 #[test]

@@ -3,12 +3,11 @@
 
 use std::ops::Range;
 
+use crate::fakes::assert_noticed;
+use crate::fakes::exported_run;
 use crate::fakes::lent;
-use crate::fakes::notices;
 use crate::fakes::run_by;
 use crate::fakes::step;
-use crate::fakes::RIGHT;
-use crate::foreign::Port;
 use crate::foreign::Run;
 use crate::kinds;
 use crate::kinds::Kind;
@@ -28,20 +27,11 @@ const PARTS: [Range<usize>; 3] = [ARGUMENTS, RECORD, PARAMS];
 
 /// The exported run that a function on slices makes.
 macro_rules! exported {
-    ($name:ident, |$state:ident, $calls:ident, $answers:ident| $run:expr) => {
-        unsafe extern "C" fn $name(
-            state: *mut u8,
-            state_len: usize,
-            calls: *const u8,
-            calls_len: usize,
-            answers: *mut u8,
-            answers_len: usize,
-        ) -> u64 {
-            let $state = lent(state, state_len);
-            let $calls = lent(calls as *mut u8, calls_len);
-            let $answers = lent(answers, answers_len);
+    ($name:ident $(<$kind:ident>)?, |$state:ident, $calls:ident, $answers:ident| $run:expr) => {
+        exported_run!($name $(<$kind>)?, |state, calls, answers| {
+            let ($state, $calls, $answers) = (lent(state), lent(calls), lent(answers));
             $run
-        }
+        });
     };
 }
 
@@ -59,14 +49,7 @@ macro_rules! makes {
 /// event's record is still the one handed in.
 macro_rules! reads {
     ($name:ident, |$words:ident, $place:ident, $kind:ident| $read:expr) => {
-        unsafe extern "C" fn $name<const PART: usize>(
-            state: *mut u8,
-            state_len: usize,
-            calls: *const u8,
-            calls_len: usize,
-            answers: *mut u8,
-            answers_len: usize,
-        ) -> u64 {
+        exported!($name<PART>, |state, calls, answers| {
             let one = |state: &mut State, call: &Call| {
                 let read = |$words: &mut Call, $place: usize, $kind: Kind| $read;
                 let mut answer = step(state, &read_as(call, &PARTS[PART], read));
@@ -75,9 +58,8 @@ macro_rules! reads {
                 }
                 answer
             };
-            let (state, calls) = (lent(state, state_len), lent(calls as *mut u8, calls_len));
-            run_by(one, state, calls, lent(answers, answers_len))
-        }
+            run_by(one, state, calls, answers)
+        });
     };
 }
 
@@ -156,29 +138,30 @@ reads!(set_where_not_zero, |words, place, kind| match kind {
 
 #[test]
 fn malformed_words_read_as_something_are_noticed() {
-    for (name, run) in [
-        ("flag where 1, argument", flag_where_one::<0> as Run),
-        ("flag where 1, record", flag_where_one::<1>),
-        ("flag where 1, parameter", flag_where_one::<2>),
-        ("flag where not 0, argument", flag_where_not_zero::<0>),
-        ("flag where not 0, record", flag_where_not_zero::<1>),
-        ("flag where not 0, parameter", flag_where_not_zero::<2>),
-        ("flag by its low byte, argument", flag_by_its_low_byte::<0>),
-        ("flag by its low byte, record", flag_by_its_low_byte::<1>),
-        ("flag by its low byte, parameter", flag_by_its_low_byte::<2>),
-        ("count by its remainder", count_by_its_remainder::<0>),
-        ("count at most three", count_at_most_three::<0>),
-        ("high bits dropped, argument", high_bits_dropped::<0>),
-        ("high bits dropped, parameter", high_bits_dropped::<2>),
-        ("unset, argument", unset_whatever_follows::<0>),
-        ("unset, record", unset_whatever_follows::<1>),
-        ("set where 1, argument", set_where_one::<0>),
-        ("set where 1, record", set_where_one::<1>),
-        ("set where not 0, argument", set_where_not_zero::<0>),
-        ("set where not 0, record", set_where_not_zero::<1>),
-    ] {
-        assert!(notices(Port { run, ..RIGHT }, Fault::Reply), "{}", name);
-    }
+    assert_noticed(
+        Fault::Reply,
+        &[
+            ("flag where 1, argument", flag_where_one::<0> as Run),
+            ("flag where 1, record", flag_where_one::<1>),
+            ("flag where 1, parameter", flag_where_one::<2>),
+            ("flag where not 0, argument", flag_where_not_zero::<0>),
+            ("flag where not 0, record", flag_where_not_zero::<1>),
+            ("flag where not 0, parameter", flag_where_not_zero::<2>),
+            ("flag by its low byte, argument", flag_by_its_low_byte::<0>),
+            ("flag by its low byte, record", flag_by_its_low_byte::<1>),
+            ("flag by its low byte, parameter", flag_by_its_low_byte::<2>),
+            ("count by its remainder", count_by_its_remainder::<0>),
+            ("count at most three", count_at_most_three::<0>),
+            ("high bits dropped, argument", high_bits_dropped::<0>),
+            ("high bits dropped, parameter", high_bits_dropped::<2>),
+            ("unset, argument", unset_whatever_follows::<0>),
+            ("unset, record", unset_whatever_follows::<1>),
+            ("set where 1, argument", set_where_one::<0>),
+            ("set where 1, record", set_where_one::<1>),
+            ("set where not 0, argument", set_where_not_zero::<0>),
+            ("set where not 0, record", set_where_not_zero::<1>),
+        ],
+    );
 }
 
 makes!(parameters_are_arguments, |state, call| {
@@ -250,18 +233,19 @@ exported!(no_call_has_no_answer, |state, calls, answers| {
 
 #[test]
 fn other_replies_to_malformed_words_are_noticed() {
-    for (name, run) in [
-        ("parameters are arguments", parameters_are_arguments as Run),
-        ("before what is stored", arguments_before_what_is_stored),
-        ("words not used", looks_at_words_not_used),
-        ("no call whatever is stored", no_call_whatever_is_stored),
-        ("no call looks at the cycle", no_call_looks_at_the_cycle),
-        ("no call is done", no_call_is_done),
-        ("no call refuses the run", no_call_refuses_the_run),
-        ("no call has no answer", no_call_has_no_answer),
-    ] {
-        assert!(notices(Port { run, ..RIGHT }, Fault::Reply), "{}", name);
-    }
+    assert_noticed(
+        Fault::Reply,
+        &[
+            ("parameters are arguments", parameters_are_arguments as Run),
+            ("before what is stored", arguments_before_what_is_stored),
+            ("words not used", looks_at_words_not_used),
+            ("no call whatever is stored", no_call_whatever_is_stored),
+            ("no call looks at the cycle", no_call_looks_at_the_cycle),
+            ("no call is done", no_call_is_done),
+            ("no call refuses the run", no_call_refuses_the_run),
+            ("no call has no answer", no_call_has_no_answer),
+        ],
+    );
 }
 
 exported!(stops_at_no_call, |state, calls, answers| {
@@ -305,13 +289,14 @@ makes!(malformed_start_starts, |state, call| {
 
 #[test]
 fn other_answers_after_malformed_words_are_noticed() {
-    for (name, run) in [
-        ("a run stops at no call", stops_at_no_call as Run),
-        ("a record written again", refused_record_written_again),
-        ("a record of zeros", refused_record_is_zeros),
-        ("a start keeps the state", malformed_start_keeps_the_state),
-        ("a start starts", malformed_start_starts),
-    ] {
-        assert!(notices(Port { run, ..RIGHT }, Fault::Content), "{}", name);
-    }
+    assert_noticed(
+        Fault::Content,
+        &[
+            ("a run stops at no call", stops_at_no_call as Run),
+            ("a record written again", refused_record_written_again),
+            ("a record of zeros", refused_record_is_zeros),
+            ("a start keeps the state", malformed_start_keeps_the_state),
+            ("a start starts", malformed_start_starts),
+        ],
+    );
 }
