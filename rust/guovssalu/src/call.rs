@@ -8,6 +8,10 @@ use crate::Sample;
 /// Bytes of a state: the model's, then the cycle's.
 pub const STATE_BYTES: usize = 400;
 
+/// Bytes of the model's part of a state, and of the cycle's.
+pub const MODEL_BYTES: usize = 272;
+pub const CYCLE_BYTES: usize = STATE_BYTES - MODEL_BYTES;
+
 /// One call as bytes, for [`run`]: its number, its arguments, the event's record and the parameters,
 /// as docs/LAYOUT.md numbers and orders them.
 ///

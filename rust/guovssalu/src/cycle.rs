@@ -1,5 +1,6 @@
 use std::convert::TryInto;
 
+use crate::call::CYCLE_BYTES;
 use crate::call::STATE_BYTES;
 use crate::run;
 use crate::words;
@@ -35,14 +36,13 @@ pub struct Cycle {
 
 impl Cycle {
     /// Bytes of a cycle's state.
-    pub const BYTES: usize = 128;
-
-    /// The bytes of a cycle where a call is not given one.
-    pub(crate) const NONE: [u8; Cycle::BYTES] = [0; Cycle::BYTES];
+    pub const BYTES: usize = CYCLE_BYTES;
 
     /// A fresh cycle at the moment `now`.
     pub fn new(now: Moment) -> Result<Self, Refusal> {
-        let mut cycle = Cycle { bytes: Cycle::NONE };
+        let mut cycle = Cycle {
+            bytes: [0; Cycle::BYTES],
+        };
         cycle.make_alone(&Call::new(0, &[now.as_nanos()]).with_params(&Params::default()))?;
         Ok(cycle)
     }

@@ -1,5 +1,7 @@
 use std::convert::TryInto;
 
+use crate::call::CYCLE_BYTES;
+use crate::call::MODEL_BYTES;
 use crate::call::STATE_BYTES;
 use crate::run;
 use crate::words;
@@ -7,12 +9,14 @@ use crate::Answer;
 use crate::Bandwidth;
 use crate::Call;
 use crate::CongestionEvent;
-use crate::Cycle;
 use crate::Duration;
 use crate::Moment;
 use crate::Params;
 use crate::Refusal;
 use crate::Sample;
+
+/// The bytes of a cycle where a call is not given one.
+const NO_CYCLE: [u8; CYCLE_BYTES] = [0; CYCLE_BYTES];
 
 /// The BBRv2 network model, the original's `BBRv2NetworkModel` in its default loss mode, with the
 /// original's names. Each call but those that only look at a stored number is one call of the
@@ -28,7 +32,7 @@ pub struct NetworkModel {
 
 impl NetworkModel {
     /// Bytes of a model's state.
-    pub const BYTES: usize = 272;
+    pub const BYTES: usize = MODEL_BYTES;
 
     /// The number that stands for an unset number of bytes, 2^64 - 1.
     pub const UNSET: u64 = u64::MAX;
@@ -57,13 +61,13 @@ impl NetworkModel {
     pub fn from_bytes(bytes: &[u8]) -> Result<Self, Refusal> {
         let bytes = bytes.try_into().map_err(|_| Refusal::BadArgument)?;
         let model = NetworkModel { bytes };
-        let mut state = model.with(&Cycle::NONE);
+        let mut state = model.with(&NO_CYCLE);
         run(&mut state, &[], &mut [])?;
         Ok(model)
     }
 
     /// The bytes of a state with this model and a cycle.
-    fn with(&self, cycle: &[u8; Cycle::BYTES]) -> [u8; STATE_BYTES] {
+    fn with(&self, cycle: &[u8; CYCLE_BYTES]) -> [u8; STATE_BYTES] {
         let mut state = [0; STATE_BYTES];
         state[..NetworkModel::BYTES].copy_from_slice(&self.bytes);
         state[NetworkModel::BYTES..].copy_from_slice(cycle);
@@ -72,7 +76,7 @@ impl NetworkModel {
 
     /// Makes a call on the model alone.
     fn make(&mut self, call: &Call) -> Result<Answer, Refusal> {
-        let mut state = self.with(&Cycle::NONE);
+        let mut state = self.with(&NO_CYCLE);
         let answer = call.make(&mut state)?;
         self.bytes.copy_from_slice(&state[..NetworkModel::BYTES]);
         Ok(answer)
@@ -81,7 +85,7 @@ impl NetworkModel {
     /// Makes a call on the model and the bytes of a cycle.
     pub(crate) fn make_with(
         &mut self,
-        cycle: &mut [u8; Cycle::BYTES],
+        cycle: &mut [u8; CYCLE_BYTES],
         call: &Call,
     ) -> Result<(), Refusal> {
         let mut state = self.with(cycle);
@@ -93,7 +97,7 @@ impl NetworkModel {
 
     /// The answer to a call that changes nothing.
     fn ask(&self, call: &Call) -> Result<u64, Refusal> {
-        call.make(&mut self.with(&Cycle::NONE))?.number()
+        call.make(&mut self.with(&NO_CYCLE))?.number()
     }
 
     fn word(&self, at: usize) -> u64 {
