@@ -661,13 +661,7 @@ fn full(run: &mut Run) {
 
     // No growth since a baseline that isn't reached.
     run.start(Host::usual_start());
-    run.event(
-        None,
-        Sample {
-            bandwidth: Some(1000),
-            ..ACKED
-        },
-    );
+    run.sampled(1000);
     run.call(Call::BandwidthGrowth);
     run.expect_with(0, ROUNDS_WITHOUT_GROWTH, full, Call::BandwidthGrowth);
     run.record(Record {

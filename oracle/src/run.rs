@@ -117,6 +117,17 @@ impl<'a> Run<'a> {
         }));
     }
 
+    /// An event with a sample of this bandwidth that ends no round.
+    pub fn sampled(&mut self, bandwidth: u64) {
+        self.event(
+            None,
+            Sample {
+                bandwidth: Some(bandwidth),
+                ..ACKED
+            },
+        );
+    }
+
     /// A record of this moment and an event on it that ends no round.
     pub fn event_at(&mut self, event_time: u64, more: Sample) {
         self.record(Record {

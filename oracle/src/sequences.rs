@@ -178,13 +178,7 @@ fn events(run: &mut Run, usual: Start) {
         run.start(usual);
         run.round(LOST);
         run.get(Getter::BandwidthEstimate);
-        run.event(
-            None,
-            Sample {
-                bandwidth: Some(bandwidth),
-                ..ACKED
-            },
-        );
+        run.sampled(bandwidth);
         run.round(NONE);
         run.get(Getter::BandwidthEstimate);
         run.call(Call::Finish);
@@ -220,13 +214,7 @@ fn events(run: &mut Run, usual: Start) {
     // 9: an app-limited sample below, at and above the maximum.
     run.start(usual);
     for base in [5000, 70_000] {
-        run.event(
-            None,
-            Sample {
-                bandwidth: Some(base),
-                ..ACKED
-            },
-        );
+        run.sampled(base);
         run.call(Call::AdvanceMaxBandwidth);
         for bandwidth in [base - 1, base, base + 1, base, base + 2] {
             run.event(
@@ -295,13 +283,7 @@ fn reductions(run: &mut Run, usual: Start) {
             beta: f32::from_bits(beta),
             ..usual
         });
-        run.event(
-            None,
-            Sample {
-                bandwidth: Some(bandwidth),
-                ..ACKED
-            },
-        );
+        run.sampled(bandwidth);
         // The end of a round without loss takes the latest bandwidth down.
         run.round(Sample {
             bandwidth: Some(0),
@@ -353,13 +335,7 @@ fn other_calls(run: &mut Run, usual: Start) {
     // The target by the gain: 8,000,000 bits at 100 ms are 100,000 bytes. A
     // lower bandwidth_lo doesn't touch it.
     run.start(usual);
-    run.event(
-        None,
-        Sample {
-            bandwidth: Some(8_000_000),
-            ..ACKED
-        },
-    );
+    run.sampled(8_000_000);
     for lost in [0, 1300] {
         run.round(Sample {
             bandwidth: Some(0),
@@ -408,13 +384,7 @@ fn other_calls(run: &mut Run, usual: Start) {
                 full_bw_rounds,
                 ..usual
             });
-            run.event(
-                None,
-                Sample {
-                    bandwidth: Some(1000),
-                    ..ACKED
-                },
-            );
+            run.sampled(1000);
             run.call(Call::BandwidthGrowth);
             run.call(Call::BandwidthGrowth);
             for (valid, app_limited) in [
@@ -436,13 +406,7 @@ fn other_calls(run: &mut Run, usual: Start) {
                 run.call(Call::BandwidthGrowth);
             }
             for bandwidth in [1249, 1250] {
-                run.event(
-                    None,
-                    Sample {
-                        bandwidth: Some(bandwidth),
-                        ..ACKED
-                    },
-                );
+                run.sampled(bandwidth);
                 run.call(Call::BandwidthGrowth);
             }
         }
@@ -454,13 +418,7 @@ fn other_calls(run: &mut Run, usual: Start) {
             full_bw_rounds: 0,
             ..usual
         });
-        run.event(
-            None,
-            Sample {
-                bandwidth: Some(1000),
-                ..ACKED
-            },
-        );
+        run.sampled(1000);
         run.call(Call::BandwidthGrowth);
         for app_limited in [true, true, false] {
             run.record(Record {
