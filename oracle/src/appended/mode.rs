@@ -1,5 +1,6 @@
 // Appended to mode.rs: what the attribute enum_dispatch would have made, a
-// `Mode` that hands each call on to the mode it holds.
+// `Mode` that hands each call on to the mode it holds; and the modes that are
+// stubs, which are never run.
 
 macro_rules! handed_on {
     ($mode:expr, $held:ident => $call:expr) => {
@@ -51,3 +52,47 @@ impl ModeImpl for Mode {
         handed_on!(self, mode => mode.on_exit_quiescence(now, start, params))
     }
 }
+
+macro_rules! never_run {
+    ($mode:ty) => {
+        impl ModeImpl for $mode {
+            fn enter(&mut self, _: Instant, _: Option<&BBRv2CongestionEvent>, _: &Params) {
+                unreachable!()
+            }
+
+            fn leave(&mut self, _: Instant, _: Option<&BBRv2CongestionEvent>) {
+                unreachable!()
+            }
+
+            fn is_probing_for_bandwidth(&self) -> bool {
+                unreachable!()
+            }
+
+            fn on_congestion_event(
+                self,
+                _: usize,
+                _: Instant,
+                _: &[Acked],
+                _: &[Lost],
+                _: &mut BBRv2CongestionEvent,
+                _: usize,
+                _: &Params,
+                _: &mut RecoveryStats,
+                _: usize,
+            ) -> Mode {
+                unreachable!()
+            }
+
+            fn get_cwnd_limits(&self, _: &Params) -> Limits<usize> {
+                unreachable!()
+            }
+
+            fn on_exit_quiescence(self, _: Instant, _: Instant, _: &Params) -> Mode {
+                unreachable!()
+            }
+        }
+    };
+}
+
+never_run!(Startup);
+never_run!(ProbeRTT);
