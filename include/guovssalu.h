@@ -34,8 +34,10 @@ extern "C" {
  * or an answer gets another place or meaning: a state that was kept is for its own number alone. */
 #define GUOVSSALU_LAYOUT 1
 
-/* ---- Replies. */
+/* ---- Replies: what an exported call replies, and the first word of an answer. */
 
+/* -- replies of docs/calls.txt -- */
+/* Replies. */
 enum {
     GUOVSSALU_DONE = 0,
     GUOVSSALU_OUT_OF_BOUNDS = 1,
@@ -43,8 +45,10 @@ enum {
     GUOVSSALU_EARLIER_MOMENT = 3,
     GUOVSSALU_LOWER_TOTAL = 4,
     GUOVSSALU_FULL_COUNTER = 5,
+    GUOVSSALU_BAD_TEXT = 6,
     GUOVSSALU_SHORT_OUTPUT = 7
 };
+/* -- end -- */
 
 /* ---- Conversions. They refuse nothing. */
 
@@ -75,38 +79,279 @@ uint64_t guovssalu_to_bytes_per_period(uint64_t bandwidth, uint64_t nanos);
 
 /* ---- The slope of the probing cycle. */
 
-/* Writes two words, 16 bytes: the next probe_up_rounds, which is rounds + 1 or at most 30, and
- * probe_up_bytes, which is window / 2^rounds or at least 1300. Bytes past them keep what they
- * held. Replies 1 for rounds over 30, 2 for a window above 2^40, 7 for an output under 16 bytes. */
+/* Writes two words, GUOVSSALU_SLOPE_BYTES: the next probe_up_rounds, which is rounds + 1 or at most
+ * 30, and probe_up_bytes, which is window / 2^rounds or at least 1300. Bytes past them keep what
+ * they held. Replies 1 for rounds over 30, 2 for a window above 2^40, 7 for a shorter output. */
 uint64_t guovssalu_raise_inflight_high_slope(uint64_t rounds, uint64_t window, uint8_t *out,
                                              size_t out_len);
 
 /* ---- The windowed filter. */
 
-/* Runs an empty filter of the given window over pairs of words, a time and a sample, 16 bytes to a
- * pair. For each pair it writes three words, 24 bytes: the best, the second best and the third
- * best sample after that pair. Bytes past the answer keep what they held. Replies 2 if src_len is
- * no multiple of 16, 3 if a pair's time is earlier than one of the three times that the filter
- * holds then, 7 for an output under 24 bytes a pair. */
+/* Runs an empty filter of the given window over pairs of words, a time and a sample,
+ * GUOVSSALU_PAIR_BYTES to a pair. For each pair it writes three words, GUOVSSALU_SAMPLES_BYTES: the
+ * best, the second best and the third best sample after that pair. Bytes past the answer keep what
+ * they held. Replies 2 for a part of a pair, 3 if a pair's time is earlier than one of the three
+ * times that the filter holds then, 7 for an output too short for the pairs. */
 uint64_t guovssalu_filter_run(uint64_t window, const uint8_t *src, size_t src_len, uint8_t *out,
                               size_t out_len);
 
-/* ---- The model. */
+/* ---- The model: sizes, numbers of calls, places of words. */
 
+/* -- sizes of docs/calls.txt -- */
+/* An unset number of bytes, 2^64 - 1. */
+#define GUOVSSALU_UNSET UINT64_C(18446744073709551615)
+
+/* Sizes, in words and in bytes; a word has 8 bytes. */
 enum {
+    GUOVSSALU_STATE_WORDS = 50,
     GUOVSSALU_STATE_BYTES = 400,
+    GUOVSSALU_MODEL_WORDS = 34,
+    GUOVSSALU_MODEL_BYTES = 272,
+    GUOVSSALU_CYCLE_WORDS = 16,
+    GUOVSSALU_CYCLE_BYTES = 128,
+    GUOVSSALU_CALL_WORDS = 49,
     GUOVSSALU_CALL_BYTES = 392,
-    GUOVSSALU_ANSWER_BYTES = 144
+    GUOVSSALU_ARGUMENTS_WORDS = 21,
+    GUOVSSALU_ARGUMENTS_BYTES = 168,
+    GUOVSSALU_EVENT_WORDS = 16,
+    GUOVSSALU_EVENT_BYTES = 128,
+    GUOVSSALU_PARAMS_WORDS = 11,
+    GUOVSSALU_PARAMS_BYTES = 88,
+    GUOVSSALU_ANSWER_WORDS = 18,
+    GUOVSSALU_ANSWER_BYTES = 144,
+    GUOVSSALU_PAIR_WORDS = 2,
+    GUOVSSALU_PAIR_BYTES = 16,
+    GUOVSSALU_SAMPLES_WORDS = 3,
+    GUOVSSALU_SAMPLES_BYTES = 24,
+    GUOVSSALU_SLOPE_WORDS = 2,
+    GUOVSSALU_SLOPE_BYTES = 16,
+    GUOVSSALU_MOST_ACKED = 3
 };
 
+/* The word with which a part of a call, an answer or a state begins. */
+enum {
+    GUOVSSALU_NUMBER_IN_CALL = 0,
+    GUOVSSALU_ARGUMENTS_IN_CALL = 1,
+    GUOVSSALU_EVENT_IN_CALL = 22,
+    GUOVSSALU_PARAMS_IN_CALL = 38,
+    GUOVSSALU_REPLY_IN_ANSWER = 0,
+    GUOVSSALU_VALUE_IN_ANSWER = 1,
+    GUOVSSALU_EVENT_IN_ANSWER = 2,
+    GUOVSSALU_CYCLE_IN_STATE = 34
+};
+/* -- end -- */
+
+/* -- calls and words of docs/calls.txt -- */
+/* The numbers of the calls: the word GUOVSSALU_NUMBER_IN_CALL of a call. Beside each its arguments in
+ * order, whether it reads the event's record and takes the parameters, and what its answer is. */
+enum {
+    GUOVSSALU_CALL_START = 0,                           /* now, initial_rtt; params */
+    GUOVSSALU_CALL_ON_PACKET_SENT = 1,                  /* sent_time, bytes_in_flight, packet_number, bytes */
+    GUOVSSALU_CALL_ON_CONGESTION_EVENT_START = 3,       /* the words GUOVSSALU_SAMPLE_..; event, params */
+    GUOVSSALU_CALL_ON_CONGESTION_EVENT_FINISH = 4,      /* event */
+    GUOVSSALU_CALL_MAYBE_EXPIRE_MIN_RTT = 5,            /* event, params; answers flag */
+    GUOVSSALU_CALL_IS_INFLIGHT_TOO_HIGH = 6,            /* max_loss_events; event, params; answers flag */
+    GUOVSSALU_CALL_HAS_BANDWIDTH_GROWTH = 7,            /* event, params; answers flag */
+    GUOVSSALU_CALL_RESTART_ROUND_EARLY = 8,
+    GUOVSSALU_CALL_CHECK_PERSISTENT_QUEUE = 9,          /* target_gain; params */
+    GUOVSSALU_CALL_BDP = 10,                            /* bandwidth, gain; answers bytes */
+    GUOVSSALU_CALL_BDP1 = 11,                           /* bandwidth; answers bytes */
+    GUOVSSALU_CALL_BDP0 = 12,                           /* answers bytes */
+    GUOVSSALU_CALL_INFLIGHT_HI_WITH_HEADROOM = 13,      /* params; answers bytes */
+    GUOVSSALU_CALL_SET_FULL_BANDWIDTH_REACHED = 14,
+    GUOVSSALU_CALL_SET_PACING_GAIN = 15,                /* pacing_gain */
+    GUOVSSALU_CALL_SET_CWND_GAIN = 16,                  /* cwnd_gain */
+    GUOVSSALU_CALL_SET_INFLIGHT_HI = 17,                /* new_inflight_hi */
+    GUOVSSALU_CALL_CAP_INFLIGHT_LO = 18,                /* cap */
+    GUOVSSALU_CALL_CLEAR_INFLIGHT_LO = 19,
+    GUOVSSALU_CALL_CLEAR_BANDWIDTH_LO = 20,
+    GUOVSSALU_CALL_ADVANCE_MAX_BANDWIDTH_FILTER = 21,
+    GUOVSSALU_CALL_POSTPONE_MIN_RTT_TIMESTAMP = 22,     /* duration */
+    GUOVSSALU_CALL_BANDWIDTH_ESTIMATE = 23,             /* answers bandwidth */
+    GUOVSSALU_CALL_MIN_RTT = 24,                        /* answers length */
+    GUOVSSALU_CALL_MIN_RTT_TIMESTAMP = 25,              /* answers moment */
+    GUOVSSALU_CALL_MAX_BANDWIDTH = 26,                  /* answers bandwidth */
+    GUOVSSALU_CALL_MAX_BYTES_DELIVERED_IN_ROUND = 27,   /* answers bytes */
+    GUOVSSALU_CALL_TOTAL_BYTES_ACKED = 28,              /* answers bytes */
+    GUOVSSALU_CALL_TOTAL_BYTES_LOST = 29,               /* answers bytes */
+    GUOVSSALU_CALL_FULL_BANDWIDTH_REACHED = 30,         /* answers flag */
+    GUOVSSALU_CALL_PACING_GAIN = 31,                    /* answers f32 */
+    GUOVSSALU_CALL_CWND_GAIN = 32,                      /* answers f32 */
+    GUOVSSALU_CALL_INFLIGHT_HI = 33,                    /* answers bytes or unset */
+    GUOVSSALU_CALL_INFLIGHT_HI_DEFAULT = 34,            /* answers bytes or unset */
+    GUOVSSALU_CALL_INFLIGHT_LO = 35,                    /* answers bytes or unset */
+    GUOVSSALU_CALL_LOSS_EVENTS_IN_ROUND = 36,           /* answers number */
+    GUOVSSALU_CALL_ROUNDS_WITH_QUEUEING = 37,           /* answers number */
+    GUOVSSALU_CALL_QUEUEING_THRESHOLD_EXTRA_BYTES = 38, /* answers bytes */
+    GUOVSSALU_CALL_ENTER_PROBE_DOWN = 40,               /* probed_too_high, stopped_risky_probe, now; params */
+    GUOVSSALU_CALL_ENTER_PROBE_CRUISE = 41,             /* now */
+    GUOVSSALU_CALL_ENTER_PROBE_REFILL = 42,             /* probe_up_rounds, now */
+    GUOVSSALU_CALL_ENTER_PROBE_UP = 43,                 /* now, cwnd */
+    GUOVSSALU_CALL_EXIT_PROBE_DOWN = 44,
+    GUOVSSALU_CALL_RAISE_INFLIGHT_HIGH_SLOPE = 45       /* cwnd */
+};
+
+/* The calls' arguments: words of a call. */
+enum {
+    GUOVSSALU_ARG_START_NOW = 1,                            /* moment */
+    GUOVSSALU_ARG_START_INITIAL_RTT = 2,                    /* length */
+    GUOVSSALU_ARG_ON_PACKET_SENT_SENT_TIME = 1,             /* moment */
+    GUOVSSALU_ARG_ON_PACKET_SENT_BYTES_IN_FLIGHT = 2,       /* bytes */
+    GUOVSSALU_ARG_ON_PACKET_SENT_PACKET_NUMBER = 3,         /* number */
+    GUOVSSALU_ARG_ON_PACKET_SENT_BYTES = 4,                 /* bytes */
+    GUOVSSALU_ARG_IS_INFLIGHT_TOO_HIGH_MAX_LOSS_EVENTS = 1, /* number */
+    GUOVSSALU_ARG_CHECK_PERSISTENT_QUEUE_TARGET_GAIN = 1,   /* f32 */
+    GUOVSSALU_ARG_BDP_BANDWIDTH = 1,                        /* bandwidth */
+    GUOVSSALU_ARG_BDP_GAIN = 2,                             /* f32 */
+    GUOVSSALU_ARG_BDP1_BANDWIDTH = 1,                       /* bandwidth */
+    GUOVSSALU_ARG_SET_PACING_GAIN_PACING_GAIN = 1,          /* f32 */
+    GUOVSSALU_ARG_SET_CWND_GAIN_CWND_GAIN = 1,              /* f32 */
+    GUOVSSALU_ARG_SET_INFLIGHT_HI_NEW_INFLIGHT_HI = 1,      /* bytes or unset */
+    GUOVSSALU_ARG_CAP_INFLIGHT_LO_CAP = 1,                  /* bytes or unset */
+    GUOVSSALU_ARG_POSTPONE_MIN_RTT_TIMESTAMP_DURATION = 1,  /* length */
+    GUOVSSALU_ARG_ENTER_PROBE_DOWN_PROBED_TOO_HIGH = 1,     /* flag */
+    GUOVSSALU_ARG_ENTER_PROBE_DOWN_STOPPED_RISKY_PROBE = 2, /* flag */
+    GUOVSSALU_ARG_ENTER_PROBE_DOWN_NOW = 3,                 /* moment */
+    GUOVSSALU_ARG_ENTER_PROBE_CRUISE_NOW = 1,               /* moment */
+    GUOVSSALU_ARG_ENTER_PROBE_REFILL_PROBE_UP_ROUNDS = 1,   /* number */
+    GUOVSSALU_ARG_ENTER_PROBE_REFILL_NOW = 2,               /* moment */
+    GUOVSSALU_ARG_ENTER_PROBE_UP_NOW = 1,                   /* moment */
+    GUOVSSALU_ARG_ENTER_PROBE_UP_CWND = 2,                  /* bytes */
+    GUOVSSALU_ARG_RAISE_INFLIGHT_HIGH_SLOPE_CWND = 1        /* bytes */
+};
+
+/* An event's arguments, of GUOVSSALU_CALL_ON_CONGESTION_EVENT_START: words of a call. */
+enum {
+    GUOVSSALU_SAMPLE_MAX_BANDWIDTH_SET = 1,                         /* flag */
+    GUOVSSALU_SAMPLE_MAX_BANDWIDTH = 2,                             /* bandwidth */
+    GUOVSSALU_SAMPLE_MAX_SEND_RATE_SET = 3,                         /* flag */
+    GUOVSSALU_SAMPLE_MAX_SEND_RATE = 4,                             /* bandwidth */
+    GUOVSSALU_SAMPLE_MAX_ACK_RATE_SET = 5,                          /* flag */
+    GUOVSSALU_SAMPLE_MAX_ACK_RATE = 6,                              /* bandwidth */
+    GUOVSSALU_SAMPLE_IS_APP_LIMITED = 7,                            /* flag */
+    GUOVSSALU_SAMPLE_RTT_SET = 8,                                   /* flag */
+    GUOVSSALU_SAMPLE_RTT = 9,                                       /* length */
+    GUOVSSALU_SAMPLE_MAX_INFLIGHT = 10,                             /* bytes */
+    GUOVSSALU_SAMPLE_EXTRA_ACKED = 11,                              /* bytes */
+    GUOVSSALU_SAMPLE_LAST_PACKET_SEND_STATE_IS_VALID = 12,          /* flag */
+    GUOVSSALU_SAMPLE_LAST_PACKET_SEND_STATE_IS_APP_LIMITED = 13,    /* flag */
+    GUOVSSALU_SAMPLE_LAST_PACKET_SEND_STATE_TOTAL_BYTES_ACKED = 14, /* bytes */
+    GUOVSSALU_SAMPLE_LAST_PACKET_SEND_STATE_BYTES_IN_FLIGHT = 15,   /* bytes */
+    GUOVSSALU_SAMPLE_TOTAL_BYTES_ACKED = 16,                        /* bytes */
+    GUOVSSALU_SAMPLE_TOTAL_BYTES_LOST = 17,                         /* bytes */
+    GUOVSSALU_SAMPLE_ACKED_COUNT = 18,                              /* count */
+    GUOVSSALU_SAMPLE_ACKED_PACKETS = 19                             /* three numbers */
+};
+
+/* An event's record: words from GUOVSSALU_EVENT_IN_CALL of a call on, from GUOVSSALU_EVENT_IN_ANSWER of an
+ * answer on. */
+enum {
+    GUOVSSALU_EVENT_TIME = 0,                                      /* moment */
+    GUOVSSALU_EVENT_PRIOR_CWND = 1,                                /* bytes */
+    GUOVSSALU_EVENT_PRIOR_BYTES_IN_FLIGHT = 2,                     /* bytes */
+    GUOVSSALU_EVENT_BYTES_IN_FLIGHT = 3,                           /* bytes */
+    GUOVSSALU_EVENT_BYTES_ACKED = 4,                               /* bytes */
+    GUOVSSALU_EVENT_BYTES_LOST = 5,                                /* bytes */
+    GUOVSSALU_EVENT_END_OF_ROUND_TRIP = 6,                         /* flag */
+    GUOVSSALU_EVENT_IS_PROBING_FOR_BANDWIDTH = 7,                  /* flag */
+    GUOVSSALU_EVENT_SAMPLE_MAX_BANDWIDTH_SET = 8,                  /* flag */
+    GUOVSSALU_EVENT_SAMPLE_MAX_BANDWIDTH = 9,                      /* bandwidth */
+    GUOVSSALU_EVENT_SAMPLE_MIN_RTT_SET = 10,                       /* flag */
+    GUOVSSALU_EVENT_SAMPLE_MIN_RTT = 11,                           /* length */
+    GUOVSSALU_EVENT_LAST_PACKET_SEND_STATE_IS_VALID = 12,          /* flag */
+    GUOVSSALU_EVENT_LAST_PACKET_SEND_STATE_IS_APP_LIMITED = 13,    /* flag */
+    GUOVSSALU_EVENT_LAST_PACKET_SEND_STATE_TOTAL_BYTES_ACKED = 14, /* bytes */
+    GUOVSSALU_EVENT_LAST_PACKET_SEND_STATE_BYTES_IN_FLIGHT = 15    /* bytes */
+};
+
+/* The parameters: words from GUOVSSALU_PARAMS_IN_CALL of a call on. */
+enum {
+    GUOVSSALU_PARAMS_BETA = 0,                                       /* f32 */
+    GUOVSSALU_PARAMS_LOSS_THRESHOLD = 1,                             /* f32 */
+    GUOVSSALU_PARAMS_INFLIGHT_HI_HEADROOM = 2,                       /* f32 */
+    GUOVSSALU_PARAMS_FULL_BW_THRESHOLD = 3,                          /* f32 */
+    GUOVSSALU_PARAMS_STARTUP_CWND_GAIN = 4,                          /* f32 */
+    GUOVSSALU_PARAMS_STARTUP_PACING_GAIN = 5,                        /* f32 */
+    GUOVSSALU_PARAMS_STARTUP_FULL_BW_ROUNDS = 6,                     /* number */
+    GUOVSSALU_PARAMS_MAX_STARTUP_QUEUE_ROUNDS = 7,                   /* number */
+    GUOVSSALU_PARAMS_PROBE_RTT_PERIOD = 8,                           /* length */
+    GUOVSSALU_PARAMS_PROBE_BW_PROBE_BASE_DURATION = 9,               /* length */
+    GUOVSSALU_PARAMS_IGNORE_APP_LIMITED_FOR_NO_BANDWIDTH_GROWTH = 10 /* flag */
+};
+
+/* Words of the state. Of what may be unset there are two, .._SET and the number. */
+enum {
+    GUOVSSALU_STATE_ROUND_TRIP_COUNT = 0,                                /* number */
+    GUOVSSALU_STATE_LAST_SENT_PACKET = 1,                                /* number */
+    GUOVSSALU_STATE_END_OF_ROUND_TRIP_SET = 2,                           /* flag */
+    GUOVSSALU_STATE_END_OF_ROUND_TRIP = 3,                               /* number */
+    GUOVSSALU_STATE_MAX_BANDWIDTH_0 = 4,                                 /* bandwidth */
+    GUOVSSALU_STATE_MAX_BANDWIDTH_1 = 5,                                 /* bandwidth */
+    GUOVSSALU_STATE_MIN_RTT = 6,                                         /* length */
+    GUOVSSALU_STATE_MIN_RTT_TIMESTAMP = 7,                               /* moment */
+    GUOVSSALU_STATE_BYTES_LOST_IN_ROUND = 8,                             /* bytes */
+    GUOVSSALU_STATE_LOSS_EVENTS_IN_ROUND = 9,                            /* number */
+    GUOVSSALU_STATE_MAX_BYTES_DELIVERED_IN_ROUND = 10,                   /* bytes */
+    GUOVSSALU_STATE_MIN_BYTES_IN_FLIGHT_IN_ROUND = 11,                   /* bytes or unset */
+    GUOVSSALU_STATE_INFLIGHT_HI_LIMITED_IN_ROUND = 12,                   /* flag */
+    GUOVSSALU_STATE_BANDWIDTH_LATEST = 13,                               /* bandwidth */
+    GUOVSSALU_STATE_INFLIGHT_LATEST = 14,                                /* bytes */
+    GUOVSSALU_STATE_BANDWIDTH_LO_SET = 15,                               /* flag */
+    GUOVSSALU_STATE_BANDWIDTH_LO = 16,                                   /* bandwidth */
+    GUOVSSALU_STATE_INFLIGHT_LO = 17,                                    /* bytes or unset */
+    GUOVSSALU_STATE_INFLIGHT_HI = 18,                                    /* bytes or unset */
+    GUOVSSALU_STATE_CWND_GAIN = 19,                                      /* f32 */
+    GUOVSSALU_STATE_PACING_GAIN = 20,                                    /* f32 */
+    GUOVSSALU_STATE_CWND_LIMITED_BEFORE_AGGREGATION_EPOCH = 21,          /* flag */
+    GUOVSSALU_STATE_FULL_BANDWIDTH_REACHED = 22,                         /* flag */
+    GUOVSSALU_STATE_FULL_BANDWIDTH_BASELINE = 23,                        /* bandwidth */
+    GUOVSSALU_STATE_ROUNDS_WITHOUT_BANDWIDTH_GROWTH = 24,                /* number */
+    GUOVSSALU_STATE_ROUNDS_WITH_QUEUEING = 25,                           /* number */
+    GUOVSSALU_STATE_IGNORE_APP_LIMITED_FOR_NO_BANDWIDTH_GROWTH = 26,     /* flag */
+    GUOVSSALU_STATE_LATEST_SEND_RATE_SET = 27,                           /* flag */
+    GUOVSSALU_STATE_LATEST_SEND_RATE = 28,                               /* bandwidth */
+    GUOVSSALU_STATE_LATEST_ACK_RATE_SET = 29,                            /* flag */
+    GUOVSSALU_STATE_LATEST_ACK_RATE = 30,                                /* bandwidth */
+    GUOVSSALU_STATE_TOTAL_BYTES_ACKED = 31,                              /* bytes */
+    GUOVSSALU_STATE_TOTAL_BYTES_LOST = 32,                               /* bytes */
+    GUOVSSALU_STATE_LAST_ACCEPTED_MOMENT = 33,                           /* moment */
+    GUOVSSALU_STATE_PHASE = 34,                                          /* phase */
+    GUOVSSALU_STATE_START_TIME = 35,                                     /* moment */
+    GUOVSSALU_STATE_PHASE_START_TIME = 36,                               /* moment */
+    GUOVSSALU_STATE_ROUNDS_IN_PHASE = 37,                                /* number */
+    GUOVSSALU_STATE_ROUNDS_SINCE_PROBE = 38,                             /* number */
+    GUOVSSALU_STATE_PROBE_WAIT_TIME_SET = 39,                            /* flag */
+    GUOVSSALU_STATE_PROBE_WAIT_TIME = 40,                                /* length */
+    GUOVSSALU_STATE_PROBE_UP_ROUNDS = 41,                                /* number */
+    GUOVSSALU_STATE_PROBE_UP_BYTES_SET = 42,                             /* flag */
+    GUOVSSALU_STATE_PROBE_UP_BYTES = 43,                                 /* bytes */
+    GUOVSSALU_STATE_PROBE_UP_ACKED = 44,                                 /* bytes */
+    GUOVSSALU_STATE_PROBE_UP_APP_LIMITED_SINCE_INFLIGHT_HI_LIMITED = 45, /* flag */
+    GUOVSSALU_STATE_HAS_ADVANCED_MAX_BW = 46,                            /* flag */
+    GUOVSSALU_STATE_IS_SAMPLE_FROM_PROBING = 47,                         /* flag */
+    GUOVSSALU_STATE_LAST_CYCLE_PROBED_TOO_HIGH = 48,                     /* flag */
+    GUOVSSALU_STATE_LAST_CYCLE_STOPPED_RISKY_PROBE = 49                  /* flag */
+};
+
+/* What the state's word GUOVSSALU_STATE_PHASE is. */
+enum {
+    GUOVSSALU_PHASE_NOT_STARTED = 0,
+    GUOVSSALU_PHASE_UP = 1,
+    GUOVSSALU_PHASE_DOWN = 2,
+    GUOVSSALU_PHASE_CRUISE = 3,
+    GUOVSSALU_PHASE_REFILL = 4
+};
+/* -- end -- */
+
 /* Carries out calls in order on the state in lent bytes, and leaves the new state there: the model
- * and its cycle, 50 words. A call has 49 words, its answer 18; docs/LAYOUT.md has them all. Begin
- * with call 0, a start, on a state of zeros. Bytes of answers past the last keep what they held.
+ * and its cycle, GUOVSSALU_STATE_BYTES. A call has GUOVSSALU_CALL_BYTES, its answer
+ * GUOVSSALU_ANSWER_BYTES; docs/LAYOUT.md says how each word is written. Begin with a start,
+ * GUOVSSALU_CALL_START, on a state of zeros. Bytes of answers past the last keep what they held.
  *
- * Word 0 of a call's answer is 0 where the call was done, and the refusal's number, 1 to 5, where it
- * was refused; the run goes on. The run's own reply of 0 says nothing of its calls: look at each
- * answer. A refused call changes nothing, but for a start, which then replaces the state by a fresh
- * one at moment 0: look at its answer before going on.
+ * The first word of a call's answer, GUOVSSALU_REPLY_IN_ANSWER, is 0 where the call was done, and the
+ * refusal's number, 1 to 5, where it was refused; the run goes on. The run's own reply of 0 says
+ * nothing of its calls: look at each answer. A refused call changes nothing, but for a start, which
+ * then replaces the state by a fresh one at moment 0: look at its answer before going on.
  *
  * A call's words are tested. A flag that is neither 0 nor 1, an f32 with bits above the 32nd, two
  * words of a number that may be unset that are neither 1 and the number nor 0 and 0, and a count of
@@ -114,8 +359,8 @@ enum {
  * flag is written as (flag ? 1 : 0). A number that is no call's is refused with 2, or with 1 where
  * the stored model is out of bounds.
  *
- * The run itself replies 1 for 400 bytes that encode no state, 2 for a state of another length or
- * calls that are no whole number of 392 bytes, 7 for answers under 144 bytes a call. */
+ * The run itself replies 1 for bytes that encode no state, 2 for a state of another length or a part
+ * of a call, 7 for answers too short for the calls. */
 uint64_t guovssalu_run(uint8_t *state, size_t state_len, const uint8_t *calls, size_t calls_len,
                        uint8_t *answers, size_t answers_len);
 

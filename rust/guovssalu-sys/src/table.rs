@@ -1,0 +1,745 @@
+//! The calls, their words and their sizes: written from docs/calls.txt by tests/table.py, and not edited.
+
+/// An unset number of bytes, 2^64 - 1.
+pub const UNSET: u64 = u64::MAX;
+
+/// Bytes of a word.
+pub const WORD_BYTES: usize = 8;
+
+/// Words of a state: the model, then the cycle.
+pub const STATE_WORDS: usize = 50;
+/// Bytes of a state: the model, then the cycle.
+pub const STATE_BYTES: usize = 400;
+/// Words of a state's model.
+pub const MODEL_WORDS: usize = 34;
+/// Bytes of a state's model.
+pub const MODEL_BYTES: usize = 272;
+/// Words of a state's cycle.
+pub const CYCLE_WORDS: usize = 16;
+/// Bytes of a state's cycle.
+pub const CYCLE_BYTES: usize = 128;
+/// Words of a call.
+pub const CALL_WORDS: usize = 49;
+/// Bytes of a call.
+pub const CALL_BYTES: usize = 392;
+/// Words of the room for a call's arguments.
+pub const ARGUMENTS_WORDS: usize = 21;
+/// Bytes of the room for a call's arguments.
+pub const ARGUMENTS_BYTES: usize = 168;
+/// Words of an event's record.
+pub const EVENT_WORDS: usize = 16;
+/// Bytes of an event's record.
+pub const EVENT_BYTES: usize = 128;
+/// Words of the parameters.
+pub const PARAMS_WORDS: usize = 11;
+/// Bytes of the parameters.
+pub const PARAMS_BYTES: usize = 88;
+/// Words of an answer.
+pub const ANSWER_WORDS: usize = 18;
+/// Bytes of an answer.
+pub const ANSWER_BYTES: usize = 144;
+/// Words of a pair of the filter run.
+pub const PAIR_WORDS: usize = 2;
+/// Bytes of a pair of the filter run.
+pub const PAIR_BYTES: usize = 16;
+/// Words of the filter run's answer to a pair.
+pub const SAMPLES_WORDS: usize = 3;
+/// Bytes of the filter run's answer to a pair.
+pub const SAMPLES_BYTES: usize = 24;
+/// Words of the slope's output.
+pub const SLOPE_WORDS: usize = 2;
+/// Bytes of the slope's output.
+pub const SLOPE_BYTES: usize = 16;
+/// The most numbers of acked packets in a call.
+pub const MOST_ACKED: usize = 3;
+/// The word of a call with which its number begins.
+pub const NUMBER_IN_CALL: usize = 0;
+/// The word of a call with which its arguments begins.
+pub const ARGUMENTS_IN_CALL: usize = 1;
+/// The word of a call with which its event begins.
+pub const EVENT_IN_CALL: usize = 22;
+/// The word of a call with which its params begins.
+pub const PARAMS_IN_CALL: usize = 38;
+/// The word of an answer with which its reply begins.
+pub const REPLY_IN_ANSWER: usize = 0;
+/// The word of an answer with which its value begins.
+pub const VALUE_IN_ANSWER: usize = 1;
+/// The word of an answer with which its event begins.
+pub const EVENT_IN_ANSWER: usize = 2;
+/// The word of a state with which its cycle begins.
+pub const CYCLE_IN_STATE: usize = 34;
+
+/// The numbers of the calls: a call's first word.
+pub mod call {
+    /// Call 0: now, initial_rtt; params.
+    pub const START: u64 = 0;
+
+    /// Call 1: sent_time, bytes_in_flight, packet_number, bytes.
+    pub const ON_PACKET_SENT: u64 = 1;
+
+    /// Call 3: the words of `sample`; event, params.
+    pub const ON_CONGESTION_EVENT_START: u64 = 3;
+
+    /// Call 4: event.
+    pub const ON_CONGESTION_EVENT_FINISH: u64 = 4;
+
+    /// Call 5: event, params; answers flag.
+    pub const MAYBE_EXPIRE_MIN_RTT: u64 = 5;
+
+    /// Call 6: max_loss_events; event, params; answers flag.
+    pub const IS_INFLIGHT_TOO_HIGH: u64 = 6;
+
+    /// Call 7: event, params; answers flag.
+    pub const HAS_BANDWIDTH_GROWTH: u64 = 7;
+
+    /// Call 8.
+    pub const RESTART_ROUND_EARLY: u64 = 8;
+
+    /// Call 9: target_gain; params.
+    pub const CHECK_PERSISTENT_QUEUE: u64 = 9;
+
+    /// Call 10: bandwidth, gain; answers bytes.
+    pub const BDP: u64 = 10;
+
+    /// Call 11: bandwidth; answers bytes.
+    pub const BDP1: u64 = 11;
+
+    /// Call 12: answers bytes.
+    pub const BDP0: u64 = 12;
+
+    /// Call 13: params; answers bytes.
+    pub const INFLIGHT_HI_WITH_HEADROOM: u64 = 13;
+
+    /// Call 14.
+    pub const SET_FULL_BANDWIDTH_REACHED: u64 = 14;
+
+    /// Call 15: pacing_gain.
+    pub const SET_PACING_GAIN: u64 = 15;
+
+    /// Call 16: cwnd_gain.
+    pub const SET_CWND_GAIN: u64 = 16;
+
+    /// Call 17: new_inflight_hi.
+    pub const SET_INFLIGHT_HI: u64 = 17;
+
+    /// Call 18: cap.
+    pub const CAP_INFLIGHT_LO: u64 = 18;
+
+    /// Call 19.
+    pub const CLEAR_INFLIGHT_LO: u64 = 19;
+
+    /// Call 20.
+    pub const CLEAR_BANDWIDTH_LO: u64 = 20;
+
+    /// Call 21.
+    pub const ADVANCE_MAX_BANDWIDTH_FILTER: u64 = 21;
+
+    /// Call 22: duration.
+    pub const POSTPONE_MIN_RTT_TIMESTAMP: u64 = 22;
+
+    /// Call 23: answers bandwidth.
+    pub const BANDWIDTH_ESTIMATE: u64 = 23;
+
+    /// Call 24: answers length.
+    pub const MIN_RTT: u64 = 24;
+
+    /// Call 25: answers moment.
+    pub const MIN_RTT_TIMESTAMP: u64 = 25;
+
+    /// Call 26: answers bandwidth.
+    pub const MAX_BANDWIDTH: u64 = 26;
+
+    /// Call 27: answers bytes.
+    pub const MAX_BYTES_DELIVERED_IN_ROUND: u64 = 27;
+
+    /// Call 28: answers bytes.
+    pub const TOTAL_BYTES_ACKED: u64 = 28;
+
+    /// Call 29: answers bytes.
+    pub const TOTAL_BYTES_LOST: u64 = 29;
+
+    /// Call 30: answers flag.
+    pub const FULL_BANDWIDTH_REACHED: u64 = 30;
+
+    /// Call 31: answers f32.
+    pub const PACING_GAIN: u64 = 31;
+
+    /// Call 32: answers f32.
+    pub const CWND_GAIN: u64 = 32;
+
+    /// Call 33: answers bytes or unset.
+    pub const INFLIGHT_HI: u64 = 33;
+
+    /// Call 34: answers bytes or unset.
+    pub const INFLIGHT_HI_DEFAULT: u64 = 34;
+
+    /// Call 35: answers bytes or unset.
+    pub const INFLIGHT_LO: u64 = 35;
+
+    /// Call 36: answers number.
+    pub const LOSS_EVENTS_IN_ROUND: u64 = 36;
+
+    /// Call 37: answers number.
+    pub const ROUNDS_WITH_QUEUEING: u64 = 37;
+
+    /// Call 38: answers bytes.
+    pub const QUEUEING_THRESHOLD_EXTRA_BYTES: u64 = 38;
+
+    /// Call 40: probed_too_high, stopped_risky_probe, now; params.
+    pub const ENTER_PROBE_DOWN: u64 = 40;
+
+    /// Call 41: now.
+    pub const ENTER_PROBE_CRUISE: u64 = 41;
+
+    /// Call 42: probe_up_rounds, now.
+    pub const ENTER_PROBE_REFILL: u64 = 42;
+
+    /// Call 43: now, cwnd.
+    pub const ENTER_PROBE_UP: u64 = 43;
+
+    /// Call 44.
+    pub const EXIT_PROBE_DOWN: u64 = 44;
+
+    /// Call 45: cwnd.
+    pub const RAISE_INFLIGHT_HIGH_SLOPE: u64 = 45;
+
+    /// All of them, in order.
+    pub const ALL: [u64; 44] = [
+        START,
+        ON_PACKET_SENT,
+        ON_CONGESTION_EVENT_START,
+        ON_CONGESTION_EVENT_FINISH,
+        MAYBE_EXPIRE_MIN_RTT,
+        IS_INFLIGHT_TOO_HIGH,
+        HAS_BANDWIDTH_GROWTH,
+        RESTART_ROUND_EARLY,
+        CHECK_PERSISTENT_QUEUE,
+        BDP,
+        BDP1,
+        BDP0,
+        INFLIGHT_HI_WITH_HEADROOM,
+        SET_FULL_BANDWIDTH_REACHED,
+        SET_PACING_GAIN,
+        SET_CWND_GAIN,
+        SET_INFLIGHT_HI,
+        CAP_INFLIGHT_LO,
+        CLEAR_INFLIGHT_LO,
+        CLEAR_BANDWIDTH_LO,
+        ADVANCE_MAX_BANDWIDTH_FILTER,
+        POSTPONE_MIN_RTT_TIMESTAMP,
+        BANDWIDTH_ESTIMATE,
+        MIN_RTT,
+        MIN_RTT_TIMESTAMP,
+        MAX_BANDWIDTH,
+        MAX_BYTES_DELIVERED_IN_ROUND,
+        TOTAL_BYTES_ACKED,
+        TOTAL_BYTES_LOST,
+        FULL_BANDWIDTH_REACHED,
+        PACING_GAIN,
+        CWND_GAIN,
+        INFLIGHT_HI,
+        INFLIGHT_HI_DEFAULT,
+        INFLIGHT_LO,
+        LOSS_EVENTS_IN_ROUND,
+        ROUNDS_WITH_QUEUEING,
+        QUEUEING_THRESHOLD_EXTRA_BYTES,
+        ENTER_PROBE_DOWN,
+        ENTER_PROBE_CRUISE,
+        ENTER_PROBE_REFILL,
+        ENTER_PROBE_UP,
+        EXIT_PROBE_DOWN,
+        RAISE_INFLIGHT_HIGH_SLOPE,
+    ];
+
+    /// Those that read the event's record.
+    pub const READ_EVENT: [u64; 5] = [
+        ON_CONGESTION_EVENT_START,
+        ON_CONGESTION_EVENT_FINISH,
+        MAYBE_EXPIRE_MIN_RTT,
+        IS_INFLIGHT_TOO_HIGH,
+        HAS_BANDWIDTH_GROWTH,
+    ];
+
+    /// Those that take the parameters.
+    pub const TAKE_PARAMS: [u64; 8] = [
+        START,
+        ON_CONGESTION_EVENT_START,
+        MAYBE_EXPIRE_MIN_RTT,
+        IS_INFLIGHT_TOO_HIGH,
+        HAS_BANDWIDTH_GROWTH,
+        CHECK_PERSISTENT_QUEUE,
+        INFLIGHT_HI_WITH_HEADROOM,
+        ENTER_PROBE_DOWN,
+    ];
+}
+
+/// The calls' arguments: words of a call.
+pub mod argument {
+    /// Of `start`.
+    pub mod start {
+        /// Word 1: moment.
+        pub const NOW: usize = 1;
+
+        /// Word 2: length.
+        pub const INITIAL_RTT: usize = 2;
+    }
+
+    /// Of `on_packet_sent`.
+    pub mod on_packet_sent {
+        /// Word 1: moment.
+        pub const SENT_TIME: usize = 1;
+
+        /// Word 2: bytes.
+        pub const BYTES_IN_FLIGHT: usize = 2;
+
+        /// Word 3: number.
+        pub const PACKET_NUMBER: usize = 3;
+
+        /// Word 4: bytes.
+        pub const BYTES: usize = 4;
+    }
+
+    /// Of `is_inflight_too_high`.
+    pub mod is_inflight_too_high {
+        /// Word 1: number.
+        pub const MAX_LOSS_EVENTS: usize = 1;
+    }
+
+    /// Of `check_persistent_queue`.
+    pub mod check_persistent_queue {
+        /// Word 1: f32.
+        pub const TARGET_GAIN: usize = 1;
+    }
+
+    /// Of `bdp`.
+    pub mod bdp {
+        /// Word 1: bandwidth.
+        pub const BANDWIDTH: usize = 1;
+
+        /// Word 2: f32.
+        pub const GAIN: usize = 2;
+    }
+
+    /// Of `bdp1`.
+    pub mod bdp1 {
+        /// Word 1: bandwidth.
+        pub const BANDWIDTH: usize = 1;
+    }
+
+    /// Of `set_pacing_gain`.
+    pub mod set_pacing_gain {
+        /// Word 1: f32.
+        pub const PACING_GAIN: usize = 1;
+    }
+
+    /// Of `set_cwnd_gain`.
+    pub mod set_cwnd_gain {
+        /// Word 1: f32.
+        pub const CWND_GAIN: usize = 1;
+    }
+
+    /// Of `set_inflight_hi`.
+    pub mod set_inflight_hi {
+        /// Word 1: bytes or unset.
+        pub const NEW_INFLIGHT_HI: usize = 1;
+    }
+
+    /// Of `cap_inflight_lo`.
+    pub mod cap_inflight_lo {
+        /// Word 1: bytes or unset.
+        pub const CAP: usize = 1;
+    }
+
+    /// Of `postpone_min_rtt_timestamp`.
+    pub mod postpone_min_rtt_timestamp {
+        /// Word 1: length.
+        pub const DURATION: usize = 1;
+    }
+
+    /// Of `enter_probe_down`.
+    pub mod enter_probe_down {
+        /// Word 1: flag.
+        pub const PROBED_TOO_HIGH: usize = 1;
+
+        /// Word 2: flag.
+        pub const STOPPED_RISKY_PROBE: usize = 2;
+
+        /// Word 3: moment.
+        pub const NOW: usize = 3;
+    }
+
+    /// Of `enter_probe_cruise`.
+    pub mod enter_probe_cruise {
+        /// Word 1: moment.
+        pub const NOW: usize = 1;
+    }
+
+    /// Of `enter_probe_refill`.
+    pub mod enter_probe_refill {
+        /// Word 1: number.
+        pub const PROBE_UP_ROUNDS: usize = 1;
+
+        /// Word 2: moment.
+        pub const NOW: usize = 2;
+    }
+
+    /// Of `enter_probe_up`.
+    pub mod enter_probe_up {
+        /// Word 1: moment.
+        pub const NOW: usize = 1;
+
+        /// Word 2: bytes.
+        pub const CWND: usize = 2;
+    }
+
+    /// Of `raise_inflight_high_slope`.
+    pub mod raise_inflight_high_slope {
+        /// Word 1: bytes.
+        pub const CWND: usize = 1;
+    }
+}
+
+/// An event's arguments, of `call::ON_CONGESTION_EVENT_START`: words of a call.
+pub mod sample {
+    /// Word 1: flag.
+    pub const SAMPLE_MAX_BANDWIDTH_SET: usize = 1;
+
+    /// Word 2: bandwidth.
+    pub const SAMPLE_MAX_BANDWIDTH: usize = 2;
+
+    /// Word 3: flag.
+    pub const SAMPLE_MAX_SEND_RATE_SET: usize = 3;
+
+    /// Word 4: bandwidth.
+    pub const SAMPLE_MAX_SEND_RATE: usize = 4;
+
+    /// Word 5: flag.
+    pub const SAMPLE_MAX_ACK_RATE_SET: usize = 5;
+
+    /// Word 6: bandwidth.
+    pub const SAMPLE_MAX_ACK_RATE: usize = 6;
+
+    /// Word 7: flag.
+    pub const SAMPLE_IS_APP_LIMITED: usize = 7;
+
+    /// Word 8: flag.
+    pub const SAMPLE_RTT_SET: usize = 8;
+
+    /// Word 9: length.
+    pub const SAMPLE_RTT: usize = 9;
+
+    /// Word 10: bytes.
+    pub const SAMPLE_MAX_INFLIGHT: usize = 10;
+
+    /// Word 11: bytes.
+    pub const EXTRA_ACKED: usize = 11;
+
+    /// Word 12: flag.
+    pub const LAST_PACKET_SEND_STATE_IS_VALID: usize = 12;
+
+    /// Word 13: flag.
+    pub const LAST_PACKET_SEND_STATE_IS_APP_LIMITED: usize = 13;
+
+    /// Word 14: bytes.
+    pub const LAST_PACKET_SEND_STATE_TOTAL_BYTES_ACKED: usize = 14;
+
+    /// Word 15: bytes.
+    pub const LAST_PACKET_SEND_STATE_BYTES_IN_FLIGHT: usize = 15;
+
+    /// Word 16: bytes.
+    pub const TOTAL_BYTES_ACKED: usize = 16;
+
+    /// Word 17: bytes.
+    pub const TOTAL_BYTES_LOST: usize = 17;
+
+    /// Word 18: count.
+    pub const ACKED_COUNT: usize = 18;
+
+    /// Word 19: three numbers.
+    pub const ACKED_PACKETS: usize = 19;
+}
+
+/// An event's record: words from `EVENT_IN_CALL` or `EVENT_IN_ANSWER` on.
+pub mod event {
+    /// Word 0: moment.
+    pub const EVENT_TIME: usize = 0;
+
+    /// Word 1: bytes.
+    pub const PRIOR_CWND: usize = 1;
+
+    /// Word 2: bytes.
+    pub const PRIOR_BYTES_IN_FLIGHT: usize = 2;
+
+    /// Word 3: bytes.
+    pub const BYTES_IN_FLIGHT: usize = 3;
+
+    /// Word 4: bytes.
+    pub const BYTES_ACKED: usize = 4;
+
+    /// Word 5: bytes.
+    pub const BYTES_LOST: usize = 5;
+
+    /// Word 6: flag.
+    pub const END_OF_ROUND_TRIP: usize = 6;
+
+    /// Word 7: flag.
+    pub const IS_PROBING_FOR_BANDWIDTH: usize = 7;
+
+    /// Word 8: flag.
+    pub const SAMPLE_MAX_BANDWIDTH_SET: usize = 8;
+
+    /// Word 9: bandwidth.
+    pub const SAMPLE_MAX_BANDWIDTH: usize = 9;
+
+    /// Word 10: flag.
+    pub const SAMPLE_MIN_RTT_SET: usize = 10;
+
+    /// Word 11: length.
+    pub const SAMPLE_MIN_RTT: usize = 11;
+
+    /// Word 12: flag.
+    pub const LAST_PACKET_SEND_STATE_IS_VALID: usize = 12;
+
+    /// Word 13: flag.
+    pub const LAST_PACKET_SEND_STATE_IS_APP_LIMITED: usize = 13;
+
+    /// Word 14: bytes.
+    pub const LAST_PACKET_SEND_STATE_TOTAL_BYTES_ACKED: usize = 14;
+
+    /// Word 15: bytes.
+    pub const LAST_PACKET_SEND_STATE_BYTES_IN_FLIGHT: usize = 15;
+}
+
+/// The parameters: words of a call from `PARAMS_IN_CALL` on.
+pub mod params {
+    /// Word 0: f32.
+    pub const BETA: usize = 0;
+
+    /// Word 1: f32.
+    pub const LOSS_THRESHOLD: usize = 1;
+
+    /// Word 2: f32.
+    pub const INFLIGHT_HI_HEADROOM: usize = 2;
+
+    /// Word 3: f32.
+    pub const FULL_BW_THRESHOLD: usize = 3;
+
+    /// Word 4: f32.
+    pub const STARTUP_CWND_GAIN: usize = 4;
+
+    /// Word 5: f32.
+    pub const STARTUP_PACING_GAIN: usize = 5;
+
+    /// Word 6: number.
+    pub const STARTUP_FULL_BW_ROUNDS: usize = 6;
+
+    /// Word 7: number.
+    pub const MAX_STARTUP_QUEUE_ROUNDS: usize = 7;
+
+    /// Word 8: length.
+    pub const PROBE_RTT_PERIOD: usize = 8;
+
+    /// Word 9: length.
+    pub const PROBE_BW_PROBE_BASE_DURATION: usize = 9;
+
+    /// Word 10: flag.
+    pub const IGNORE_APP_LIMITED_FOR_NO_BANDWIDTH_GROWTH: usize = 10;
+}
+
+/// Words of the state. Of what may be unset there are two, `.._SET` and the number.
+pub mod state {
+    /// Word 0: number.
+    pub const ROUND_TRIP_COUNT: usize = 0;
+
+    /// Word 1: number.
+    pub const LAST_SENT_PACKET: usize = 1;
+
+    /// Word 2: flag.
+    pub const END_OF_ROUND_TRIP_SET: usize = 2;
+
+    /// Word 3: number.
+    pub const END_OF_ROUND_TRIP: usize = 3;
+
+    /// Word 4: bandwidth.
+    pub const MAX_BANDWIDTH_0: usize = 4;
+
+    /// Word 5: bandwidth.
+    pub const MAX_BANDWIDTH_1: usize = 5;
+
+    /// Word 6: length.
+    pub const MIN_RTT: usize = 6;
+
+    /// Word 7: moment.
+    pub const MIN_RTT_TIMESTAMP: usize = 7;
+
+    /// Word 8: bytes.
+    pub const BYTES_LOST_IN_ROUND: usize = 8;
+
+    /// Word 9: number.
+    pub const LOSS_EVENTS_IN_ROUND: usize = 9;
+
+    /// Word 10: bytes.
+    pub const MAX_BYTES_DELIVERED_IN_ROUND: usize = 10;
+
+    /// Word 11: bytes or unset.
+    pub const MIN_BYTES_IN_FLIGHT_IN_ROUND: usize = 11;
+
+    /// Word 12: flag.
+    pub const INFLIGHT_HI_LIMITED_IN_ROUND: usize = 12;
+
+    /// Word 13: bandwidth.
+    pub const BANDWIDTH_LATEST: usize = 13;
+
+    /// Word 14: bytes.
+    pub const INFLIGHT_LATEST: usize = 14;
+
+    /// Word 15: flag.
+    pub const BANDWIDTH_LO_SET: usize = 15;
+
+    /// Word 16: bandwidth.
+    pub const BANDWIDTH_LO: usize = 16;
+
+    /// Word 17: bytes or unset.
+    pub const INFLIGHT_LO: usize = 17;
+
+    /// Word 18: bytes or unset.
+    pub const INFLIGHT_HI: usize = 18;
+
+    /// Word 19: f32.
+    pub const CWND_GAIN: usize = 19;
+
+    /// Word 20: f32.
+    pub const PACING_GAIN: usize = 20;
+
+    /// Word 21: flag.
+    pub const CWND_LIMITED_BEFORE_AGGREGATION_EPOCH: usize = 21;
+
+    /// Word 22: flag.
+    pub const FULL_BANDWIDTH_REACHED: usize = 22;
+
+    /// Word 23: bandwidth.
+    pub const FULL_BANDWIDTH_BASELINE: usize = 23;
+
+    /// Word 24: number.
+    pub const ROUNDS_WITHOUT_BANDWIDTH_GROWTH: usize = 24;
+
+    /// Word 25: number.
+    pub const ROUNDS_WITH_QUEUEING: usize = 25;
+
+    /// Word 26: flag.
+    pub const IGNORE_APP_LIMITED_FOR_NO_BANDWIDTH_GROWTH: usize = 26;
+
+    /// Word 27: flag.
+    pub const LATEST_SEND_RATE_SET: usize = 27;
+
+    /// Word 28: bandwidth.
+    pub const LATEST_SEND_RATE: usize = 28;
+
+    /// Word 29: flag.
+    pub const LATEST_ACK_RATE_SET: usize = 29;
+
+    /// Word 30: bandwidth.
+    pub const LATEST_ACK_RATE: usize = 30;
+
+    /// Word 31: bytes.
+    pub const TOTAL_BYTES_ACKED: usize = 31;
+
+    /// Word 32: bytes.
+    pub const TOTAL_BYTES_LOST: usize = 32;
+
+    /// Word 33: moment.
+    pub const LAST_ACCEPTED_MOMENT: usize = 33;
+
+    /// Word 34: phase.
+    pub const PHASE: usize = 34;
+
+    /// Word 35: moment.
+    pub const START_TIME: usize = 35;
+
+    /// Word 36: moment.
+    pub const PHASE_START_TIME: usize = 36;
+
+    /// Word 37: number.
+    pub const ROUNDS_IN_PHASE: usize = 37;
+
+    /// Word 38: number.
+    pub const ROUNDS_SINCE_PROBE: usize = 38;
+
+    /// Word 39: flag.
+    pub const PROBE_WAIT_TIME_SET: usize = 39;
+
+    /// Word 40: length.
+    pub const PROBE_WAIT_TIME: usize = 40;
+
+    /// Word 41: number.
+    pub const PROBE_UP_ROUNDS: usize = 41;
+
+    /// Word 42: flag.
+    pub const PROBE_UP_BYTES_SET: usize = 42;
+
+    /// Word 43: bytes.
+    pub const PROBE_UP_BYTES: usize = 43;
+
+    /// Word 44: bytes.
+    pub const PROBE_UP_ACKED: usize = 44;
+
+    /// Word 45: flag.
+    pub const PROBE_UP_APP_LIMITED_SINCE_INFLIGHT_HI_LIMITED: usize = 45;
+
+    /// Word 46: flag.
+    pub const HAS_ADVANCED_MAX_BW: usize = 46;
+
+    /// Word 47: flag.
+    pub const IS_SAMPLE_FROM_PROBING: usize = 47;
+
+    /// Word 48: flag.
+    pub const LAST_CYCLE_PROBED_TOO_HIGH: usize = 48;
+
+    /// Word 49: flag.
+    pub const LAST_CYCLE_STOPPED_RISKY_PROBE: usize = 49;
+}
+
+/// The replies: an answer's first word, and what an exported call replies.
+pub mod reply {
+    /// Reply 0.
+    pub const DONE: u64 = 0;
+
+    /// Reply 1.
+    pub const OUT_OF_BOUNDS: u64 = 1;
+
+    /// Reply 2.
+    pub const BAD_ARGUMENT: u64 = 2;
+
+    /// Reply 3.
+    pub const EARLIER_MOMENT: u64 = 3;
+
+    /// Reply 4.
+    pub const LOWER_TOTAL: u64 = 4;
+
+    /// Reply 5.
+    pub const FULL_COUNTER: u64 = 5;
+
+    /// Reply 6.
+    pub const BAD_TEXT: u64 = 6;
+
+    /// Reply 7.
+    pub const SHORT_OUTPUT: u64 = 7;
+}
+
+/// What the state's word `state::PHASE` is.
+pub mod phase {
+    /// Phase 0.
+    pub const NOT_STARTED: u64 = 0;
+
+    /// Phase 1.
+    pub const UP: u64 = 1;
+
+    /// Phase 2.
+    pub const DOWN: u64 = 2;
+
+    /// Phase 3.
+    pub const CRUISE: u64 = 3;
+
+    /// Phase 4.
+    pub const REFILL: u64 = 4;
+}

@@ -1,0 +1,359 @@
+"""Holds the Rattle source and its definitions to docs/calls.txt: the numbers of calls, the places and forms of words,
+the sizes, the replies. tests/table.py calls `faults`; the lists below say where to look.
+
+Each check takes paths and gives lines: file, what stands there, what should."""
+
+import glob
+import os
+import re
+
+from words import PATH, ROOT, WORD_BYTES
+
+# ---- where to look
+
+# Source in which `match call { 12 => model.bdp0(), .. }` chooses a call by its number; together they have every call but
+# those that are told apart before, by `call == 1`, in the last list.
+CHOICES = ["crates/calls/src/ask.rt", "crates/calls/src/change.rt", "crates/calls/src/enter.rt", "crates/calls/src/judge.rt"]
+APART = {"crates/exports/src/model_run.rt": {"send": "on_packet_sent", "start": "on_congestion_event_start", "end": "on_congestion_event_finish"}, "crates/turns/src/turn.rt": {"started": "start"}}
+# Definitions in which `cond (eqb call 12) (..)` does, and the column of [definitions] by which a row is known. A file may
+# have a part of the calls; together those of one column have all of them.
+ROWS = {
+    "row": ["crates/calls/specs/Ask.antt", "crates/calls/specs/Change.antt", "crates/calls/specs/Enter.antt", "crates/calls/specs/Judge.antt", "crates/turns/specs/Turn.antt"],
+    "step": ["crates/theorems/specs/Steps.antt"],
+}
+# Functions that read a section's words, and the word at which the section begins for them.
+READERS = [
+    ("crates/encoding/src/network_model.rt", "model_of", "state", 0),
+    ("crates/encoding/src/cycle.rt", "cycle_of", "state", 0),
+    ("crates/encoding/src/record.rt", "record_of", "event", "EVENT_IN_CALL"),
+    ("crates/encoding/src/params.rt", "params_of", "params", "PARAMS_IN_CALL"),
+    ("crates/encoding/src/sample.rt", "sample_of", "sample", 0),
+    ("crates/encoding/specs/NetworkModel.antt", "modelOf", "state", 0),
+    ("crates/encoding/specs/Cycle.antt", "cycleOf", "state", 0),
+    ("crates/encoding/specs/Record.antt", "recordFrom", "event", 0),
+    ("crates/encoding/specs/Params.antt", "paramsOf", "params", "PARAMS_IN_CALL"),
+    ("crates/encoding/specs/Sample.antt", "sampleOf", "sample", 0),
+]
+# Functions that test the form of all the words of a section that have one.
+FORMS = [
+    ("crates/exports/src/form.rt", None, "state", 0),
+    ("crates/exports/specs/Inner.antt", None, "state", 0),
+    ("crates/encoding/src/record.rt", "record_fits", "event", "EVENT_IN_CALL"),
+    ("crates/encoding/specs/Record.antt", "recordFits", "event", 0),
+    ("crates/encoding/src/sample.rt", "sample_fits", "sample", 0),
+    ("crates/encoding/specs/Sample.antt", "sampleFits", "sample", 0),
+]
+# Phrases of the source and of definitions that have a size, and which.
+WORDS = ("STATE_WORDS", "CALL_WORDS", "ANSWER_WORDS", "EVENT_WORDS", "SAMPLES_WORDS", "SLOPE_WORDS", "MOST_ACKED")
+PHRASES = [
+    (r"\[0?(?:u64)?; (\d+)\]", WORDS),
+    (r"\bn: &?\[u64; (\d+)\]", ("STATE_WORDS", "CALL_WORDS")),
+    (r"\bstate\.len\(\) != (\d+)|now state\) ≡ (\d+)|eqb \(length (?:s|state|\(r \.state\))\) (\d+)", ("STATE_BYTES",)),
+    (r"wordsAt s 0 (\d+)|\(cycleOf w\)\) w 0 (\d+)|cycleWords c\) ≡ (\d+)", ("STATE_WORDS",)),
+    (r"\bcalls\.len\(\) [%/] (\d+)|\(r \.calls\) % (\d+)|callsIn src = length src / (\d+)", ("CALL_BYTES",)),
+    (r"\bat = (\d+) \* i\b|\bat \+ (\d+) ≤ length \(now calls\)|src \(at \+ ([2-9]\d\d)\) n|calls \(at \+ (\d+)\)", ("CALL_BYTES",)),
+    (r"wordsAt src at (\d+)", ("CALL_WORDS",)),
+    (r"\bto = (\d+) \* i\b|\bto \+ (\d+) ≤ length \(now answers\)|\b(\d+) \* \(?(?:callsIn|count r|calls\.len)", ("ANSWER_BYTES",)),
+    (r"\(recordWords e\) ≡ (\d+)|wordsFrom l 22 (\d+)", ("EVENT_WORDS",)),
+    (r"recordFrom l (\d+)|wordsFrom l (\d+) 16", ("EVENT_IN_CALL",)),
+    (r"wordsFrom l (\d+) 11", ("PARAMS_IN_CALL",)),
+    (r"\bsrc\.len\(\) [%/] (\d+)|\bpairs src = length src / (\d+)", ("PAIR_BYTES",)),
+    (r"room < (\d+) \* \(src|ltb room \((\d+) \* pairs", ("SAMPLES_BYTES",)),
+    (r"or_short\(reply, room < (\d+)\)|\(ltb room (\d+)\)", ("SLOPE_BYTES",)),
+]
+SIZED = [f"crates/{crate}/{folder}/*" for crate in ("encoding", "calls", "turns", "exports", "theorems") for folder in ("src", "specs")]
+# Where a number above every word and every call, and below 1000, is a size, or one of these: bits of a word, values of a
+# byte, and what is the program `serve`'s own (oracle/README.md, "The frames").
+COUNTED = SIZED + ["crates/serve/src/*"]
+OTHERS = {64, 256} | {98, 99, 100, 165, 360, 528}
+# Worked examples, and a count of lines.
+NOT_COUNTED = ["crates/exports/specs/Examples.antt", "crates/theorems/specs/Examples.antt", "crates/theorems/specs/Theorems.antt"]
+# The replies' numbers.
+REPLIES = ["crates/filters/src/reply.rt", "crates/filters/specs/Reply.antt"]
+
+
+# ---- reading
+
+
+def read(path):
+    with open(os.path.join(ROOT, path), encoding="utf-8") as file:
+        return file.read()
+
+
+def code(path):
+    """The text without comments, and of a source without its contracts, each of one line."""
+    text = read(path)
+    text = re.sub(r"^ *(?:ensures|requires)\b.*$", "", text, flags=re.M) if path.endswith(".rt") else text
+    return re.sub(r"//.*" if path.endswith(".rt") else r"--.*", "", text)
+
+
+def line_of(path, part):
+    """Where a part of the code stands, by its first line that is like none other."""
+    lines = read(path).splitlines()
+    for wanted in part.strip().splitlines():
+        places = [number for number, line in enumerate(lines, 1) if wanted.strip() and wanted.strip() in line]
+        if places:
+            return f"{path}:{places[0]}"
+    return path
+
+
+def closed(text, start):
+    """The text between the bracket at the start and the one that closes it."""
+    depth = 0
+    for place in range(start, len(text)):
+        depth += text[place] in "({["
+        depth -= text[place] in ")}]"
+        if depth == 0:
+            return text[start + 1 : place]
+    return text[start + 1 :]
+
+
+def split(text, mark):
+    """The parts between marks that stand in no bracket."""
+    parts, depth, last = [], 0, 0
+    for place, letter in enumerate(text):
+        depth += letter in "({["
+        depth -= letter in ")}]"
+        if letter == mark and depth == 0:
+            parts.append(text[last:place])
+            last = place + 1
+    return [part.strip() for part in parts + [text[last:]] if part.strip()]
+
+
+def functions(path):
+    """The body of each function, by name."""
+    text, bodies = code(path), {}
+    if path.endswith(".rt"):
+        for found in re.finditer(r"\bfn (\w+)\(", text):
+            start = text.index("{", found.end() + len(closed(text, found.end() - 1)))
+            bodies[found.group(1)] = closed(text, start)
+        return bodies
+    for found in re.finditer(r"^(\w+)((?: (?:\w+|\([^()]*\)))*) =(?= |\n)(.*(?:\n[ ].*)*)", text, re.M):
+        bodies.setdefault(found.group(1), found.group(3))
+    return bodies
+
+
+# ---- calls by number
+
+
+def arms(path):
+    """The arms of `match call { .. }`: number and what is called."""
+    text = code(path)
+    for found in re.finditer(r"\bmatch call \{", text):
+        for arm in split(closed(text, found.end() - 1), ","):
+            number, _, called = arm.partition("=>")
+            if number.strip().isdigit():
+                yield int(number), called.strip()
+
+
+def check_choices(table, paths, apart):
+    """Each arm calls the function that has the call's name."""
+    numbers = {row["name"]: int(row["number"]) for row in table.rows("calls")}
+    seen = set()
+    for path in paths:
+        for number, called in arms(path):
+            names = [name for name in re.findall(r"\w+", called) if name in numbers]
+            if [numbers[name] for name in names] != [number]:
+                due = ", ".join(f"{numbers[name]} {name}" for name in names) or "no call"
+                yield f"{line_of(path, str(number) + ' => ' + called)}: {number} => {called.split('(')[0]}(..) stands there, and should be {due}"
+            seen.add(number)
+    for path, told in apart.items():
+        for number, called in re.findall(r"\bif call == (\d+) \{\s*(?:return |\w+ = )?(\w+)\(", code(path)):
+            due = numbers.get(told.get(called))
+            if due != int(number):
+                yield f"{line_of(path, f'call == {number} ')}: call {number} stands there for {called}, and should be {due}"
+            seen.add(int(number))
+    for name, number in numbers.items():
+        if number not in seen:
+            yield f"{paths[0]}: no row for {number} {name} stands there or in the files beside it"
+    for number in sorted(seen - set(numbers.values())):
+        yield f"{paths[0]}: {number} stands there or in the files beside it, and is no call's"
+
+
+def number_rows(path):
+    """The rows of a definition that chooses by a call's number: number and what is chosen."""
+    text = code(path)
+    text = re.sub(r"^  pub .*$", "", text, flags=re.M)
+    for found in re.finditer(r"\bcond \(eqb (?:call|\(word w 0\)) (\d+)\)\s*", text):
+        yield int(found.group(1)), closed(text, found.end()) if text[found.end()] == "(" else text[found.end() :].split()[0]
+    for name, number in re.findall(r"^\w+ \(?(?:C\.)?(\w+)[^=\n]*\)? = (\d+)$", text, re.M):
+        yield int(number), f"C.{name} "
+
+
+def check_rows(table, column, paths):
+    """Each row has the words by which its call is known, and each call a row."""
+    numbers = {row["name"]: int(row["number"]) for row in table.rows("calls")}
+    known = {numbers[row["call"]]: row[column] for row in table.rows("definitions")}
+    names = {number: name for name, number in numbers.items()}
+    seen = set()
+    for path in paths:
+        for number, chosen in number_rows(path):
+            due = known.get(number)
+            if number not in known:
+                yield f"{line_of(path, f' {number}) ')}: {number} stands there, and is no call's"
+            elif due and not re.search(r"(?<![\w.])(?:C\.)?" + re.escape(due) + r"(?!\w)", chosen):
+                stands = " ".join(chosen.split())[:60]
+                yield f"{line_of(path, f'{number}) ')}: call {number} is {stands!r} there, and should have {due!r}: {names[number]}"
+            seen.add(number)
+    for number in sorted(number for number, due in known.items() if due and number not in seen):
+        yield f"{paths[0]}: no row for {number} {names[number]} stands there or in the files beside it"
+
+
+# ---- words by place
+
+
+def read_fields(path, name, bodies, prefix=""):
+    """The fields that a function reads, by path, and the places of their words in order."""
+    source = path.endswith(".rt")
+    body = bodies[name]
+    yield from read_record(path, body, bodies, prefix) if source or "record {" in body else ()
+
+
+def read_record(path, text, bodies, prefix):
+    source = path.endswith(".rt")
+    found = re.search(r"\b[A-Z]\w* \{" if source else r"\brecord \{", text)
+    if not found:
+        return
+    for part in split(closed(text, found.end() - 1), "," if source else ";"):
+        field, _, value = part.partition(":" if source else "=")
+        field, value = field.strip(), value.strip()
+        within = prefix if field == "0" else f"{prefix}.{field}".strip(".")
+        called = re.fullmatch(r"(\w+)\(n\)" if source else r"(\w+) l(?: i)?", value)
+        if re.match(r"[A-Z]\w* \{" if source else r"record \{", value):
+            yield from read_record(path, value, bodies, within)
+        elif called and called.group(1) in bodies:
+            yield from read_record(path, bodies[called.group(1)], bodies, within)
+        else:
+            yield within, places(path, without_tests(path, value))
+
+
+def without_tests(path, value):
+    """Without the words that are only tested."""
+    if path.endswith(".rt"):
+        return re.sub(r"\bflag_fits\(n\[\d+\]\)", "", value)
+    return re.sub(r"\bflagFits \(word l (?:\d+|\(i \+ \d+\)|i)\)", "", value)
+
+
+def places(path, value):
+    if path.endswith(".rt"):
+        return [int(place) for place in re.findall(r"\bn\[(\d+)\]", value)]
+    return [int(plain or sum or 0) for plain, sum in re.findall(r"\bword l (?:(\d+)|\(i \+ (\d+)\)|i\b)", value)]
+
+
+def check_reader(table, path, name, section, first):
+    """Each field is read from its words."""
+    start = table.place.__dict__[first] if first else 0
+    bodies = functions(path)
+    if name not in bodies:
+        return [f"{path}: no {name} stands there, and it should read [{section}]"]
+    seen, out = set(), []
+    for within, read in read_fields(path, name, bodies):
+        rows = [row for row in table.rows(section) if row["here"] and (row["here"] + ".").startswith(within + ".")]
+        due = [start + int(row["word"]) + more for row in rows for more in range(table.words(row))]
+        if read != due:
+            out.append(f"{path}: {name}: {within} is read from {read or 'no word'}, and should be from {due or 'none'}")
+        seen |= {row["here"] for row in rows}
+    part = {row["part"] for row in table.rows(section) if "part" in row and row["here"] in seen}
+    for row in table.rows(section):
+        if row["here"] and row["here"] not in seen and (not part or row["part"] in part):
+            out.append(f"{path}: {name}: {row['here']} is not read, and should be from {start + int(row['word'])}")
+    return out
+
+
+def check_forms(table, path, name, section, first):
+    """The words that are tested are those whose kind has a form, each as its kind."""
+    start = table.place.__dict__[first] if first else 0
+    bodies = functions(path)
+    text = "\n".join(bodies.values()) if name is None else bodies.get(name, "")
+    word = r"n\[(\d+)\]" if path.endswith(".rt") else r"\(word l (?:\(i \+ )?(\d+)\)?\)"
+    apart = ", " if path.endswith(".rt") else " "
+    tests = {"flag": r"\bflag_?[fF]its[( ]", "f32": r"\bfloat_?[fF]its[( ]", "phase": r"\bphase_?[fF]its[( ]"}
+    single = {kind: re.findall(test + word, text) for kind, test in tests.items()}
+    pairs = re.findall(r"\bpair_?[fF]its[( ]" + word + apart + word, text)
+    counts = re.findall(word + r" <= 3|\bleb " + word + " 3", text)
+    stands = {kind: sorted(map(int, found)) for kind, found in single.items()}
+    stands["pair"] = sorted(int(one) for pair in pairs for one in pair)
+    stands["count"] = sorted(int(a or b) for a, b in counts)
+    due = {kind: [] for kind in stands}
+    for row in table.rows(section):
+        kind = "pair" if row["kind"].startswith("set, and ") else row["kind"]
+        if kind in due:
+            due[kind] += [start + int(row["word"]) + more for more in range(table.words(row))]
+    if name is not None:
+        # a pair that is no writer's is out of bounds by its number
+        due["pair"] = []
+    for kind in due:
+        if stands[kind] != due[kind]:
+            yield f"{path}: {name or 'the forms'}: words {stands[kind]} are tested as {kind}, and should be {due[kind]}"
+
+
+# ---- sizes and replies
+
+
+def sizes(table):
+    return {name: number for names in (table.size, table.place) for name, number, _ in names.items()}
+
+
+def check_phrases(table, phrases, paths):
+    """A phrase that has a size has the table's; each phrase stands somewhere."""
+    known, found = sizes(table), set()
+    for path in paths:
+        for number, line in enumerate(read(path).splitlines(), 1):
+            for phrase, names in phrases:
+                for match in re.finditer(phrase, line):
+                    found.add(phrase)
+                    stands = int(next(group for group in match.groups() if group))
+                    if stands not in [known[name] for name in names]:
+                        due = " or ".join(sorted({str(known[name]) for name in names}))
+                        yield f"{path}:{number}: {stands} stands there ({match.group(0)!r}), and should be {due}"
+    for phrase, names in phrases:
+        if phrase not in found:
+            yield f"tests/held.py: no phrase like {phrase} stands in the source, and one should with {' or '.join(names)}"
+
+
+def check_numbers(table, paths, others):
+    """A number that is no word's place and no call's is a size."""
+    known = sizes(table)
+    last = max(known["STATE_WORDS"], known["CALL_WORDS"], int(table.rows("calls")[-1]["number"]))
+    # an answer of `serve` has the state after it
+    frame = known["ANSWER_WORDS"] + known["STATE_WORDS"]
+    allowed = {*known.values(), frame, WORD_BYTES * frame} | others
+    for path in paths:
+        mark = r"//.*" if path.endswith(".rt") else r"--.*"
+        for number, line in enumerate(read(path).splitlines(), 1):
+            for literal in re.findall(r"(?<![\w.])\d[\d_]*(?![\w.])", re.sub(mark, "", line)):
+                value = int(literal.replace("_", ""))
+                if last < value < 1000 and value not in allowed:
+                    yield f"{path}:{number}: {value} stands there, and is no size, word or call of {PATH}"
+
+
+def check_replies(table, paths):
+    due = {row["name"]: int(row["number"]) for row in table.rows("replies")}
+    for path in paths:
+        stands = {name: int(number) for name, number in re.findall(r"(?:Reply::(?=\w+ =>)|^number )(\w+) =>? (\d+)", code(path), re.M)}
+        for name in sorted(set(due) | set(stands)):
+            if due.get(name) != stands.get(name):
+                yield f"{path}: {name} is {stands.get(name)} there, and should be {due.get(name)}"
+
+
+# ---- all of it
+
+
+def files(patterns):
+    found = [path for pattern in patterns for path in glob.glob(os.path.join(ROOT, pattern))]
+    return sorted(os.path.relpath(path, ROOT) for path in found if path.endswith((".rt", ".antt")))
+
+
+def faults(table):
+    """A line for each difference."""
+    out = list(check_choices(table, CHOICES, APART))
+    for column, paths in ROWS.items():
+        out += check_rows(table, column, paths)
+    for reader in READERS:
+        out += check_reader(table, *reader)
+    for form in FORMS:
+        out += check_forms(table, *form)
+    out += check_phrases(table, PHRASES, files(SIZED))
+    out += check_numbers(table, [path for path in files(COUNTED) if path not in NOT_COUNTED], OTHERS)
+    out += check_replies(table, REPLIES)
+    return out

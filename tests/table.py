@@ -1,0 +1,489 @@
+#!/usr/bin/env python3
+"""Writes what docs/calls.txt says into the places that are written from it, or holds them to it.
+
+    tests/table.py            a line for each difference: the file, what stands there, what should; then 1
+    tests/table.py --write    writes them
+
+Written are the parts of docs/LAYOUT.md and include/guovssalu.h between the marks, and the whole of
+rust/guovssalu-sys/src/table.rs. tests/held.py holds the Rattle source and its definitions to the same table: that is
+compared, and never written."""
+
+import difflib
+import os
+import re
+import sys
+
+import held
+from words import PATH, ROOT, TABLE, WORD_BYTES, Fault, Names, constant
+
+PAGE = "docs/LAYOUT.md"
+HEADER = "include/guovssalu.h"
+RUST = "rust/guovssalu-sys/src/table.rs"
+# Around a part that is written: its first line with the part's name, and its last.
+MARKS = {
+    PAGE: ("<!-- {} of docs/calls.txt -->", "<!-- end -->"),
+    HEADER: ("/* -- {} of docs/calls.txt -- */", "/* -- end -- */"),
+}
+WIDTH = 100
+
+SIZE = {name: number for names in (TABLE.size, TABLE.place) for name, number, _ in names.items()}
+PARTS = {
+    "state": "a state: the model, then the cycle",
+    "model": "a state's model",
+    "cycle": "a state's cycle",
+    "call": "a call",
+    "arguments": "the room for a call's arguments",
+    "event": "an event's record",
+    "params": "the parameters",
+    "answer": "an answer",
+    "pair": "a pair of the filter run",
+    "samples": "the filter run's answer to a pair",
+    "slope": "the slope's output",
+}
+
+
+# ---- docs/LAYOUT.md
+
+
+def grid(columns, rows):
+    lines = [columns, ["---"] * len(columns)] + [[str(cell) for cell in row] for row in rows]
+    return ["| " + " | ".join(cells).replace("| --- |", "|---|") + " |" for cells in lines[:1]] + [
+        "|" + "|".join(lines[1]) + "|"
+    ] + ["| " + " | ".join(cells) + " |" for cells in lines[2:]]
+
+
+def span(first, words):
+    """Words by their places: 17, or 2, 3, or 19 to 21."""
+    last = first + words - 1
+    return str(first) if words == 1 else f"{first}, {last}" if words == 2 else f"{first} to {last}"
+
+
+def listed(numbers):
+    """Numbers in a sentence: 0, 3 and 5; three or more in a row are 3 to 7."""
+    runs = []
+    for number in numbers:
+        if runs and runs[-1][-1] == number - 1:
+            runs[-1].append(number)
+        else:
+            runs.append([number])
+    parts = []
+    for run in runs:
+        parts += [f"{run[0]} to {run[-1]}"] if len(run) > 2 else [str(number) for number in run]
+    return parts
+
+
+def joined(parts):
+    return parts[0] if len(parts) == 1 else ", ".join(parts[:-1]) + " and " + parts[-1]
+
+
+def shown(field):
+    return field.replace("last_packet_send_state.", "last_packet_send_state: ")
+
+
+def fields(section, part=None):
+    """A row for each field: its words, its name, its kind."""
+    rows = [row for row in TABLE.rows(section) if part in (None, row.get("part"))]
+    return [(span(int(row["word"]), TABLE.words(row)), shown(row["field"]), row["kind"]) for row in rows]
+
+
+def parts_of(whole):
+    """The parts of a call or an answer: their words, and what they are."""
+    rows = TABLE.rows(whole)
+    starts = [SIZE[f"{row['part'].upper()}_IN_{whole.upper()}"] for row in rows] + [SIZE[f"{whole.upper()}_WORDS"]]
+    for row, first, end in zip(rows, starts, starts[1:]):
+        yield row, str(first) if end == first + 1 else f"{first} to {end - 1}"
+
+
+def calls_with(column, value=None):
+    return [int(row["number"]) for row in TABLE.rows("calls") if (row[column] if value is None else row[column] == value)]
+
+
+def page_sizes():
+    model, state, answer = SIZE["MODEL_WORDS"], SIZE["STATE_WORDS"], "the reply's number, the answer, the event's record"
+    what = {
+        "state": f"the model, words 0 to {model - 1}, and the cycle, {model} to {state - 1}",
+        "call": "the call's number, its arguments, the event's record, the parameters",
+        "answer": answer,
+    }
+    rows = [(name, SIZE[name.upper() + "_WORDS"], SIZE[name.upper() + "_BYTES"], said) for name, said in what.items()]
+    return grid(["array", "words", "bytes", "what"], rows)
+
+
+def page_run():
+    state, call, answer = (SIZE[name + "_BYTES"] for name in ("STATE", "CALL", "ANSWER"))
+    rows = [
+        (TABLE.reply.DONE, "the calls were gone through. That says nothing of any of them: each has its own reply, in word 0 of its answer"),
+        (TABLE.reply.OUT_OF_BOUNDS, f"the state's {state} bytes encode no state: a word of them is malformed (below), as a flag of 2 or an unset number that is not 0"),
+        (TABLE.reply.BAD_ARGUMENT, f"the state has another length, or the calls are no whole number of {call} bytes"),
+        (TABLE.reply.SHORT_OUTPUT, f"the answers have under {answer} bytes a call"),
+    ]
+    return grid(["reply", "where"], rows)
+
+
+def page_kinds():
+    phases = ", ".join(f"{row['number']} {row['name']}" for row in TABLE.rows("phases"))
+    rows = []
+    for row in TABLE.rows("kinds"):
+        written = row["written"].replace("PHASES", phases).replace("UNSET", f"{TABLE.value.UNSET} (2^64 - 1)")
+        rows.append((row["kind"], row["words"], written, row["malformed"]))
+    return grid(["kind", "words", "written", "malformed"], rows)
+
+
+def page_state():
+    heading = ["word", "field", "kind"]
+    model, cycle = grid(heading, fields("state", "model")), grid(heading, fields("state", "cycle"))
+    return ["The model.", "", *model, "", "The cycle.", "", *cycle]
+
+
+def page_call():
+    only = {
+        "event": f"; only calls {joined(listed(calls_with('event')))} read it",
+        "params": f"; only calls {joined(listed(calls_with('params')))} take them",
+    }
+    return grid(["words", "what"], [(words, row["what"] + only.get(row["part"], "")) for row, words in parts_of("call")])
+
+
+def page_arguments():
+    rows = []
+    for row in TABLE.rows("calls"):
+        name = row["name"] + (f": {row['what']}" if row["what"] else "")
+        given = TABLE.given(row["name"])
+        if row["name"] == "on_congestion_event_start":
+            rows.append((row["number"], name, "the table below"))
+        elif given:
+            rows.append((row["number"], name, "; ".join(f"{one['word']} {one['argument']}, {one['kind']}" for one in given)))
+    bare = [row for row in TABLE.rows("calls") if not any(str(row["number"]) == number for number, _, _ in rows)]
+    named = lambda rows: ", ".join(f"{row['number']} {row['name']}" for row in rows)
+    answers = [row for row in bare if row["answer"] and not row["event"]]
+    others = [row for row in bare if row not in answers]
+    line = f"With no arguments: {named(others)}; and those that only answer: {named(answers)}."
+    return grid(["call", "name", "arguments: word, name, kind"], rows) + ["", line]
+
+
+def page_unknown():
+    known = calls_with("number")
+    holes = [str(number) for number in range(known[-1]) if number not in known]
+    return [
+        f"The numbers {', '.join(holes)} and those above {known[-1]} are no call's. Such a number is a bad argument: it is refused with 2, or with 1 where the stored model is out of bounds, and the run goes on."
+    ]
+
+
+def page_event():
+    call, answer, words = SIZE["EVENT_IN_CALL"], SIZE["EVENT_IN_ANSWER"], SIZE["EVENT_WORDS"]
+    start = TABLE.call.ON_CONGESTION_EVENT_START
+    rows = []
+    for row in TABLE.rows("event"):
+        at, width = int(row["word"]), TABLE.words(row)
+        rows.append((span(call + at, width), span(answer + at, width), shown(row["field"]), row["kind"]))
+    said = f"The event's record. The same {words} words, in the same order, are the last of call {start}'s answer: to go on with an event, copy words {answer} to {answer + words - 1} of that answer into words {call} to {call + words - 1} of the calls that follow."
+    return [said, "", *grid(["word of a call", "of an answer", "field", "kind"], rows)]
+
+
+def page_params():
+    first = SIZE["PARAMS_IN_CALL"]
+    rows = [(span(first + int(row["word"]), TABLE.words(row)), row["field"], row["kind"]) for row in TABLE.rows("params")]
+    return ["The parameters.", "", *grid(["word", "field", "kind"], rows)]
+
+
+def page_answer():
+    event, words = SIZE["EVENT_IN_CALL"], SIZE["EVENT_WORDS"]
+    start = TABLE.call.ON_CONGESTION_EVENT_START
+    more = {
+        "reply": ": 0 done, 1 to 5 refused (the table of replies, below)",
+        "event": f" after call {start}; where that is refused, the record handed in, words {event} to {event + words - 1} of the call as they are, byte for byte. 0 for the other calls, which leave it",
+    }
+    table = grid(["word", "what"], [(at, row["what"] + more.get(row["part"], "")) for row, at in parts_of("answer")])
+    kinds = []
+    for kind in TABLE.kinds:
+        numbers = calls_with("answer", kind)
+        if numbers:
+            kinds.append((", ".join(listed(numbers)), kind))
+    value = SIZE["VALUE_IN_ANSWER"]
+    return table + ["", *grid(["calls", f"word {value} of the answer"], kinds + [("the others", "0")])]
+
+
+def page_replies():
+    return grid(["reply", "name", "where"], [(row["number"], row["name"], row["what"]) for row in TABLE.rows("replies")])
+
+
+PAGES = {
+    "sizes": page_sizes,
+    "the run's replies": page_run,
+    "kinds": page_kinds,
+    "state": page_state,
+    "call": page_call,
+    "arguments": page_arguments,
+    "sample": lambda: grid(["word", "what", "kind"], fields("sample")),
+    "no calls": page_unknown,
+    "event": page_event,
+    "params": page_params,
+    "answer": page_answer,
+    "replies": page_replies,
+}
+
+
+# ---- include/guovssalu.h
+
+
+def enum(comment, rows):
+    """An enumeration of names with numbers, and of each a word of what it is."""
+    rows = list(rows)
+    lines = []
+    for place, (name, number, what) in enumerate(rows):
+        line = f"    GUOVSSALU_{name} = {number}" + ("," if place + 1 < len(rows) else "")
+        lines.append((line, what))
+    width = max((len(line) for line, what in lines if what), default=0)
+    body = [f"{line:{width}} /* {what} */" if what else line for line, what in lines]
+    return [*comment, "enum {", *body, "};"]
+
+
+def with_prefix(section, names):
+    """Names of a section for C. One that begins with the section's own name is not given it twice."""
+    prefix = section.upper() + "_"
+    for name, number, kind in names.items():
+        yield (name if name.startswith(prefix) else prefix + name), number, kind
+
+
+def said_of(row):
+    """What a call is given, and what it answers."""
+    if row["name"] == "on_congestion_event_start":
+        given = "the words GUOVSSALU_SAMPLE_.."
+    else:
+        given = ", ".join(one["argument"] for one in TABLE.given(row["name"]))
+    read = ", ".join(part for part in (row["event"], row["params"]) if part)
+    answer = f"answers {row['answer']}" if row["answer"] else ""
+    return "; ".join(part for part in (given, read, answer) if part)
+
+
+def header_replies():
+    rows = ((constant(row["name"]), row["number"], None) for row in TABLE.rows("replies"))
+    return enum(["/* Replies. */"], rows)
+
+
+def header_sizes():
+    sizes = ((name, number, None) for name, number, _ in TABLE.size.items())
+    places = ((name, number, None) for name, number, _ in TABLE.place.items())
+    unset = TABLE.rows("values")[0]
+    return [
+        f"/* {unset['what'].capitalize()}. */",
+        f"#define GUOVSSALU_{unset['name']} UINT64_C({unset['value']})",
+        "",
+        *enum(["/* Sizes, in words and in bytes; a word has 8 bytes. */"], sizes),
+        "",
+        *enum(["/* The word with which a part of a call, an answer or a state begins. */"], places),
+    ]
+
+
+def header_calls():
+    rows = (("CALL_" + constant(row["name"]), row["number"], said_of(row)) for row in TABLE.rows("calls"))
+    phases = (("PHASE_" + constant(row["name"]), row["number"], None) for row in TABLE.rows("phases"))
+    arguments = []
+    for call, names, _ in TABLE.argument.items():
+        arguments += [(f"ARG_{call.upper()}_{name}", number, kind) for name, number, kind in names.items()]
+    about = [
+        "/* The numbers of the calls: the word GUOVSSALU_NUMBER_IN_CALL of a call. Beside each its arguments in",
+        " * order, whether it reads the event's record and takes the parameters, and what its answer is. */",
+    ]
+    return [
+        *enum(about, rows),
+        "",
+        *enum(["/* The calls' arguments: words of a call. */"], arguments),
+        "",
+        *enum(["/* An event's arguments, of GUOVSSALU_CALL_ON_CONGESTION_EVENT_START: words of a call. */"], with_prefix("sample", TABLE.sample)),
+        "",
+        *enum(["/* An event's record: words from GUOVSSALU_EVENT_IN_CALL of a call on, from GUOVSSALU_EVENT_IN_ANSWER of an", " * answer on. */"], with_prefix("event", TABLE.event)),
+        "",
+        *enum(["/* The parameters: words from GUOVSSALU_PARAMS_IN_CALL of a call on. */"], with_prefix("params", TABLE.params)),
+        "",
+        *enum(["/* Words of the state. Of what may be unset there are two, .._SET and the number. */"], with_prefix("state", TABLE.state)),
+        "",
+        *enum(["/* What the state's word GUOVSSALU_STATE_PHASE is. */"], phases),
+    ]
+
+
+HEADERS = {"replies": header_replies, "sizes": header_sizes, "calls and words": header_calls}
+
+
+# ---- rust/guovssalu-sys/src/table.rs
+
+
+def of_kind(at, kind):
+    return f"Word {at}: {kind}."
+
+
+def rust_const(indent, name, kind, value, what):
+    return [f"{indent}/// {what}", f"{indent}pub const {name}: {kind} = {value};"]
+
+
+def rust_list(indent, name, kind, cells, what):
+    """An array as rustfmt lays it out: in one line, or one cell to a line, or filled where the cells are short."""
+    head = f"{indent}pub const {name}: [{kind}; {len(cells)}] = ["
+    one = head + ", ".join(cells) + "];"
+    lines = [f"{indent}/// {what}"]
+    if len(one) <= WIDTH:
+        return lines + [one]
+    lines.append(head)
+    if all(len(cell) <= 10 for cell in cells):
+        line = indent + "    "
+        for cell in cells:
+            if len(line + cell + ",") > WIDTH:
+                lines.append(line.rstrip())
+                line = indent + "    "
+            line += cell + ", "
+        lines.append(line.rstrip())
+    else:
+        lines += [f"{indent}    {cell}," for cell in cells]
+    return lines + [f"{indent}];"]
+
+
+def rust_module(name, what, items, indent=""):
+    lines = [f"{indent}/// {what}", f"{indent}pub mod {name} {{"]
+    for place, item in enumerate(items):
+        lines += ([""] if place else []) + item
+    return lines + [indent + "}"]
+
+
+def rust_words(name, what, names):
+    items = [rust_const("    ", one, "usize", at, of_kind(at, kind)) for one, at, kind in names.items()]
+    return rust_module(name, what, items)
+
+
+def rust_numbers(name, what, names, of):
+    items = [rust_const("    ", one, "u64", number, f"{of} {number}.") for one, number, _ in names.items()]
+    return rust_module(name, what, items)
+
+
+def rust_calls():
+    rows = TABLE.rows("calls")
+    items = []
+    for row in rows:
+        said = said_of(row).replace("GUOVSSALU_SAMPLE_..", "of `sample`")
+        what = f"Call {row['number']}" + (f": {said}." if said else ".")
+        items.append(rust_const("    ", constant(row["name"]), "u64", row["number"], what))
+    named = lambda chosen: [constant(row["name"]) for row in rows if chosen(row)]
+    items.append(rust_list("    ", "ALL", "u64", named(lambda row: True), "All of them, in order."))
+    items.append(rust_list("    ", "READ_EVENT", "u64", named(lambda row: row["event"]), "Those that read the event's record."))
+    items.append(rust_list("    ", "TAKE_PARAMS", "u64", named(lambda row: row["params"]), "Those that take the parameters."))
+    return rust_module("call", "The numbers of the calls: a call's first word.", items)
+
+
+def rust_arguments():
+    modules = []
+    for call, names, _ in TABLE.argument.items():
+        items = [rust_const("        ", one, "usize", at, of_kind(at, kind)) for one, at, kind in names.items()]
+        modules.append(rust_module(call, f"Of `{call}`.", items, "    "))
+    return rust_module("argument", "The calls' arguments: words of a call.", modules)
+
+
+def rust_sizes():
+    lines = []
+    for name, number, _ in TABLE.size.items():
+        part, _, unit = name.partition("_")
+        said = "The most numbers of acked packets in a call." if name == "MOST_ACKED" else f"{unit.capitalize()} of {PARTS[part.lower()]}."
+        lines += rust_const("", name, "usize", number, said)
+    for name, number, _ in TABLE.place.items():
+        part, whole = name.split("_IN_")
+        article = "an" if whole == "ANSWER" else "a"
+        lines += rust_const("", name, "usize", number, f"The word of {article} {whole.lower()} with which its {part.lower()} begins.")
+    return lines
+
+
+def rust_text():
+    unset = TABLE.rows("values")[0]
+    parts = [
+        ["//! The calls, their words and their sizes: written from docs/calls.txt by tests/table.py, and not edited."],
+        rust_const("", unset["name"], "u64", "u64::MAX", unset["what"].capitalize() + "."),
+        rust_const("", "WORD_BYTES", "usize", WORD_BYTES, "Bytes of a word."),
+        rust_sizes(),
+        rust_calls(),
+        rust_arguments(),
+        rust_words("sample", "An event's arguments, of `call::ON_CONGESTION_EVENT_START`: words of a call.", TABLE.sample),
+        rust_words("event", "An event's record: words from `EVENT_IN_CALL` or `EVENT_IN_ANSWER` on.", TABLE.event),
+        rust_words("params", "The parameters: words of a call from `PARAMS_IN_CALL` on.", TABLE.params),
+        rust_words("state", "Words of the state. Of what may be unset there are two, `.._SET` and the number.", TABLE.state),
+        rust_numbers("reply", "The replies: an answer's first word, and what an exported call replies.", TABLE.reply, "Reply"),
+        rust_numbers("phase", "What the state's word `state::PHASE` is.", TABLE.phase, "Phase"),
+    ]
+    return "\n\n".join("\n".join(part) for part in parts) + "\n"
+
+
+# ---- what stands, and what should
+
+
+def filled(path, text, blocks):
+    """The text with each part written anew."""
+    first, last = MARKS[path]
+    for name, block in blocks.items():
+        mark = first.format(name)
+        if text.count(mark) != 1:
+            raise Fault(f"{path}: the mark {mark} stands {text.count(mark)} times, and should stand once")
+        start = text.index(mark) + len(mark)
+        end = text.find(last, start)
+        if end < 0:
+            raise Fault(f"{path}: no {last} after {mark}")
+        apart = "\n\n" if path == PAGE else "\n"
+        text = text[:start] + apart + "\n".join(block()) + apart + text[end:]
+    return text
+
+
+def differences(path, stands, should):
+    """A line for each line that differs."""
+    old, new = stands.splitlines(), should.splitlines()
+    matched = difflib.SequenceMatcher(None, old, new, autojunk=False)
+    for what, a, b, c, d in matched.get_opcodes():
+        if what == "equal":
+            continue
+        for place in range(max(b - a, d - c)):
+            has = repr(old[a + place].strip()) if a + place < b else "nothing"
+            due = repr(new[c + place].strip()) if c + place < d else "nothing"
+            yield f"{path}:{min(a + place, b) + 1}: {has} stands there, and should be {due}"
+
+
+def in_file(path):
+    full = os.path.join(ROOT, path)
+    if not os.path.exists(full):
+        return ""
+    with open(full, encoding="utf-8") as file:
+        return file.read()
+
+
+def due():
+    """Each written file: what stands there, and what should."""
+    yield PAGE, in_file(PAGE), filled(PAGE, in_file(PAGE), PAGES)
+    yield HEADER, in_file(HEADER), filled(HEADER, in_file(HEADER), HEADERS)
+    yield RUST, in_file(RUST), rust_text()
+
+
+def doubled():
+    """Two things of the header that have one name."""
+    names = re.findall(r"GUOVSSALU_\w+(?= =| UINT64_C)", "\n".join("\n".join(block()) for block in HEADERS.values()))
+    return [f"{HEADER}: two things are called {name}" for name in sorted(set(names)) if names.count(name) > 1]
+
+
+def main():
+    writes = sys.argv[1:] == ["--write"]
+    if sys.argv[1:] and not writes:
+        sys.exit(__doc__)
+    faults, written = doubled(), 0
+    for path, stands, should in due():
+        if writes and stands != should:
+            os.makedirs(os.path.dirname(os.path.join(ROOT, path)), exist_ok=True)
+            with open(os.path.join(ROOT, path), "w", encoding="utf-8") as file:
+                file.write(should)
+            print(f"{path}: written")
+        elif stands != should:
+            faults += differences(path, stands, should)
+    faults += held.faults(TABLE)
+    print("".join(line + "\n" for line in faults), end="")
+    if faults:
+        print(f"table: differences: {len(faults)}")
+        return 1
+    print(f"table: {len(TABLE.rows('calls'))} calls, {SIZE['STATE_WORDS']} words of a state, {SIZE['CALL_WORDS']} of a call, {SIZE['ANSWER_WORDS']} of an answer: as in {PATH}")
+    return 0
+
+
+if __name__ == "__main__":
+    try:
+        sys.exit(main())
+    except Fault as fault:
+        sys.exit(str(fault))
