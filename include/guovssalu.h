@@ -341,6 +341,17 @@ enum {
     GUOVSSALU_PHASE_CRUISE = 3,
     GUOVSSALU_PHASE_REFILL = 4
 };
+
+/* Words of a pair of the filter run, of its answer to a pair, and of the slope's output. */
+enum {
+    GUOVSSALU_PAIR_TIME = 0,             /* number */
+    GUOVSSALU_PAIR_SAMPLE = 1,           /* number */
+    GUOVSSALU_SAMPLES_BEST = 0,          /* number */
+    GUOVSSALU_SAMPLES_SECOND = 1,        /* number */
+    GUOVSSALU_SAMPLES_THIRD = 2,         /* number */
+    GUOVSSALU_SLOPE_PROBE_UP_ROUNDS = 0, /* number */
+    GUOVSSALU_SLOPE_PROBE_UP_BYTES = 1   /* bytes */
+};
 /* -- end -- */
 
 /* Carries out calls in order on the state in lent bytes, and leaves the new state there: the model

@@ -15,15 +15,39 @@ import subprocess
 import sys
 from fractions import Fraction
 
-ROOT = os.path.dirname(os.path.dirname(os.path.abspath(__file__)))
-UNSET = 2**64 - 1
+from words import ANSWER_WORDS, CALL_WORDS, EVENT_IN_CALL, NUMBER_IN_CALL, PARAMS_IN_CALL, REPLY_IN_ANSWER, ROOT
+from words import STATE_WORDS, UNSET, WORD_BYTES, argument, call, event, params, sample, state
+
 PARTS = 2**24
-# The numbers of the calls (docs/LAYOUT.md).
-START, SENT, EVENT, FINISH, RESTART, HIGH, CAP, CLEAR_INFLIGHT, CLEAR_BANDWIDTH, ADVANCE, CRUISE, REFILL = (
-    0, 1, 3, 4, 8, 17, 18, 19, 20, 21, 41, 42
-)
-NOTHING = 12  # bdp0, which fills a frame up
+START = call.START
+SENT = call.ON_PACKET_SENT
+EVENT = call.ON_CONGESTION_EVENT_START
+FINISH = call.ON_CONGESTION_EVENT_FINISH
+RESTART = call.RESTART_ROUND_EARLY
+HIGH = call.SET_INFLIGHT_HI
+CAP = call.CAP_INFLIGHT_LO
+CLEAR_INFLIGHT = call.CLEAR_INFLIGHT_LO
+CLEAR_BANDWIDTH = call.CLEAR_BANDWIDTH_LO
+ADVANCE = call.ADVANCE_MAX_BANDWIDTH_FILTER
+CRUISE = call.ENTER_PROBE_CRUISE
+REFILL = call.ENTER_PROBE_REFILL
+NOTHING = call.BDP0  # fills a frame up
+# Calls in a frame, and the words of an answer with the state after it.
 FRAME = 100
+ANSWERED = ANSWER_WORDS + STATE_WORDS
+# The original's own parameters but beta.
+USUAL = {
+    params.LOSS_THRESHOLD: 0.015,
+    params.INFLIGHT_HI_HEADROOM: 0.15,
+    params.FULL_BW_THRESHOLD: 1.25,
+    params.STARTUP_CWND_GAIN: 2.0,
+    params.STARTUP_PACING_GAIN: 2.773,
+    params.STARTUP_FULL_BW_ROUNDS: 3,
+    params.MAX_STARTUP_QUEUE_ROUNDS: 0,
+    params.PROBE_RTT_PERIOD: 10_000_000_000,
+    params.PROBE_BW_PROBE_BASE_DURATION: 2_000_000_000,
+    params.IGNORE_APP_LIMITED_FOR_NO_BANDWIDTH_GROWTH: 1,
+}
 
 
 def f32(bits):
@@ -218,22 +242,30 @@ def text_of(calls):
 
 
 def words_of(op, a, beta, told):
-    """The 49 words of a call. The parameters but beta are the original's own, the clock stands still, the rest is 0."""
-    words = [0] * 49
-    words[0] = op
-    words[38:] = [beta, *(bits_of(x) for x in (0.015, 0.15, 1.25, 2.0, 2.773)), 3, 0, 10_000_000_000, 2_000_000_000, 1]
+    """The words of a call. The parameters but beta are the original's own, the clock stands still, the rest is 0."""
+    words = [0] * CALL_WORDS
+    words[NUMBER_IN_CALL] = op
+    words[PARAMS_IN_CALL + params.BETA] = beta
+    for place, number in USUAL.items():
+        words[PARAMS_IN_CALL + place] = bits_of(number) if isinstance(number, float) else number
     if op == SENT:
-        words[3] = a[0]
+        words[argument.on_packet_sent.PACKET_NUMBER] = a[0]
     elif op == EVENT:
         window, probing, acked, lost, packet, bandwidth, limited, inflight = a
-        words[1:3] = [0, 0] if bandwidth == UNSET else [1, bandwidth]
-        words[7], words[10], words[16], words[17] = limited, inflight, acked, lost
-        words[18:20] = [0, 0] if packet == 0 else [1, packet]
-        words[23], words[29] = window, probing
+        if bandwidth != UNSET:
+            words[sample.SAMPLE_MAX_BANDWIDTH_SET], words[sample.SAMPLE_MAX_BANDWIDTH] = 1, bandwidth
+        words[sample.SAMPLE_IS_APP_LIMITED], words[sample.SAMPLE_MAX_INFLIGHT] = limited, inflight
+        words[sample.TOTAL_BYTES_ACKED], words[sample.TOTAL_BYTES_LOST] = acked, lost
+        if packet != 0:
+            words[sample.ACKED_COUNT], words[sample.ACKED_PACKETS] = 1, packet
+        words[EVENT_IN_CALL + event.PRIOR_CWND] = window
+        words[EVENT_IN_CALL + event.IS_PROBING_FOR_BANDWIDTH] = probing
     elif op == FINISH:
-        words[28] = int(told.ended)
-    elif op in (HIGH, CAP):
-        words[1] = a[0]
+        words[EVENT_IN_CALL + event.END_OF_ROUND_TRIP] = int(told.ended)
+    elif op == HIGH:
+        words[argument.set_inflight_hi.NEW_INFLIGHT_HI] = a[0]
+    elif op == CAP:
+        words[argument.cap_inflight_lo.CAP] = a[0]
     return words
 
 
@@ -253,17 +285,18 @@ def followed(command, calls):
     """What the port has after each call: the reply's number, inflight_lo and bandwidth_lo."""
     words = encoded(calls)
     words += [words_of(NOTHING, [], 0, None)] * (-len(words) % FRAME)
-    rows, state = [], [0] * 50
+    rows, carried = [], [0] * STATE_WORDS
     with subprocess.Popen(command, cwd=ROOT, stdin=subprocess.PIPE, stdout=subprocess.PIPE) as port:
         for at in range(0, len(words), FRAME):
-            frame = state + [word for call in words[at : at + FRAME] for word in call]
+            frame = carried + [word for one in words[at : at + FRAME] for word in one]
             port.stdin.write(struct.pack(f"<{len(frame)}Q", *frame))
             port.stdin.flush()
-            answers = struct.unpack(f"<{68 * FRAME}Q", port.stdout.read(8 * 68 * FRAME))
-            state = list(answers[-50:])
-            for start in range(0, len(answers), 68):
-                after = answers[start + 18 : start + 68]
-                rows.append((answers[start], after[17], after[16] if after[15] else UNSET))
+            answers = struct.unpack(f"<{ANSWERED * FRAME}Q", port.stdout.read(WORD_BYTES * ANSWERED * FRAME))
+            carried = list(answers[-STATE_WORDS:])
+            for start in range(0, len(answers), ANSWERED):
+                after = answers[start + ANSWER_WORDS : start + ANSWERED]
+                bandwidth = after[state.BANDWIDTH_LO] if after[state.BANDWIDTH_LO_SET] else UNSET
+                rows.append((answers[start + REPLY_IN_ANSWER], after[state.INFLIGHT_LO], bandwidth))
         port.stdin.close()
     return rows[: len(calls)]
 

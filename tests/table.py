@@ -280,6 +280,7 @@ def header_calls():
     arguments = []
     for call, names, _ in TABLE.argument.items():
         arguments += [(f"ARG_{call.upper()}_{name}", number, kind) for name, number, kind in names.items()]
+    apart = [row for name in ("pair", "samples", "slope") for row in with_prefix(name, getattr(TABLE, name))]
     about = [
         "/* The numbers of the calls: the word GUOVSSALU_NUMBER_IN_CALL of a call. Beside each its arguments in",
         " * order, whether it reads the event's record and takes the parameters, and what its answer is. */",
@@ -298,6 +299,8 @@ def header_calls():
         *enum(["/* Words of the state. Of what may be unset there are two, .._SET and the number. */"], with_prefix("state", TABLE.state)),
         "",
         *enum(["/* What the state's word GUOVSSALU_STATE_PHASE is. */"], phases),
+        "",
+        *enum(["/* Words of a pair of the filter run, of its answer to a pair, and of the slope's output. */"], apart),
     ]
 
 
@@ -401,6 +404,9 @@ def rust_text():
         rust_words("event", "An event's record: words from `EVENT_IN_CALL` or `EVENT_IN_ANSWER` on.", TABLE.event),
         rust_words("params", "The parameters: words of a call from `PARAMS_IN_CALL` on.", TABLE.params),
         rust_words("state", "Words of the state. Of what may be unset there are two, `.._SET` and the number.", TABLE.state),
+        rust_words("pair", "A pair of the filter run.", TABLE.pair),
+        rust_words("samples", "The filter run's answer to a pair.", TABLE.samples),
+        rust_words("slope", "The slope's output.", TABLE.slope),
         rust_numbers("reply", "The replies: an answer's first word, and what an exported call replies.", TABLE.reply, "Reply"),
         rust_numbers("phase", "What the state's word `state::PHASE` is.", TABLE.phase, "Phase"),
     ]

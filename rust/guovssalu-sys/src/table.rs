@@ -699,6 +699,36 @@ pub mod state {
     pub const LAST_CYCLE_STOPPED_RISKY_PROBE: usize = 49;
 }
 
+/// A pair of the filter run.
+pub mod pair {
+    /// Word 0: number.
+    pub const TIME: usize = 0;
+
+    /// Word 1: number.
+    pub const SAMPLE: usize = 1;
+}
+
+/// The filter run's answer to a pair.
+pub mod samples {
+    /// Word 0: number.
+    pub const BEST: usize = 0;
+
+    /// Word 1: number.
+    pub const SECOND: usize = 1;
+
+    /// Word 2: number.
+    pub const THIRD: usize = 2;
+}
+
+/// The slope's output.
+pub mod slope {
+    /// Word 0: number.
+    pub const PROBE_UP_ROUNDS: usize = 0;
+
+    /// Word 1: bytes.
+    pub const PROBE_UP_BYTES: usize = 1;
+}
+
 /// The replies: an answer's first word, and what an exported call replies.
 pub mod reply {
     /// Reply 0.
