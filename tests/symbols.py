@@ -69,7 +69,9 @@ def of_package():
         r"((?:^ *///.*\n)*) *pub fn (\w+)\(([^()]*)\)(?: -> ([^;]*))?;", read(PACKAGE), re.M
     ):
         pairs = [tuple(words(one).split(": ")) for one in arguments.split(",") if one.strip()]
-        functions.append((name, pairs, answer, words(re.sub(r"^ *///", "", comment, flags=re.M))))
+        comment = words(re.sub(r"^ *///", "", comment, flags=re.M))
+        named = lambda found: "GUOVSSALU_" + found.group(1).replace("::", "_").upper()
+        functions.append((name, pairs, answer, re.sub(r"\[`table::([\w:]+)`\]", named, comment)))
     return functions
 
 

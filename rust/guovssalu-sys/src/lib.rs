@@ -20,10 +20,13 @@
 //! # Linking
 //!
 //! The feature `link`, which is on by default, has the archive linked that `rt staticlib guovssalu`
-//! writes for x86-64. Without it nothing is linked and no archive is looked for.
+//! writes for x86-64. Without it nothing is linked and no archive is looked for: the numbers, places
+//! and sizes of [`table`] are there all the same.
 
 #![no_std]
 #![deny(missing_docs)]
+
+pub mod table;
 
 extern "C" {
     /// The bits of the f32 nearest to n, a tie to the one whose last digit is even.
@@ -49,9 +52,9 @@ extern "C" {
     /// 2^64 - 1. The bandwidth 2^64 - 1 stands for an infinite one.
     pub fn guovssalu_to_bytes_per_period(bandwidth: u64, nanos: u64) -> u64;
 
-    /// Writes two words, 16 bytes: the next probe_up_rounds, which is rounds + 1 or at most 30, and
-    /// probe_up_bytes, which is window / 2^rounds or at least 1300. Bytes past them keep what they
-    /// held. Replies 1 for rounds over 30, 2 for a window above 2^40, 7 for an output under 16 bytes.
+    /// Writes two words, [`table::SLOPE_BYTES`]: the next probe_up_rounds, which is rounds + 1 or at most
+    /// 30, and probe_up_bytes, which is window / 2^rounds or at least 1300. Bytes past them keep what
+    /// they held. Replies 1 for rounds over 30, 2 for a window above 2^40, 7 for a shorter output.
     pub fn guovssalu_raise_inflight_high_slope(
         rounds: u64,
         window: u64,
@@ -59,11 +62,11 @@ extern "C" {
         out_len: usize,
     ) -> u64;
 
-    /// Runs an empty filter of the given window over pairs of words, a time and a sample, 16 bytes to a
-    /// pair. For each pair it writes three words, 24 bytes: the best, the second best and the third
-    /// best sample after that pair. Bytes past the answer keep what they held. Replies 2 if src_len is
-    /// no multiple of 16, 3 if a pair's time is earlier than one of the three times that the filter
-    /// holds then, 7 for an output under 24 bytes a pair.
+    /// Runs an empty filter of the given window over pairs of words, a time and a sample,
+    /// [`table::PAIR_BYTES`] to a pair. For each pair it writes three words, [`table::SAMPLES_BYTES`]: the
+    /// best, the second best and the third best sample after that pair. Bytes past the answer keep what
+    /// they held. Replies 2 for a part of a pair, 3 if a pair's time is earlier than one of the three
+    /// times that the filter holds then, 7 for an output too short for the pairs.
     pub fn guovssalu_filter_run(
         window: u64,
         src: *const u8,
@@ -73,13 +76,14 @@ extern "C" {
     ) -> u64;
 
     /// Carries out calls in order on the state in lent bytes, and leaves the new state there: the model
-    /// and its cycle, 50 words. A call has 49 words, its answer 18; docs/LAYOUT.md has them all. Begin
-    /// with call 0, a start, on a state of zeros. Bytes of answers past the last keep what they held.
+    /// and its cycle, [`table::STATE_BYTES`]. A call has [`table::CALL_BYTES`], its answer
+    /// [`table::ANSWER_BYTES`]; docs/LAYOUT.md says how each word is written. Begin with a start,
+    /// [`table::call::START`], on a state of zeros. Bytes of answers past the last keep what they held.
     ///
-    /// Word 0 of a call's answer is 0 where the call was done, and the refusal's number, 1 to 5, where it
-    /// was refused; the run goes on. The run's own reply of 0 says nothing of its calls: look at each
-    /// answer. A refused call changes nothing, but for a start, which then replaces the state by a fresh
-    /// one at moment 0: look at its answer before going on.
+    /// The first word of a call's answer, [`table::REPLY_IN_ANSWER`], is 0 where the call was done, and the
+    /// refusal's number, 1 to 5, where it was refused; the run goes on. The run's own reply of 0 says
+    /// nothing of its calls: look at each answer. A refused call changes nothing, but for a start, which
+    /// then replaces the state by a fresh one at moment 0: look at its answer before going on.
     ///
     /// A call's words are tested. A flag that is neither 0 nor 1, an f32 with bits above the 32nd, two
     /// words of a number that may be unset that are neither 1 and the number nor 0 and 0, and a count of
@@ -87,8 +91,8 @@ extern "C" {
     /// flag is written as (flag ? 1 : 0). A number that is no call's is refused with 2, or with 1 where
     /// the stored model is out of bounds.
     ///
-    /// The run itself replies 1 for 400 bytes that encode no state, 2 for a state of another length or
-    /// calls that are no whole number of 392 bytes, 7 for answers under 144 bytes a call.
+    /// The run itself replies 1 for bytes that encode no state, 2 for a state of another length or a part
+    /// of a call, 7 for answers too short for the calls.
     pub fn guovssalu_run(
         state: *mut u8,
         state_len: usize,

@@ -1,8 +1,12 @@
 use std::convert::TryInto;
 
-use crate::call::CYCLE_BYTES;
-use crate::call::STATE_BYTES;
 use crate::run;
+use crate::table;
+use crate::table::call;
+use crate::table::phase;
+use crate::table::state;
+use crate::table::CYCLE_BYTES;
+use crate::table::STATE_BYTES;
 use crate::words;
 use crate::Call;
 use crate::Duration;
@@ -15,15 +19,15 @@ use crate::Refusal;
 #[derive(Clone, Copy, Debug, PartialEq, Eq, Hash)]
 pub enum Phase {
     /// No phase was entered yet.
-    NotStarted,
+    NotStarted = phase::NOT_STARTED as isize,
     /// Probes for more bandwidth.
-    Up,
+    Up = phase::UP as isize,
     /// Drains what probing has queued.
-    Down,
+    Down = phase::DOWN as isize,
     /// Sends at the estimate.
-    Cruise,
+    Cruise = phase::CRUISE as isize,
     /// Fills the pipe before it probes.
-    Refill,
+    Refill = phase::REFILL as isize,
 }
 
 /// The cycle of probing for bandwidth, the original's `Cycle`: the phase entries, with the
@@ -43,7 +47,9 @@ impl Cycle {
         let mut cycle = Cycle {
             bytes: [0; Cycle::BYTES],
         };
-        cycle.make_alone(&Call::new(0, &[now.as_nanos()]).with_params(&Params::default()))?;
+        cycle.make_alone(
+            &Call::new(call::START, &[now.as_nanos()]).with_params(&Params::default()),
+        )?;
         Ok(cycle)
     }
 
@@ -54,7 +60,7 @@ impl Cycle {
         state
     }
 
-    /// The bytes of its state, to be kept: words 34 to 49 of docs/LAYOUT.md.
+    /// The bytes of its state, to be kept: the cycle's words of docs/LAYOUT.md.
     pub fn as_bytes(&self) -> &[u8; Cycle::BYTES] {
         &self.bytes
     }
@@ -85,8 +91,17 @@ impl Cycle {
         Ok(())
     }
 
+    /// A word of the state, which is one of the cycle's.
     fn word(&self, at: usize) -> u64 {
-        words::get(&self.bytes, at)
+        words::get(&self.bytes, at - table::CYCLE_IN_STATE)
+    }
+
+    fn flag(&self, at: usize) -> bool {
+        words::get_flag(&self.bytes, at - table::CYCLE_IN_STATE)
+    }
+
+    fn option(&self, at: usize) -> Option<u64> {
+        words::get_option(&self.bytes, at - table::CYCLE_IN_STATE)
     }
 }
 
@@ -102,7 +117,10 @@ impl Cycle {
         params: &Params,
     ) -> Result<(), Refusal> {
         let flags = [probed_too_high as u64, stopped_risky_probe as u64];
-        let call = Call::new(40, &[flags[0], flags[1], now.as_nanos()]);
+        let call = Call::new(
+            call::ENTER_PROBE_DOWN,
+            &[flags[0], flags[1], now.as_nanos()],
+        );
         self.make(model, &call.with_params(params))
     }
 
@@ -112,7 +130,10 @@ impl Cycle {
         model: &mut NetworkModel,
         now: Moment,
     ) -> Result<(), Refusal> {
-        self.make(model, &Call::new(41, &[now.as_nanos()]))
+        self.make(
+            model,
+            &Call::new(call::ENTER_PROBE_CRUISE, &[now.as_nanos()]),
+        )
     }
 
     /// Enters Refill.
@@ -122,7 +143,10 @@ impl Cycle {
         probe_up_rounds: u64,
         now: Moment,
     ) -> Result<(), Refusal> {
-        self.make(model, &Call::new(42, &[probe_up_rounds, now.as_nanos()]))
+        self.make(
+            model,
+            &Call::new(call::ENTER_PROBE_REFILL, &[probe_up_rounds, now.as_nanos()]),
+        )
     }
 
     /// Enters Up.
@@ -132,17 +156,20 @@ impl Cycle {
         now: Moment,
         cwnd: u64,
     ) -> Result<(), Refusal> {
-        self.make(model, &Call::new(43, &[now.as_nanos(), cwnd]))
+        self.make(
+            model,
+            &Call::new(call::ENTER_PROBE_UP, &[now.as_nanos(), cwnd]),
+        )
     }
 
     /// Leaves Down: the largest bandwidth advances, once a cycle.
     pub fn exit_probe_down(&mut self, model: &mut NetworkModel) -> Result<(), Refusal> {
-        self.make(model, &Call::new(44, &[]))
+        self.make(model, &Call::new(call::EXIT_PROBE_DOWN, &[]))
     }
 
     /// The slope by which Up raises inflight_hi becomes steeper. It needs no model.
     pub fn raise_inflight_high_slope(&mut self, cwnd: u64) -> Result<(), Refusal> {
-        self.make_alone(&Call::new(45, &[cwnd]))
+        self.make_alone(&Call::new(call::RAISE_INFLIGHT_HIGH_SLOPE, &[cwnd]))
     }
 }
 
@@ -150,77 +177,78 @@ impl Cycle {
 impl Cycle {
     /// The phase.
     pub fn phase(&self) -> Phase {
-        match self.word(0) {
-            0 => Phase::NotStarted,
-            1 => Phase::Up,
-            2 => Phase::Down,
-            3 => Phase::Cruise,
+        match self.word(state::PHASE) {
+            phase::NOT_STARTED => Phase::NotStarted,
+            phase::UP => Phase::Up,
+            phase::DOWN => Phase::Down,
+            phase::CRUISE => Phase::Cruise,
             _ => Phase::Refill,
         }
     }
 
     /// When the cycle began.
     pub fn start_time(&self) -> Moment {
-        Moment::from_nanos(self.word(1))
+        Moment::from_nanos(self.word(state::START_TIME))
     }
 
     /// When the phase was entered.
     pub fn phase_start_time(&self) -> Moment {
-        Moment::from_nanos(self.word(2))
+        Moment::from_nanos(self.word(state::PHASE_START_TIME))
     }
 
     /// The rounds in the phase.
     pub fn rounds_in_phase(&self) -> u64 {
-        self.word(3)
+        self.word(state::ROUNDS_IN_PHASE)
     }
 
     /// The rounds since the last probe.
     pub fn rounds_since_probe(&self) -> u64 {
-        self.word(4)
+        self.word(state::ROUNDS_SINCE_PROBE)
     }
 
     /// How long the cycle waits before it probes, if it is set.
     pub fn probe_wait_time(&self) -> Option<Duration> {
-        words::get_option(&self.bytes, 5).map(Duration::from_nanos)
+        self.option(state::PROBE_WAIT_TIME_SET)
+            .map(Duration::from_nanos)
     }
 
     /// How often the slope was raised, at most 30.
     pub fn probe_up_rounds(&self) -> u64 {
-        self.word(7)
+        self.word(state::PROBE_UP_ROUNDS)
     }
 
     /// After how many bytes acked inflight_hi rises, if it is set.
     pub fn probe_up_bytes(&self) -> Option<u64> {
-        words::get_option(&self.bytes, 8)
+        self.option(state::PROBE_UP_BYTES_SET)
     }
 
     /// The bytes acked since inflight_hi rose.
     pub fn probe_up_acked(&self) -> u64 {
-        self.word(10)
+        self.word(state::PROBE_UP_ACKED)
     }
 
     /// Whether the application limited the sender since inflight_hi did.
     pub fn probe_up_app_limited_since_inflight_hi_limited(&self) -> bool {
-        words::get_flag(&self.bytes, 11)
+        self.flag(state::PROBE_UP_APP_LIMITED_SINCE_INFLIGHT_HI_LIMITED)
     }
 
     /// Whether the largest bandwidth has advanced in this cycle.
     pub fn has_advanced_max_bw(&self) -> bool {
-        words::get_flag(&self.bytes, 12)
+        self.flag(state::HAS_ADVANCED_MAX_BW)
     }
 
     /// Whether samples come from probing.
     pub fn is_sample_from_probing(&self) -> bool {
-        words::get_flag(&self.bytes, 13)
+        self.flag(state::IS_SAMPLE_FROM_PROBING)
     }
 
     /// Whether the last cycle probed too high.
     pub fn last_cycle_probed_too_high(&self) -> bool {
-        words::get_flag(&self.bytes, 14)
+        self.flag(state::LAST_CYCLE_PROBED_TOO_HIGH)
     }
 
     /// Whether the last cycle stopped a risky probe.
     pub fn last_cycle_stopped_risky_probe(&self) -> bool {
-        words::get_flag(&self.bytes, 15)
+        self.flag(state::LAST_CYCLE_STOPPED_RISKY_PROBE)
     }
 }

@@ -3,7 +3,7 @@
 //!
 //! A [`NetworkModel`] and a [`Cycle`] hold their state as bytes, and their methods have the
 //! original's names. Each call is done, or it is refused with a [`Refusal`] and changes nothing. (One
-//! exception, in a [`run`] over bytes: a refused start, call 0, replaces the state by a fresh one at
+//! exception, in a [`run`] over bytes: a refused start replaces the state by a fresh one at
 //! moment 0.) The clock is the caller's: a [`Moment`] is a number of nanoseconds after a base moment
 //! of its choice. Nothing allocates and nothing is kept between calls.
 //!
@@ -62,12 +62,12 @@ pub use bandwidth::Bandwidth;
 pub use call::run;
 pub use call::Answer;
 pub use call::Call;
-pub use call::STATE_BYTES;
 pub use cycle::Cycle;
 pub use cycle::Phase;
 pub use event::CongestionEvent;
 pub use event::Sample;
 pub use event::SendTimeState;
+pub use guovssalu_sys::table;
 pub use model::NetworkModel;
 pub use numbers::f32_to_u64;
 pub use numbers::f64_round_to_u64;
@@ -78,5 +78,6 @@ pub use numbers::u64_to_f32;
 pub use numbers::u64_to_f64;
 pub use params::Params;
 pub use refusal::Refusal;
+pub use table::STATE_BYTES;
 pub use time::Duration;
 pub use time::Moment;

@@ -1,9 +1,12 @@
 use std::convert::TryInto;
 
-use crate::call::CYCLE_BYTES;
-use crate::call::MODEL_BYTES;
-use crate::call::STATE_BYTES;
 use crate::run;
+use crate::table;
+use crate::table::call;
+use crate::table::state;
+use crate::table::CYCLE_BYTES;
+use crate::table::MODEL_BYTES;
+use crate::table::STATE_BYTES;
 use crate::words;
 use crate::Answer;
 use crate::Bandwidth;
@@ -35,7 +38,7 @@ impl NetworkModel {
     pub const BYTES: usize = MODEL_BYTES;
 
     /// The number that stands for an unset number of bytes, 2^64 - 1.
-    pub const UNSET: u64 = u64::MAX;
+    pub const UNSET: u64 = table::UNSET;
 
     /// A fresh model at the moment `now`.
     pub fn new(params: &Params, initial_rtt: Duration, now: Moment) -> Result<Self, Refusal> {
@@ -43,11 +46,11 @@ impl NetworkModel {
         let mut model = NetworkModel {
             bytes: [0; NetworkModel::BYTES],
         };
-        model.make(&Call::new(0, &arguments).with_params(params))?;
+        model.make(&Call::new(call::START, &arguments).with_params(params))?;
         Ok(model)
     }
 
-    /// The bytes of its state, to be kept: words 0 to 33 of docs/LAYOUT.md.
+    /// The bytes of its state, to be kept: the model's words of docs/LAYOUT.md.
     pub fn as_bytes(&self) -> &[u8; NetworkModel::BYTES] {
         &self.bytes
     }
@@ -116,7 +119,10 @@ impl NetworkModel {
         bytes: u64,
     ) -> Result<(), Refusal> {
         let sent_time = sent_time.as_nanos();
-        let call = Call::new(1, &[sent_time, bytes_in_flight, packet_number, bytes]);
+        let call = Call::new(
+            call::ON_PACKET_SENT,
+            &[sent_time, bytes_in_flight, packet_number, bytes],
+        );
         self.make(&call).map(drop)
     }
 
@@ -141,7 +147,7 @@ impl NetworkModel {
         &mut self,
         congestion_event: &CongestionEvent,
     ) -> Result<(), Refusal> {
-        let call = Call::new(4, &[]).with_event(congestion_event);
+        let call = Call::new(call::ON_CONGESTION_EVENT_FINISH, &[]).with_event(congestion_event);
         self.make(&call).map(drop)
     }
 
@@ -151,7 +157,7 @@ impl NetworkModel {
         congestion_event: &CongestionEvent,
         params: &Params,
     ) -> Result<bool, Refusal> {
-        let call = Call::new(5, &[]).with_event(congestion_event);
+        let call = Call::new(call::MAYBE_EXPIRE_MIN_RTT, &[]).with_event(congestion_event);
         let answer = self.make(&call.with_params(params))?;
         Ok(answer.number()? == 1)
     }
@@ -163,7 +169,8 @@ impl NetworkModel {
         max_loss_events: u64,
         params: &Params,
     ) -> Result<bool, Refusal> {
-        let call = Call::new(6, &[max_loss_events]).with_event(congestion_event);
+        let call =
+            Call::new(call::IS_INFLIGHT_TOO_HIGH, &[max_loss_events]).with_event(congestion_event);
         Ok(self.ask(&call.with_params(params))? == 1)
     }
 
@@ -174,14 +181,15 @@ impl NetworkModel {
         congestion_event: &CongestionEvent,
         params: &Params,
     ) -> Result<bool, Refusal> {
-        let call = Call::new(7, &[]).with_event(congestion_event);
+        let call = Call::new(call::HAS_BANDWIDTH_GROWTH, &[]).with_event(congestion_event);
         let answer = self.make(&call.with_params(params))?;
         Ok(answer.number()? == 1)
     }
 
     /// The round begins anew before its end, uncounted.
     pub fn restart_round_early(&mut self) -> Result<(), Refusal> {
-        self.make(&Call::new(8, &[])).map(drop)
+        self.make(&Call::new(call::RESTART_ROUND_EARLY, &[]))
+            .map(drop)
     }
 
     /// Counts a round with a queue, or begins to count anew.
@@ -190,7 +198,11 @@ impl NetworkModel {
         target_gain: f32,
         params: &Params,
     ) -> Result<(), Refusal> {
-        let call = Call::new(9, &[target_gain.to_bits() as u64]).with_params(params);
+        let call = Call::new(
+            call::CHECK_PERSISTENT_QUEUE,
+            &[target_gain.to_bits() as u64],
+        )
+        .with_params(params);
         self.make(&call).map(drop)
     }
 }
@@ -200,22 +212,22 @@ impl NetworkModel {
     /// The bytes that the bandwidth times the gain carries in the smallest round trip.
     pub fn bdp(&self, bandwidth: Bandwidth, gain: f32) -> Result<u64, Refusal> {
         let arguments = [bandwidth.to_bits_per_second(), gain.to_bits() as u64];
-        self.ask(&Call::new(10, &arguments))
+        self.ask(&Call::new(call::BDP, &arguments))
     }
 
     /// The bytes that the bandwidth carries in the smallest round trip.
     pub fn bdp1(&self, bandwidth: Bandwidth) -> Result<u64, Refusal> {
-        self.ask(&Call::new(11, &[bandwidth.to_bits_per_second()]))
+        self.ask(&Call::new(call::BDP1, &[bandwidth.to_bits_per_second()]))
     }
 
     /// The bytes that the largest bandwidth carries in the smallest round trip.
     pub fn bdp0(&self) -> Result<u64, Refusal> {
-        self.ask(&Call::new(12, &[]))
+        self.ask(&Call::new(call::BDP0, &[]))
     }
 
     /// inflight_hi without the headroom.
     pub fn inflight_hi_with_headroom(&self, params: &Params) -> Result<u64, Refusal> {
-        self.ask(&Call::new(13, &[]).with_params(params))
+        self.ask(&Call::new(call::INFLIGHT_HI_WITH_HEADROOM, &[]).with_params(params))
     }
 }
 
@@ -223,49 +235,59 @@ impl NetworkModel {
 impl NetworkModel {
     /// The full bandwidth counts as reached.
     pub fn set_full_bandwidth_reached(&mut self) -> Result<(), Refusal> {
-        self.make(&Call::new(14, &[])).map(drop)
+        self.make(&Call::new(call::SET_FULL_BANDWIDTH_REACHED, &[]))
+            .map(drop)
     }
 
     /// Sets the pacing gain, 1/1024 to 8.
     pub fn set_pacing_gain(&mut self, pacing_gain: f32) -> Result<(), Refusal> {
-        let call = Call::new(15, &[pacing_gain.to_bits() as u64]);
+        let call = Call::new(call::SET_PACING_GAIN, &[pacing_gain.to_bits() as u64]);
         self.make(&call).map(drop)
     }
 
     /// Sets the window's gain, 1/1024 to 8.
     pub fn set_cwnd_gain(&mut self, cwnd_gain: f32) -> Result<(), Refusal> {
-        let call = Call::new(16, &[cwnd_gain.to_bits() as u64]);
+        let call = Call::new(call::SET_CWND_GAIN, &[cwnd_gain.to_bits() as u64]);
         self.make(&call).map(drop)
     }
 
     /// Sets inflight_hi, or unsets it.
     pub fn set_inflight_hi(&mut self, new_inflight_hi: u64) -> Result<(), Refusal> {
-        self.make(&Call::new(17, &[new_inflight_hi])).map(drop)
+        self.make(&Call::new(call::SET_INFLIGHT_HI, &[new_inflight_hi]))
+            .map(drop)
     }
 
     /// inflight_lo becomes at most the cap; an unset one stays so.
     pub fn cap_inflight_lo(&mut self, cap: u64) -> Result<(), Refusal> {
-        self.make(&Call::new(18, &[cap])).map(drop)
+        self.make(&Call::new(call::CAP_INFLIGHT_LO, &[cap]))
+            .map(drop)
     }
 
     /// Unsets inflight_lo.
     pub fn clear_inflight_lo(&mut self) -> Result<(), Refusal> {
-        self.make(&Call::new(19, &[])).map(drop)
+        self.make(&Call::new(call::CLEAR_INFLIGHT_LO, &[]))
+            .map(drop)
     }
 
     /// Unsets bandwidth_lo.
     pub fn clear_bandwidth_lo(&mut self) -> Result<(), Refusal> {
-        self.make(&Call::new(20, &[])).map(drop)
+        self.make(&Call::new(call::CLEAR_BANDWIDTH_LO, &[]))
+            .map(drop)
     }
 
     /// The newer of the two largest bandwidths becomes the older, unless it is zero.
     pub fn advance_max_bandwidth_filter(&mut self) -> Result<(), Refusal> {
-        self.make(&Call::new(21, &[])).map(drop)
+        self.make(&Call::new(call::ADVANCE_MAX_BANDWIDTH_FILTER, &[]))
+            .map(drop)
     }
 
     /// The smallest round trip counts as so much younger.
     pub fn postpone_min_rtt_timestamp(&mut self, duration: Duration) -> Result<(), Refusal> {
-        self.make(&Call::new(22, &[duration.as_nanos()])).map(drop)
+        self.make(&Call::new(
+            call::POSTPONE_MIN_RTT_TIMESTAMP,
+            &[duration.as_nanos()],
+        ))
+        .map(drop)
     }
 }
 
@@ -274,85 +296,88 @@ impl NetworkModel {
 impl NetworkModel {
     /// The largest bandwidth, or bandwidth_lo where it is lower.
     pub fn bandwidth_estimate(&self) -> Result<Bandwidth, Refusal> {
-        self.ask(&Call::new(23, &[]))
+        self.ask(&Call::new(call::BANDWIDTH_ESTIMATE, &[]))
             .map(Bandwidth::from_bits_per_second)
     }
 
     /// The smallest round trip.
     pub fn min_rtt(&self) -> Result<Duration, Refusal> {
-        self.ask(&Call::new(24, &[])).map(Duration::from_nanos)
+        self.ask(&Call::new(call::MIN_RTT, &[]))
+            .map(Duration::from_nanos)
     }
 
     /// The moment of the smallest round trip.
     pub fn min_rtt_timestamp(&self) -> Result<Moment, Refusal> {
-        self.ask(&Call::new(25, &[])).map(Moment::from_nanos)
+        self.ask(&Call::new(call::MIN_RTT_TIMESTAMP, &[]))
+            .map(Moment::from_nanos)
     }
 
     /// The largest bandwidth.
     pub fn max_bandwidth(&self) -> Result<Bandwidth, Refusal> {
-        self.ask(&Call::new(26, &[]))
+        self.ask(&Call::new(call::MAX_BANDWIDTH, &[]))
             .map(Bandwidth::from_bits_per_second)
     }
 
     /// The most bytes delivered by an event of the round.
     pub fn max_bytes_delivered_in_round(&self) -> Result<u64, Refusal> {
-        self.ask(&Call::new(27, &[]))
+        self.ask(&Call::new(call::MAX_BYTES_DELIVERED_IN_ROUND, &[]))
     }
 
     /// The total of bytes acked.
     pub fn total_bytes_acked(&self) -> Result<u64, Refusal> {
-        self.ask(&Call::new(28, &[]))
+        self.ask(&Call::new(call::TOTAL_BYTES_ACKED, &[]))
     }
 
     /// The total of bytes lost.
     pub fn total_bytes_lost(&self) -> Result<u64, Refusal> {
-        self.ask(&Call::new(29, &[]))
+        self.ask(&Call::new(call::TOTAL_BYTES_LOST, &[]))
     }
 
     /// Whether the full bandwidth counts as reached.
     pub fn full_bandwidth_reached(&self) -> Result<bool, Refusal> {
-        self.ask(&Call::new(30, &[])).map(|answer| answer == 1)
+        self.ask(&Call::new(call::FULL_BANDWIDTH_REACHED, &[]))
+            .map(|answer| answer == 1)
     }
 
     /// The pacing gain.
     pub fn pacing_gain(&self) -> Result<f32, Refusal> {
-        self.ask(&Call::new(31, &[])).map(gain)
+        self.ask(&Call::new(call::PACING_GAIN, &[])).map(gain)
     }
 
     /// The window's gain.
     pub fn cwnd_gain(&self) -> Result<f32, Refusal> {
-        self.ask(&Call::new(32, &[])).map(gain)
+        self.ask(&Call::new(call::CWND_GAIN, &[])).map(gain)
     }
 
     /// The upper bound of the inflight, or unset.
     pub fn inflight_hi(&self) -> Result<u64, Refusal> {
-        self.ask(&Call::new(33, &[]))
+        self.ask(&Call::new(call::INFLIGHT_HI, &[]))
     }
 
     /// What inflight_hi is before it is set: unset.
     pub fn inflight_hi_default(&self) -> Result<u64, Refusal> {
-        self.ask(&Call::new(34, &[]))
+        self.ask(&Call::new(call::INFLIGHT_HI_DEFAULT, &[]))
     }
 
     /// The lower bound of the inflight, or unset.
     pub fn inflight_lo(&self) -> Result<u64, Refusal> {
-        self.ask(&Call::new(35, &[]))
+        self.ask(&Call::new(call::INFLIGHT_LO, &[]))
     }
 
     /// The events with losses in the round.
     pub fn loss_events_in_round(&self) -> Result<u64, Refusal> {
-        self.ask(&Call::new(36, &[]))
+        self.ask(&Call::new(call::LOSS_EVENTS_IN_ROUND, &[]))
     }
 
     /// The rounds with a queue, one after the other.
     pub fn rounds_with_queueing(&self) -> Result<u64, Refusal> {
-        self.ask(&Call::new(37, &[]))
+        self.ask(&Call::new(call::ROUNDS_WITH_QUEUEING, &[]))
     }
 
     /// The bytes by which the inflight may pass the product of bandwidth and delay before it counts
     /// as a queue.
     pub fn queueing_threshold_extra_bytes(&self) -> Result<u64, Refusal> {
-        self.ask(&Call::new(38, &[]))
+        self.ask(&Call::new(call::QUEUEING_THRESHOLD_EXTRA_BYTES, &[]))
     }
 }
 
@@ -361,82 +386,85 @@ impl NetworkModel {
 impl NetworkModel {
     /// How many rounds have ended.
     pub fn round_trip_count(&self) -> u64 {
-        self.word(0)
+        self.word(state::ROUND_TRIP_COUNT)
     }
 
     /// The number of the packet sent last.
     pub fn last_sent_packet(&self) -> u64 {
-        self.word(1)
+        self.word(state::LAST_SENT_PACKET)
     }
 
     /// The number of the packet whose ack does not yet end the round, if it is set.
     pub fn end_of_round_trip(&self) -> Option<u64> {
-        words::get_option(&self.bytes, 2)
+        words::get_option(&self.bytes, state::END_OF_ROUND_TRIP_SET)
     }
 
     /// The bytes lost in the round.
     pub fn bytes_lost_in_round(&self) -> u64 {
-        self.word(8)
+        self.word(state::BYTES_LOST_IN_ROUND)
     }
 
     /// The fewest bytes in flight in the round, or unset.
     pub fn min_bytes_in_flight_in_round(&self) -> u64 {
-        self.word(11)
+        self.word(state::MIN_BYTES_IN_FLIGHT_IN_ROUND)
     }
 
     /// Whether a send of the round reached inflight_hi.
     pub fn inflight_hi_limited_in_round(&self) -> bool {
-        words::get_flag(&self.bytes, 12)
+        words::get_flag(&self.bytes, state::INFLIGHT_HI_LIMITED_IN_ROUND)
     }
 
     /// The largest bandwidth sample of the round.
     pub fn bandwidth_latest(&self) -> Bandwidth {
-        Bandwidth::from_bits_per_second(self.word(13))
+        Bandwidth::from_bits_per_second(self.word(state::BANDWIDTH_LATEST))
     }
 
     /// The largest inflight sample of the round.
     pub fn inflight_latest(&self) -> u64 {
-        self.word(14)
+        self.word(state::INFLIGHT_LATEST)
     }
 
     /// The lower bound of the bandwidth, if it is set.
     pub fn bandwidth_lo(&self) -> Option<Bandwidth> {
-        words::get_bandwidth(&self.bytes, 15)
+        words::get_bandwidth(&self.bytes, state::BANDWIDTH_LO_SET)
     }
 
     /// Whether the window was full before the last event that acked no more than expected.
     pub fn cwnd_limited_before_aggregation_epoch(&self) -> bool {
-        words::get_flag(&self.bytes, 21)
+        words::get_flag(&self.bytes, state::CWND_LIMITED_BEFORE_AGGREGATION_EPOCH)
     }
 
     /// The bandwidth that growth is measured from.
     pub fn full_bandwidth_baseline(&self) -> Bandwidth {
-        Bandwidth::from_bits_per_second(self.word(23))
+        Bandwidth::from_bits_per_second(self.word(state::FULL_BANDWIDTH_BASELINE))
     }
 
     /// The rounds without growth, one after the other.
     pub fn rounds_without_bandwidth_growth(&self) -> u64 {
-        self.word(24)
+        self.word(state::ROUNDS_WITHOUT_BANDWIDTH_GROWTH)
     }
 
     /// Whether rounds limited by the application don't count as rounds without growth.
     pub fn ignore_app_limited_for_no_bandwidth_growth(&self) -> bool {
-        words::get_flag(&self.bytes, 26)
+        words::get_flag(
+            &self.bytes,
+            state::IGNORE_APP_LIMITED_FOR_NO_BANDWIDTH_GROWTH,
+        )
     }
 
     /// The latest send rate, if there is one.
     pub fn latest_send_rate(&self) -> Option<Bandwidth> {
-        words::get_bandwidth(&self.bytes, 27)
+        words::get_bandwidth(&self.bytes, state::LATEST_SEND_RATE_SET)
     }
 
     /// The latest ack rate, if there is one.
     pub fn latest_ack_rate(&self) -> Option<Bandwidth> {
-        words::get_bandwidth(&self.bytes, 29)
+        words::get_bandwidth(&self.bytes, state::LATEST_ACK_RATE_SET)
     }
 
     /// The last accepted moment, which the original doesn't keep.
     pub fn last_accepted_moment(&self) -> Moment {
-        Moment::from_nanos(self.word(33))
+        Moment::from_nanos(self.word(state::LAST_ACCEPTED_MOMENT))
     }
 }
 

@@ -1,4 +1,6 @@
 use crate::foreign;
+use crate::table;
+use crate::table::slope;
 use crate::words;
 use crate::Refusal;
 
@@ -35,19 +37,20 @@ pub fn scale(n: u64, gain: f32) -> u64 {
 ///
 /// `OutOfBounds` for rounds over 30, `BadArgument` for a window above 2^40.
 pub fn raise_inflight_high_slope(rounds: u64, window: u64) -> Result<(u64, u64), Refusal> {
-    let mut out = [0; 16];
+    let mut out = [0; table::SLOPE_BYTES];
     Refusal::of(foreign::raise_inflight_high_slope(rounds, window, &mut out))?;
-    Ok((words::get(&out, 0), words::get(&out, 1)))
+    let word = |at: usize| words::get(&out, at);
+    Ok((word(slope::PROBE_UP_ROUNDS), word(slope::PROBE_UP_BYTES)))
 }
 
 /// Runs an empty windowed filter over pairs of a time and a sample: words of 64 bits, the lowest byte
-/// first, 16 bytes to a pair. For each pair it writes the best, the second and the third sample after
-/// it, 24 bytes. What the output has beyond them keeps its bytes.
+/// first, [`table::PAIR_BYTES`] to a pair. For each pair it writes the best, the second and the third
+/// sample after it, [`table::SAMPLES_BYTES`]. What the output has beyond them keeps its bytes.
 ///
 /// # Errors
 ///
-/// `BadArgument` for pairs not in whole sixteens, `EarlierMoment` where a pair's time is earlier than
-/// one that the filter holds then, `ShortOutput` for an output under 24 bytes a pair. Then no byte is
+/// `BadArgument` for a part of a pair, `EarlierMoment` where a pair's time is earlier than one that
+/// the filter holds then, `ShortOutput` for an output too short for the pairs. Then no byte is
 /// written.
 pub fn filter_run(window: u64, pairs: &[u8], out: &mut [u8]) -> Result<(), Refusal> {
     Refusal::of(foreign::filter_run(window, pairs, out))

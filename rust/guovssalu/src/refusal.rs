@@ -1,6 +1,8 @@
 use std::error::Error;
 use std::fmt;
 
+use crate::table::reply;
+
 /// Why a call was refused: rows 1 to 7 of the table of refusals. Where several rows apply, the lowest
 /// is given. A refused call has changed nothing, but for a start (call 0) in a [`run`](crate::run),
 /// which has then replaced the state by a fresh one at moment 0.
@@ -11,21 +13,21 @@ use std::fmt;
 pub enum Refusal {
     /// 1: a stored number or a parameter is outside its bounds, a parameter's word is malformed, or
     /// bytes encode no state.
-    OutOfBounds = 1,
+    OutOfBounds = reply::OUT_OF_BOUNDS as isize,
     /// 2: an argument is outside its bounds or its word is malformed, a number is no call's, bytes
     /// have a wrong length, or a postponed moment would pass 2^62.
-    BadArgument = 2,
+    BadArgument = reply::BAD_ARGUMENT as isize,
     /// 3: the moment is earlier than the last accepted one; in a windowed filter, earlier than one
     /// of its three stored times.
-    EarlierMoment = 3,
+    EarlierMoment = reply::EARLIER_MOMENT as isize,
     /// 4: the total acked or the total lost is lower than the stored one.
-    LowerTotal = 4,
+    LowerTotal = reply::LOWER_TOTAL as isize,
     /// 5: the call would add 1 to a counter that is 2^64 - 1.
-    FullCounter = 5,
+    FullCounter = reply::FULL_COUNTER as isize,
     /// 6: text that doesn't follow its layout. No call of this crate reads text.
-    BadText = 6,
+    BadText = reply::BAD_TEXT as isize,
     /// 7: the output is shorter than the answer.
-    ShortOutput = 7,
+    ShortOutput = reply::SHORT_OUTPUT as isize,
 }
 
 impl Refusal {
@@ -35,17 +37,17 @@ impl Refusal {
     }
 
     /// What the number of a reply says: 0 is done.
-    pub(crate) fn of(reply: u64) -> Result<(), Refusal> {
-        Err(match reply {
-            0 => return Ok(()),
-            1 => Refusal::OutOfBounds,
-            2 => Refusal::BadArgument,
-            3 => Refusal::EarlierMoment,
-            4 => Refusal::LowerTotal,
-            5 => Refusal::FullCounter,
-            6 => Refusal::BadText,
-            7 => Refusal::ShortOutput,
-            _ => panic!("{} is no reply", reply),
+    pub(crate) fn of(number: u64) -> Result<(), Refusal> {
+        Err(match number {
+            reply::DONE => return Ok(()),
+            reply::OUT_OF_BOUNDS => Refusal::OutOfBounds,
+            reply::BAD_ARGUMENT => Refusal::BadArgument,
+            reply::EARLIER_MOMENT => Refusal::EarlierMoment,
+            reply::LOWER_TOTAL => Refusal::LowerTotal,
+            reply::FULL_COUNTER => Refusal::FullCounter,
+            reply::BAD_TEXT => Refusal::BadText,
+            reply::SHORT_OUTPUT => Refusal::ShortOutput,
+            _ => panic!("{} is no reply", number),
         })
     }
 }

@@ -3,6 +3,7 @@
 use std::fs;
 use std::path::Path;
 
+use guovssalu::table::PAIR_BYTES;
 use guovssalu::Bandwidth;
 use guovssalu::Duration;
 
@@ -100,7 +101,7 @@ impl Run {
         let mut out = vec![0; self.samples.len()];
         guovssalu::filter_run(self.window, &self.pairs, &mut out).unwrap();
         assert!(out == self.samples, "window {}", self.window);
-        self.pairs.len() / 16
+        self.pairs.len() / PAIR_BYTES
     }
 }
 

@@ -3,6 +3,18 @@
 
 use guovssalu::filter_run;
 use guovssalu::run;
+use guovssalu::table;
+use guovssalu::table::call;
+use guovssalu::table::event;
+use guovssalu::table::params;
+use guovssalu::table::sample;
+use guovssalu::table::state;
+use guovssalu::table::EVENT_IN_CALL as EVENT;
+use guovssalu::table::PAIR_BYTES;
+use guovssalu::table::PARAMS_IN_CALL as PARAMS;
+use guovssalu::table::REPLY_IN_ANSWER as REPLY;
+use guovssalu::table::SAMPLES_BYTES;
+use guovssalu::table::WORD_BYTES as WORD;
 use guovssalu::Answer;
 use guovssalu::Call;
 use guovssalu::CongestionEvent;
@@ -52,23 +64,23 @@ impl Guarded {
 /// A start, a send and a question.
 fn calls() -> Vec<u8> {
     let mut calls = Vec::new();
-    let start = Call::new(0, &[5, 100_000_000]).with_params(&Params::default());
+    let start = Call::new(call::START, &[5, 100_000_000]).with_params(&Params::default());
     calls.extend(start.as_bytes());
-    calls.extend(Call::new(1, &[6, 0, 9, 1200]).as_bytes());
-    calls.extend(Call::new(24, &[]).as_bytes());
+    calls.extend(Call::new(call::ON_PACKET_SENT, &[6, 0, 9, 1200]).as_bytes());
+    calls.extend(Call::new(call::MIN_RTT, &[]).as_bytes());
     calls
 }
 
 fn word(bytes: &[u8], at: usize) -> u64 {
-    let mut word = [0; 8];
-    word.copy_from_slice(&bytes[8 * at..8 * at + 8]);
+    let mut word = [0; WORD];
+    word.copy_from_slice(&bytes[WORD * at..][..WORD]);
     u64::from_le_bytes(word)
 }
 
 #[test]
 fn a_run_stays_within_its_bytes() {
     let calls = calls();
-    for spare in [0, 1, 7, 144] {
+    for spare in [0, 1, 7, Answer::BYTES] {
         let mut state = Guarded::new(&[0; STATE_BYTES]);
         let mut answers = Guarded::new(&vec![0x77; 3 * Answer::BYTES + spare]);
         let mut lent = Guarded::new(&calls);
@@ -78,11 +90,12 @@ fn a_run_stays_within_its_bytes() {
         );
         assert!(lent.checked() == calls);
         // The number of the packet sent, and the last accepted moment.
-        assert_eq!(word(state.checked(), 1), 9);
-        assert_eq!(word(state.checked(), 33), 6);
+        assert_eq!(word(state.checked(), state::LAST_SENT_PACKET), 9);
+        assert_eq!(word(state.checked(), state::LAST_ACCEPTED_MOMENT), 6);
         let answers = answers.checked();
         assert!(answers[..2 * Answer::BYTES].iter().all(|&byte| byte == 0));
-        assert_eq!(word(answers, 2 * 18 + 1), 100_000_000);
+        let last = &answers[2 * Answer::BYTES..];
+        assert_eq!(word(last, table::VALUE_IN_ANSWER), 100_000_000);
         let beyond = &answers[3 * Answer::BYTES..];
         assert!(beyond.len() == spare && beyond.iter().all(|&byte| byte == 0x77));
     }
@@ -103,10 +116,10 @@ fn a_run_refuses_wrong_lengths() {
     let calls = calls();
     let state = [0; STATE_BYTES + 1];
     let room = 3 * Answer::BYTES;
-    for length in [0, 1, STATE_BYTES - 8, STATE_BYTES - 1, STATE_BYTES + 1] {
+    for length in [0, 1, STATE_BYTES - WORD, STATE_BYTES - 1, STATE_BYTES + 1] {
         refused(&state[..length], &calls, room, Refusal::BadArgument);
     }
-    for length in [1, 391, 393, 3 * 392 - 1] {
+    for length in [1, Call::BYTES - 1, Call::BYTES + 1, 3 * Call::BYTES - 1] {
         refused(
             &state[..STATE_BYTES],
             &calls[..length],
@@ -114,7 +127,7 @@ fn a_run_refuses_wrong_lengths() {
             Refusal::BadArgument,
         );
     }
-    for short in [0, 1, 143, room - 1] {
+    for short in [0, 1, Answer::BYTES - 1, room - 1] {
         refused(&state[..STATE_BYTES], &calls, short, Refusal::ShortOutput);
     }
     // Row 2 comes before row 7.
@@ -124,12 +137,14 @@ fn a_run_refuses_wrong_lengths() {
 #[test]
 fn a_number_of_no_call_is_answered_and_the_run_goes_on() {
     let mut known = calls();
-    known.extend(Call::new(1, &[7, 0, 11, 1200]).as_bytes());
-    known.extend(Call::new(25, &[]).as_bytes());
+    known.extend(Call::new(call::ON_PACKET_SENT, &[7, 0, 11, 1200]).as_bytes());
+    known.extend(Call::new(call::MIN_RTT_TIMESTAMP, &[]).as_bytes());
     let mut state = [0; STATE_BYTES];
     let mut answers = [0; 5 * Answer::BYTES];
     assert_eq!(run(&mut state, &known, &mut answers), Ok(()));
+    // By hand, so that a table with other numbers is noticed.
     for number in [2, 39, 46, 47, 99, 256, 1 << 32, (1 << 32) + 1, u64::MAX] {
+        assert!(!call::ALL.contains(&number));
         // In the middle: the calls before and after it do as they do without it.
         let (before, after) = known.split_at(3 * Call::BYTES);
         let unknown = Call::new(number, &[]);
@@ -141,22 +156,23 @@ fn a_number_of_no_call_is_answered_and_the_run_goes_on() {
         let (first, rest) = given.split_at(3 * Answer::BYTES);
         let (refused, last) = rest.split_at(Answer::BYTES);
         assert!([first, last].concat() == answers && left == state);
-        assert_eq!(word(refused, 0), Refusal::BadArgument.number());
-        assert!(refused[8..].iter().all(|&byte| byte == 0));
+        assert_eq!(word(refused, REPLY), Refusal::BadArgument.number());
+        assert!(refused[WORD..].iter().all(|&byte| byte == 0));
 
         // In a state out of bounds, as zeros are, row 1 comes before row 2.
         let mut zeros = [0; STATE_BYTES];
         let mut answer = [0x77; Answer::BYTES];
         assert_eq!(run(&mut zeros, unknown.as_bytes(), &mut answer), Ok(()));
-        assert_eq!(word(&answer, 0), Refusal::OutOfBounds.number());
-        assert!(zeros == [0; STATE_BYTES] && answer[8..].iter().all(|&byte| byte == 0));
+        assert_eq!(word(&answer, REPLY), Refusal::OutOfBounds.number());
+        assert!(zeros == [0; STATE_BYTES] && answer[WORD..].iter().all(|&byte| byte == 0));
     }
 }
 
 #[test]
 fn a_run_refuses_what_is_no_state() {
-    // Word 12 is a flag, word 34 the phase.
-    for (at, byte) in [(8 * 12, 2), (8 * 12 + 7, 1), (8 * 34, 5)] {
+    // A flag, and the phase.
+    let flag = WORD * state::INFLIGHT_HI_LIMITED_IN_ROUND;
+    for (at, byte) in [(flag, 2), (flag + 7, 1), (WORD * state::PHASE, 5)] {
         let mut state = [0; STATE_BYTES];
         state[at] = byte;
         refused(&state, &calls(), 3 * Answer::BYTES, Refusal::OutOfBounds);
@@ -176,14 +192,17 @@ fn a_run_of_no_calls_leaves_the_state() {
 fn a_refused_call_is_answered_and_the_run_goes_on() {
     let mut calls = calls();
     // A send before the last accepted moment, then one after it.
-    calls.extend(Call::new(1, &[5, 0, 10, 1200]).as_bytes());
-    calls.extend(Call::new(1, &[7, 0, 11, 1200]).as_bytes());
+    calls.extend(Call::new(call::ON_PACKET_SENT, &[5, 0, 10, 1200]).as_bytes());
+    calls.extend(Call::new(call::ON_PACKET_SENT, &[7, 0, 11, 1200]).as_bytes());
     let mut state = [0; STATE_BYTES];
     let mut answers = [0x77; 5 * Answer::BYTES];
     assert_eq!(run(&mut state, &calls, &mut answers), Ok(()));
-    let replies: Vec<u64> = (0..5).map(|at| word(&answers, 18 * at)).collect();
+    let replies: Vec<u64> = answers
+        .chunks(Answer::BYTES)
+        .map(|answer| word(answer, REPLY))
+        .collect();
     assert_eq!(replies, [0, 0, 0, 3, 0]);
-    assert_eq!(word(&state, 1), 11);
+    assert_eq!(word(&state, state::LAST_SENT_PACKET), 11);
 }
 
 /// The state after the calls above.
@@ -201,9 +220,14 @@ fn event_with(words: &[(usize, u64)]) -> [u8; Call::BYTES] {
     let good = Call::on_congestion_event_start(&[9], &event, &sample, &params);
     let mut call = *good.as_bytes();
     for (at, word) in words {
-        call[8 * at..8 * at + 8].copy_from_slice(&word.to_le_bytes());
+        call[WORD * at..][..WORD].copy_from_slice(&word.to_le_bytes());
     }
     call
+}
+
+/// The bytes of the record that begins with this word.
+fn record(bytes: &[u8], first: usize) -> &[u8] {
+    &bytes[WORD * first..][..table::EVENT_BYTES]
 }
 
 /// A refused event's record comes back byte for byte, whatever its words are.
@@ -212,30 +236,88 @@ fn a_refused_event_gives_its_record_back() {
     let mut state = begun();
     let with = event_with;
     let most = u64::MAX;
-    let all: Vec<(usize, u64)> = (22..38).map(|at| (at, most - at as u64)).collect();
+    let all: Vec<(usize, u64)> = (EVENT..EVENT + table::EVENT_WORDS)
+        .map(|at| (at, most - at as u64))
+        .collect();
     for (row, call) in [
         // A parameter: a bad one, a malformed one, both beside a malformed record.
-        (1, with(&[(38, 0)])),
-        (1, with(&[(48, 2)])),
-        (1, with(&[(48, 2), (28, 3), (30, 0), (31, 7)])),
+        (1, with(&[(PARAMS + params::BETA, 0)])),
+        (
+            1,
+            with(&[(
+                PARAMS + params::IGNORE_APP_LIMITED_FOR_NO_BANDWIDTH_GROWTH,
+                2,
+            )]),
+        ),
+        (
+            1,
+            with(&[
+                (
+                    PARAMS + params::IGNORE_APP_LIMITED_FOR_NO_BANDWIDTH_GROWTH,
+                    2,
+                ),
+                (EVENT + event::END_OF_ROUND_TRIP, 3),
+                (EVENT + event::SAMPLE_MAX_BANDWIDTH_SET, 0),
+                (EVENT + event::SAMPLE_MAX_BANDWIDTH, 7),
+            ]),
+        ),
         // The record's own words: flags, pairs, numbers, all of them.
-        (2, with(&[(28, 2)])),
-        (2, with(&[(29, most)])),
-        (2, with(&[(30, 0), (31, 5)])),
-        (2, with(&[(32, 2), (33, 5)])),
-        (2, with(&[(34, 255), (35, 1 << 32)])),
-        (2, with(&[(28, 2), (29, 255), (32, 0), (33, 5)])),
-        (2, with(&[(23, most)])),
+        (2, with(&[(EVENT + event::END_OF_ROUND_TRIP, 2)])),
+        (2, with(&[(EVENT + event::IS_PROBING_FOR_BANDWIDTH, most)])),
+        (
+            2,
+            with(&[
+                (EVENT + event::SAMPLE_MAX_BANDWIDTH_SET, 0),
+                (EVENT + event::SAMPLE_MAX_BANDWIDTH, 5),
+            ]),
+        ),
+        (
+            2,
+            with(&[
+                (EVENT + event::SAMPLE_MIN_RTT_SET, 2),
+                (EVENT + event::SAMPLE_MIN_RTT, 5),
+            ]),
+        ),
+        (
+            2,
+            with(&[
+                (EVENT + event::LAST_PACKET_SEND_STATE_IS_VALID, 255),
+                (
+                    EVENT + event::LAST_PACKET_SEND_STATE_IS_APP_LIMITED,
+                    1 << 32,
+                ),
+            ]),
+        ),
+        (
+            2,
+            with(&[
+                (EVENT + event::END_OF_ROUND_TRIP, 2),
+                (EVENT + event::IS_PROBING_FOR_BANDWIDTH, 255),
+                (EVENT + event::SAMPLE_MIN_RTT_SET, 0),
+                (EVENT + event::SAMPLE_MIN_RTT, 5),
+            ]),
+        ),
+        (2, with(&[(EVENT + event::PRIOR_CWND, most)])),
         (2, with(&all)),
         // A malformed argument beside a good record, and an earlier moment.
-        (2, with(&[(7, 2)])),
-        (3, with(&[(22, 5), (34, 1), (35, 1)])),
+        (2, with(&[(sample::SAMPLE_IS_APP_LIMITED, 2)])),
+        (
+            3,
+            with(&[
+                (EVENT + event::EVENT_TIME, 5),
+                (EVENT + event::LAST_PACKET_SEND_STATE_IS_VALID, 1),
+                (EVENT + event::LAST_PACKET_SEND_STATE_IS_APP_LIMITED, 1),
+            ]),
+        ),
     ] {
         let before = state;
         let mut answer = [0x77; Answer::BYTES];
         assert_eq!(run(&mut state, &call, &mut answer), Ok(()));
-        assert_eq!((word(&answer, 0), word(&answer, 1)), (row, 0));
-        assert!(answer[16..] == call[8 * 22..8 * 38]);
+        assert_eq!(
+            (word(&answer, REPLY), word(&answer, table::VALUE_IN_ANSWER)),
+            (row, 0)
+        );
+        assert!(record(&answer, table::EVENT_IN_ANSWER) == record(&call, EVENT));
         assert!(state == before);
         // It is not read: it could have words that no record of the package has.
         let refusal = Answer::from_bytes(&answer).event().unwrap_err();
@@ -243,7 +325,7 @@ fn a_refused_event_gives_its_record_back() {
     }
     let mut answer = [0x77; Answer::BYTES];
     assert_eq!(run(&mut state, &with(&[]), &mut answer), Ok(()));
-    assert_eq!(word(&answer, 0), 0);
+    assert_eq!(word(&answer, REPLY), 0);
     let event = Answer::from_bytes(&answer).event().unwrap();
     assert!(event.event_time == Moment::from_nanos(8) && event.end_of_round_trip);
 }
@@ -252,40 +334,50 @@ fn a_refused_event_gives_its_record_back() {
 /// bytes and as it is read; a refused one's is still malformed.
 #[test]
 fn a_record_is_handed_on_as_it_is() {
-    let bad = [(28, 2), (29, 255), (32, 0), (33, 5)];
+    let bad = [
+        (EVENT + event::END_OF_ROUND_TRIP, 2),
+        (EVENT + event::IS_PROBING_FOR_BANDWIDTH, 255),
+        (EVENT + event::SAMPLE_MIN_RTT_SET, 0),
+        (EVENT + event::SAMPLE_MIN_RTT, 5),
+    ];
     for (words, row) in [(&[][..], 0), (&bad[..], 2)] {
         let mut state = begun();
         let mut answer = [0x77; Answer::BYTES];
         assert_eq!(run(&mut state, &event_with(words), &mut answer), Ok(()));
         let event = Answer::from_bytes(&answer).event();
-        let mut end = *Call::new(4, &[]).as_bytes();
-        end[8 * 22..8 * 38].copy_from_slice(&answer[16..]);
+        let mut end = *Call::new(call::ON_CONGESTION_EVENT_FINISH, &[]).as_bytes();
+        end[WORD * EVENT..][..table::EVENT_BYTES]
+            .copy_from_slice(record(&answer, table::EVENT_IN_ANSWER));
         match event {
-            Ok(event) => assert!(end == *Call::new(4, &[]).with_event(&event).as_bytes()),
+            Ok(event) => assert!(
+                end == *Call::new(call::ON_CONGESTION_EVENT_FINISH, &[])
+                    .with_event(&event)
+                    .as_bytes()
+            ),
             Err(refusal) => assert_eq!(refusal.number(), row),
         }
         assert_eq!(run(&mut state, &end, &mut answer), Ok(()));
-        assert_eq!(word(&answer, 0), row);
+        assert_eq!(word(&answer, REPLY), row);
     }
 }
 
 /// The event of an answer of zeros but for one word.
 fn event_of(at: usize, word: u64) -> CongestionEvent {
     let mut answer = [0; Answer::BYTES];
-    answer[8 * at..8 * at + 8].copy_from_slice(&word.to_le_bytes());
+    answer[WORD * at..][..WORD].copy_from_slice(&word.to_le_bytes());
     Answer::from_bytes(&answer).event().unwrap()
 }
 
 #[test]
 #[should_panic(expected = "2 is no flag")]
 fn a_flag_that_no_run_writes_is_not_read() {
-    event_of(8, 2);
+    event_of(table::EVENT_IN_ANSWER + event::END_OF_ROUND_TRIP, 2);
 }
 
 #[test]
 #[should_panic(expected = "0 and 5 are no number and not unset")]
 fn a_pair_that_no_run_writes_is_not_read() {
-    event_of(11, 5);
+    event_of(table::EVENT_IN_ANSWER + event::SAMPLE_MAX_BANDWIDTH, 5);
 }
 
 fn pairs(pairs: &[(u64, u64)]) -> Vec<u8> {
@@ -300,15 +392,15 @@ fn pairs(pairs: &[(u64, u64)]) -> Vec<u8> {
 #[test]
 fn a_filter_run_stays_within_its_bytes() {
     let src = pairs(&[(0, 5), (2, 5), (3, 4)]);
-    for spare in [0, 1, 24] {
-        let mut out = Guarded::new(&vec![0x77; 72 + spare]);
+    for spare in [0, 1, SAMPLES_BYTES] {
+        let mut out = Guarded::new(&vec![0x77; 3 * SAMPLES_BYTES + spare]);
         let mut lent = Guarded::new(&src);
         assert_eq!(filter_run(8, lent.content(), out.content()), Ok(()));
         assert!(lent.checked() == src);
         let out = out.checked();
         let samples: Vec<u64> = (0..9).map(|at| word(out, at)).collect();
         assert_eq!(samples, [5, 5, 5, 5, 5, 5, 5, 4, 4]);
-        assert!(out[72..].iter().all(|&byte| byte == 0x77));
+        assert!(out[3 * SAMPLES_BYTES..].iter().all(|&byte| byte == 0x77));
     }
 }
 
@@ -320,14 +412,18 @@ fn a_filter_run_refuses_and_writes_nothing() {
         assert!(out.checked().iter().all(|&byte| byte == 0x77));
     };
     let src = pairs(&[(5, 1), (4, 1)]);
-    refused(&src[..15], 24, Refusal::BadArgument);
-    refused(&src[..17], 48, Refusal::BadArgument);
+    refused(&src[..PAIR_BYTES - 1], SAMPLES_BYTES, Refusal::BadArgument);
+    refused(
+        &src[..PAIR_BYTES + 1],
+        2 * SAMPLES_BYTES,
+        Refusal::BadArgument,
+    );
     // The second pair is too early, though the first could be written.
-    refused(&src, 48, Refusal::EarlierMoment);
-    refused(&src[..16], 23, Refusal::ShortOutput);
-    refused(&src[..16], 0, Refusal::ShortOutput);
+    refused(&src, 2 * SAMPLES_BYTES, Refusal::EarlierMoment);
+    refused(&src[..PAIR_BYTES], SAMPLES_BYTES - 1, Refusal::ShortOutput);
+    refused(&src[..PAIR_BYTES], 0, Refusal::ShortOutput);
     // The lowest row is given.
-    refused(&src[..31], 0, Refusal::BadArgument);
+    refused(&src[..2 * PAIR_BYTES - 1], 0, Refusal::BadArgument);
     refused(&src, 0, Refusal::EarlierMoment);
     assert_eq!(filter_run(8, &[], &mut []), Ok(()));
 }
@@ -337,7 +433,7 @@ fn of_many_packets_acked_the_last_three_are_handed_on() {
     let numbers = |acked: &[u64]| {
         let (event, sample) = (CongestionEvent::default(), Sample::default());
         let call = Call::on_congestion_event_start(acked, &event, &sample, &Params::default());
-        let words = 18..22;
+        let words = sample::ACKED_COUNT..=sample::ACKED_PACKETS + 2;
         words
             .map(|at| word(call.as_bytes(), at))
             .collect::<Vec<_>>()

@@ -4,6 +4,22 @@
 
 use guovssalu::raise_inflight_high_slope;
 use guovssalu::run;
+use guovssalu::table;
+use guovssalu::table::argument;
+use guovssalu::table::argument::bdp;
+use guovssalu::table::argument::check_persistent_queue;
+use guovssalu::table::argument::enter_probe_down;
+use guovssalu::table::argument::set_cwnd_gain;
+use guovssalu::table::argument::set_pacing_gain;
+use guovssalu::table::call;
+use guovssalu::table::event;
+use guovssalu::table::params;
+use guovssalu::table::phase;
+use guovssalu::table::sample;
+use guovssalu::table::state;
+use guovssalu::table::EVENT_IN_CALL as EVENT;
+use guovssalu::table::PARAMS_IN_CALL as PARAMS;
+use guovssalu::table::WORD_BYTES as WORD;
 use guovssalu::Answer;
 use guovssalu::Bandwidth;
 use guovssalu::Call;
@@ -38,7 +54,7 @@ fn with(at: usize, word: u64) -> NetworkModel {
 
 fn changed(bytes: &[u8], at: usize, word: u64) -> Vec<u8> {
     let mut bytes = bytes.to_vec();
-    bytes[8 * at..8 * at + 8].copy_from_slice(&word.to_le_bytes());
+    bytes[WORD * at..][..WORD].copy_from_slice(&word.to_le_bytes());
     bytes
 }
 
@@ -125,7 +141,7 @@ fn arguments_at_their_bounds() {
 
     let high = |bytes: u64| move |model: &mut NetworkModel| model.set_inflight_hi(bytes);
     done(fresh(), high(MOST_BYTES));
-    done(with(18, 7), high(NetworkModel::UNSET));
+    done(with(state::INFLIGHT_HI, 7), high(NetworkModel::UNSET));
     refused(fresh(), bad, high(MOST_BYTES + 1));
     refused(fresh(), bad, high(NetworkModel::UNSET - 1));
 
@@ -139,13 +155,14 @@ fn arguments_at_their_bounds() {
     };
     done(fresh(), later(MOST_LENGTH));
     refused(fresh(), bad, later(MOST_LENGTH + 1));
-    done(with(7, MOST_MOMENT - 1), later(1));
-    refused(with(7, MOST_MOMENT - 1), bad, later(2));
+    let old = || with(state::MIN_RTT_TIMESTAMP, MOST_MOMENT - 1);
+    done(old(), later(1));
+    refused(old(), bad, later(2));
 }
 
 #[test]
 fn a_stored_number_out_of_bounds_is_refused_by_every_call() {
-    let model = || with(4, MOST_BANDWIDTH + 1);
+    let model = || with(state::MAX_BANDWIDTH_0, MOST_BANDWIDTH + 1);
     let row = Refusal::OutOfBounds;
     refused(model(), row, |model| {
         model.on_packet_sent(moment(0), 0, 1, 1)
@@ -155,7 +172,7 @@ fn a_stored_number_out_of_bounds_is_refused_by_every_call() {
     assert_eq!(model().queueing_threshold_extra_bytes(), Err(row));
     // The lowest row is given: the argument is bad, too.
     refused(model(), row, |model| model.set_pacing_gain(f32::NAN));
-    done(with(4, MOST_BANDWIDTH), |model| {
+    done(with(state::MAX_BANDWIDTH_0, MOST_BANDWIDTH), |model| {
         model.on_packet_sent(moment(10), 0, 1, 1)
     });
 }
@@ -211,12 +228,13 @@ fn totals_may_not_fall() {
 
 #[test]
 fn counters_may_be_full() {
-    // round_trip_count: an event that ends a round is refused, one that ends none is not.
-    refused(with(0, u64::MAX), Refusal::FullCounter, |model| {
+    // An event that ends a round is refused, one that ends none is not.
+    let rounds = |count: u64| with(state::ROUND_TRIP_COUNT, count);
+    refused(rounds(u64::MAX), Refusal::FullCounter, |model| {
         event(model, &[1], (1000, 0))
     });
-    done(with(0, u64::MAX), |model| event(model, &[], (1000, 0)));
-    done(with(0, u64::MAX - 1), |model| event(model, &[1], (1000, 0)));
+    done(rounds(u64::MAX), |model| event(model, &[], (1000, 0)));
+    done(rounds(u64::MAX - 1), |model| event(model, &[1], (1000, 0)));
 }
 
 #[test]
@@ -257,25 +275,27 @@ fn only_bytes_of_a_state_are_taken() {
     };
     let none = Err(Refusal::OutOfBounds);
     // A flag that is neither 0 nor 1.
-    assert_eq!(taken(12, 1), Ok(()));
-    assert_eq!(taken(12, 2), none);
+    assert_eq!(taken(state::INFLIGHT_HI_LIMITED_IN_ROUND, 1), Ok(()));
+    assert_eq!(taken(state::INFLIGHT_HI_LIMITED_IN_ROUND, 2), none);
     // An unset thing with a number.
-    assert_eq!(taken(3, 1), none);
-    assert_eq!(taken(16, 1), none);
+    assert_eq!(taken(state::END_OF_ROUND_TRIP, 1), none);
+    assert_eq!(taken(state::BANDWIDTH_LO, 1), none);
     // A gain: its high bits, and the patterns of a NaN but one.
-    assert_eq!(taken(19, 0x3f80_0000), Ok(()));
-    assert_eq!(taken(19, 0x1_3f80_0000), none);
-    assert_eq!(taken(19, 0x7fc0_0000), Ok(()));
-    assert_eq!(taken(19, 0x7fc0_0001), none);
-    assert_eq!(taken(19, 0xffc0_0000), none);
+    assert_eq!(taken(state::CWND_GAIN, 0x3f80_0000), Ok(()));
+    assert_eq!(taken(state::CWND_GAIN, 0x1_3f80_0000), none);
+    assert_eq!(taken(state::CWND_GAIN, 0x7fc0_0000), Ok(()));
+    assert_eq!(taken(state::CWND_GAIN, 0x7fc0_0001), none);
+    assert_eq!(taken(state::CWND_GAIN, 0xffc0_0000), none);
 
     let cycle = Cycle::new(moment(3)).unwrap();
-    let taken =
-        |at: usize, word: u64| Cycle::from_bytes(&changed(cycle.as_bytes(), at, word)).map(|_| ());
-    assert_eq!(taken(0, 4), Ok(()));
-    assert_eq!(taken(0, 5), none);
-    assert_eq!(taken(6, 1), none);
-    assert_eq!(taken(15, 2), none);
+    let taken = |at: usize, word: u64| {
+        let bytes = changed(cycle.as_bytes(), at - table::CYCLE_IN_STATE, word);
+        Cycle::from_bytes(&bytes).map(|_| ())
+    };
+    assert_eq!(taken(state::PHASE, 4), Ok(()));
+    assert_eq!(taken(state::PHASE, 5), none);
+    assert_eq!(taken(state::PROBE_WAIT_TIME, 1), none);
+    assert_eq!(taken(state::LAST_CYCLE_STOPPED_RISKY_PROBE, 2), none);
 
     // Lengths.
     let bad = Some(Refusal::BadArgument);
@@ -307,7 +327,7 @@ fn of_many_packets_acked_the_last_counts() {
 /// A state with a model and a cycle at moment 10.
 fn started() -> [u8; STATE_BYTES] {
     let mut state = [0; STATE_BYTES];
-    let start = Call::new(0, &[10, 100_000_000]).with_params(&Params::default());
+    let start = Call::new(call::START, &[10, 100_000_000]).with_params(&Params::default());
     assert_eq!(reply(&mut state, start.as_bytes()), 0);
     state
 }
@@ -317,8 +337,9 @@ fn reply(state: &mut [u8; STATE_BYTES], call: &[u8]) -> u64 {
     let before = *state;
     let mut answer = [0x77; Answer::BYTES];
     assert_eq!(run(state, call, &mut answer), Ok(()));
-    let number = word(&answer, 0);
-    assert!(number == 0 || word(call, 0) == 0 || *state == before);
+    let number = word(&answer, table::REPLY_IN_ANSWER);
+    let starts = word(call, table::NUMBER_IN_CALL) == call::START;
+    assert!(number == 0 || starts || *state == before);
     number
 }
 
@@ -326,19 +347,19 @@ fn reply(state: &mut [u8; STATE_BYTES], call: &[u8]) -> u64 {
 fn good(number: u64) -> Call {
     let params = Params::default();
     let event = CongestionEvent::new(moment(20), 1300, 1300, false);
-    if number == 3 {
+    if number == call::ON_CONGESTION_EVENT_START {
         return Call::on_congestion_event_start(&[1], &event, &Sample::default(), &params);
     }
     let one = 1.0f32.to_bits() as u64;
     let arguments: &[u64] = match number {
-        0 => &[20, 100_000_000],
-        1 => &[20, 0, 5, 1200],
-        9 | 15 | 16 => &[one],
-        10 => &[1_000_000, one],
-        40 => &[0, 1, 20],
-        41 => &[20],
-        42 => &[2, 20],
-        43 => &[20, 26_000],
+        call::START => &[20, 100_000_000],
+        call::ON_PACKET_SENT => &[20, 0, 5, 1200],
+        call::CHECK_PERSISTENT_QUEUE | call::SET_PACING_GAIN | call::SET_CWND_GAIN => &[one],
+        call::BDP => &[1_000_000, one],
+        call::ENTER_PROBE_DOWN => &[0, 1, 20],
+        call::ENTER_PROBE_CRUISE => &[20],
+        call::ENTER_PROBE_REFILL => &[2, 20],
+        call::ENTER_PROBE_UP => &[20, 26_000],
         _ => &[],
     };
     let call = Call::new(number, arguments);
@@ -358,13 +379,43 @@ const NOT_FLAGS: [u64; 5] = [2, 3, 255, 1 << 32, u64::MAX];
 const NOT_PAIRS: [(u64, u64); 5] = [(0, 1), (0, u64::MAX), (2, 0), (2, 5), (u64::MAX, 1)];
 
 /// The flags and the pairs of the event's record.
-const RECORD_FLAGS: [usize; 4] = [28, 29, 34, 35];
-const RECORD_PAIRS: [usize; 2] = [30, 32];
+const RECORD_FLAGS: [usize; 4] = [
+    EVENT + event::END_OF_ROUND_TRIP,
+    EVENT + event::IS_PROBING_FOR_BANDWIDTH,
+    EVENT + event::LAST_PACKET_SEND_STATE_IS_VALID,
+    EVENT + event::LAST_PACKET_SEND_STATE_IS_APP_LIMITED,
+];
+const RECORD_PAIRS: [usize; 2] = [
+    EVENT + event::SAMPLE_MAX_BANDWIDTH_SET,
+    EVENT + event::SAMPLE_MIN_RTT_SET,
+];
+
+/// The flags and the pairs of what the sampler says, and an event's start.
+const SAMPLE_FLAGS: [usize; 3] = [
+    sample::SAMPLE_IS_APP_LIMITED,
+    sample::LAST_PACKET_SEND_STATE_IS_VALID,
+    sample::LAST_PACKET_SEND_STATE_IS_APP_LIMITED,
+];
+const SAMPLE_PAIRS: [usize; 4] = [
+    sample::SAMPLE_MAX_BANDWIDTH_SET,
+    sample::SAMPLE_MAX_SEND_RATE_SET,
+    sample::SAMPLE_MAX_ACK_RATE_SET,
+    sample::SAMPLE_RTT_SET,
+];
+const EVENT_START: u64 = call::ON_CONGESTION_EVENT_START;
 
 #[test]
 fn flags_are_0_or_1() {
-    let mut places: Vec<(u64, usize)> = vec![(3, 7), (3, 12), (3, 13), (40, 1), (40, 2)];
-    places.extend((3..8).flat_map(|call| RECORD_FLAGS.map(|at| (call, at))));
+    let mut places: Vec<(u64, usize)> = vec![
+        (call::ENTER_PROBE_DOWN, enter_probe_down::PROBED_TOO_HIGH),
+        (
+            call::ENTER_PROBE_DOWN,
+            enter_probe_down::STOPPED_RISKY_PROBE,
+        ),
+    ];
+    places.extend(SAMPLE_FLAGS.map(|at| (EVENT_START, at)));
+    let reading = call::READ_EVENT.iter();
+    places.extend(reading.flat_map(|&call| RECORD_FLAGS.map(|at| (call, at))));
     for (call, at) in places {
         assert_eq!(
             reply_with(call, &[(at, 0)]),
@@ -395,17 +446,18 @@ fn flags_are_0_or_1() {
 #[test]
 fn counts_are_0_to_3() {
     for count in 0..4 {
-        assert_eq!(reply_with(3, &[(18, count)]), 0);
+        assert_eq!(reply_with(EVENT_START, &[(sample::ACKED_COUNT, count)]), 0);
     }
     for count in [4, 5, 7, 1 << 32, u64::MAX - 3, u64::MAX] {
-        assert_eq!(reply_with(3, &[(18, count)]), 2);
+        assert_eq!(reply_with(EVENT_START, &[(sample::ACKED_COUNT, count)]), 2);
     }
 }
 
 #[test]
 fn pairs_are_1_and_a_number_or_0_and_0() {
-    let mut places: Vec<(u64, usize)> = [1, 3, 5, 8].iter().map(|&at| (3, at)).collect();
-    places.extend((3..8).flat_map(|call| RECORD_PAIRS.map(|at| (call, at))));
+    let mut places: Vec<(u64, usize)> = SAMPLE_PAIRS.map(|at| (EVENT_START, at)).to_vec();
+    let reading = call::READ_EVENT.iter();
+    places.extend(reading.flat_map(|&call| RECORD_PAIRS.map(|at| (call, at))));
     for (call, at) in places {
         for (set, number) in [(0, 0), (1, 0), (1, 5)] {
             assert_eq!(reply_with(call, &[(at, set), (at + 1, number)]), 0);
@@ -420,7 +472,15 @@ fn pairs_are_1_and_a_number_or_0_and_0() {
 #[test]
 fn gains_have_32_bits() {
     let one = 1.0f32.to_bits() as u64;
-    for (call, at) in [(9, 1), (10, 2), (15, 1), (16, 1)] {
+    for (call, at) in [
+        (
+            call::CHECK_PERSISTENT_QUEUE,
+            check_persistent_queue::TARGET_GAIN,
+        ),
+        (call::BDP, bdp::GAIN),
+        (call::SET_PACING_GAIN, set_pacing_gain::PACING_GAIN),
+        (call::SET_CWND_GAIN, set_cwnd_gain::CWND_GAIN),
+    ] {
         assert_eq!(reply_with(call, &[(at, one)]), 0);
         for high in [1 << 32, 1 << 63, u64::MAX << 32] {
             assert_eq!(reply_with(call, &[(at, one | high)]), 2, "call {}", call);
@@ -432,36 +492,62 @@ fn gains_have_32_bits() {
     }
 }
 
+/// The parameters that are an f32.
+const GAINS: [usize; 6] = [
+    params::BETA,
+    params::LOSS_THRESHOLD,
+    params::INFLIGHT_HI_HEADROOM,
+    params::FULL_BW_THRESHOLD,
+    params::STARTUP_CWND_GAIN,
+    params::STARTUP_PACING_GAIN,
+];
+
 /// The calls that take the parameters refuse malformed ones with 1, the others don't look at them.
 #[test]
 fn malformed_parameters_are_out_of_bounds() {
-    let params: Vec<u64> = (38..49).map(|at| word(good(0).as_bytes(), at)).collect();
-    let mut malformed: Vec<(usize, u64)> = NOT_FLAGS.iter().map(|&word| (48, word)).collect();
-    for at in 38..44 {
-        let bits = params[at - 38];
-        malformed.extend([
-            (at, bits | 1 << 32),
-            (at, bits | 1 << 63),
-            (at, 0x7f80_0001),
-        ]);
+    let option = PARAMS + params::IGNORE_APP_LIMITED_FOR_NO_BANDWIDTH_GROWTH;
+    let mut malformed: Vec<(usize, u64)> = NOT_FLAGS.iter().map(|&word| (option, word)).collect();
+    for gain in GAINS {
+        let bits = word(good(call::START).as_bytes(), PARAMS + gain);
+        for bad in [bits | 1 << 32, bits | 1 << 63, 0x7f80_0001] {
+            malformed.push((PARAMS + gain, bad));
+        }
     }
     for words in malformed {
-        for call in [0, 3, 5, 6, 7, 9, 13, 40] {
+        for call in call::TAKE_PARAMS {
             assert_eq!(reply_with(call, &[words]), 1, "call {}, {:?}", call, words);
         }
-        for call in [1, 4, 8, 10, 12, 15, 24, 41, 42, 43, 44] {
+        for call in [
+            call::ON_PACKET_SENT,
+            call::ON_CONGESTION_EVENT_FINISH,
+            call::RESTART_ROUND_EARLY,
+            call::BDP,
+            call::BDP0,
+            call::SET_PACING_GAIN,
+            call::MIN_RTT,
+            call::ENTER_PROBE_CRUISE,
+            call::ENTER_PROBE_REFILL,
+            call::ENTER_PROBE_UP,
+            call::EXIT_PROBE_DOWN,
+        ] {
             assert_eq!(reply_with(call, &[words]), 0, "call {}, {:?}", call, words);
         }
     }
-    for option in [0, 1] {
-        assert_eq!(reply_with(0, &[(48, option)]), 0);
+    for yes in [0, 1] {
+        assert_eq!(reply_with(call::START, &[(option, yes)]), 0);
     }
 }
 
 /// A state in use: after a send, an event and its end, an entry into Up, and a send.
 fn lived() -> [u8; STATE_BYTES] {
     let mut state = started();
-    for number in [1, 3, 4, 43, 1] {
+    for number in [
+        call::ON_PACKET_SENT,
+        call::ON_CONGESTION_EVENT_START,
+        call::ON_CONGESTION_EVENT_FINISH,
+        call::ENTER_PROBE_UP,
+        call::ON_PACKET_SENT,
+    ] {
         assert_eq!(reply(&mut state, good(number).as_bytes()), 0);
     }
     state
@@ -470,49 +556,72 @@ fn lived() -> [u8; STATE_BYTES] {
 /// A state within its bounds that has no word of a fresh one: its numbers are 7, all that can be is
 /// set, the flags are on, the gains 2, the phase Cruise.
 fn full() -> [u8; STATE_BYTES] {
-    let mut words = [7; 50];
-    for pair in [2, 15, 27, 29, 39, 42] {
+    let mut words = [7; table::STATE_WORDS];
+    for pair in [
+        state::END_OF_ROUND_TRIP_SET,
+        state::BANDWIDTH_LO_SET,
+        state::LATEST_SEND_RATE_SET,
+        state::LATEST_ACK_RATE_SET,
+        state::PROBE_WAIT_TIME_SET,
+        state::PROBE_UP_BYTES_SET,
+    ] {
         words[pair] = 1;
     }
-    for flag in [12, 21, 22, 26, 45, 46, 47, 48, 49] {
+    for flag in [
+        state::INFLIGHT_HI_LIMITED_IN_ROUND,
+        state::CWND_LIMITED_BEFORE_AGGREGATION_EPOCH,
+        state::FULL_BANDWIDTH_REACHED,
+        state::IGNORE_APP_LIMITED_FOR_NO_BANDWIDTH_GROWTH,
+        state::PROBE_UP_APP_LIMITED_SINCE_INFLIGHT_HI_LIMITED,
+        state::HAS_ADVANCED_MAX_BW,
+        state::IS_SAMPLE_FROM_PROBING,
+        state::LAST_CYCLE_PROBED_TOO_HIGH,
+        state::LAST_CYCLE_STOPPED_RISKY_PROBE,
+    ] {
         words[flag] = 1;
     }
-    words[19] = 2.0f32.to_bits() as u64;
-    words[20] = words[19];
-    words[34] = 3;
+    words[state::CWND_GAIN] = 2.0f32.to_bits() as u64;
+    words[state::PACING_GAIN] = words[state::CWND_GAIN];
+    words[state::PHASE] = phase::CRUISE;
     let mut state = [0; STATE_BYTES];
     for (at, word) in words.iter().enumerate() {
-        state[8 * at..8 * at + 8].copy_from_slice(&word.to_le_bytes());
+        state[WORD * at..][..WORD].copy_from_slice(&word.to_le_bytes());
     }
     state
 }
 
 /// A refused start replaces the state by a fresh one: moment 0, round trip 0, both gains 1, the
-/// option of word 26 off, all else as in every fresh model and cycle.
+/// app-limited option off, all else as in every fresh model and cycle.
 #[test]
 fn a_refused_start_leaves_a_fresh_state() {
-    let mut fresh = [0; 50];
-    // The round's smallest inflight, inflight_lo and inflight_hi are unset.
-    for unset in [11, 17, 18] {
-        fresh[unset] = u64::MAX;
+    let mut fresh = [0; table::STATE_WORDS];
+    for unset in [
+        state::MIN_BYTES_IN_FLIGHT_IN_ROUND,
+        state::INFLIGHT_LO,
+        state::INFLIGHT_HI,
+    ] {
+        fresh[unset] = table::UNSET;
     }
-    // cwnd_gain and pacing_gain.
-    fresh[19] = 1.0f32.to_bits() as u64;
-    fresh[20] = fresh[19];
+    fresh[state::CWND_GAIN] = 1.0f32.to_bits() as u64;
+    fresh[state::PACING_GAIN] = fresh[state::CWND_GAIN];
 
+    let option = PARAMS + params::IGNORE_APP_LIMITED_FOR_NO_BANDWIDTH_GROWTH;
     for before in [started(), lived(), full()] {
         // The state is one that calls are done in.
-        assert_eq!(reply(&mut { before }, good(43).as_bytes()), 0);
+        assert_eq!(
+            reply(&mut { before }, good(call::ENTER_PROBE_UP).as_bytes()),
+            0
+        );
         for (row, at, bad) in [
             // Malformed parameters, one out of bounds, and a moment out of bounds.
-            (1, 48, 255),
-            (1, 48, 2),
-            (1, 43, 1 << 32),
-            (1, 38, 0),
-            (2, 1, MOST_MOMENT + 1),
+            (1, option, 255),
+            (1, option, 2),
+            (1, PARAMS + params::STARTUP_PACING_GAIN, 1 << 32),
+            (1, PARAMS + params::BETA, 0),
+            (2, argument::start::NOW, MOST_MOMENT + 1),
         ] {
             let mut state = before;
-            let start = changed(good(0).as_bytes(), at, bad);
+            let start = changed(good(call::START).as_bytes(), at, bad);
             assert_eq!(reply(&mut state, &start), row);
             for (at, expected) in fresh.iter().enumerate() {
                 assert_eq!(word(&state, at), *expected, "word {}", at);
@@ -520,20 +629,30 @@ fn a_refused_start_leaves_a_fresh_state() {
         }
     }
     let full = full();
-    assert!((0..50).all(|at| word(&full, at) != fresh[at]));
+    assert!((0..table::STATE_WORDS).all(|at| word(&full, at) != fresh[at]));
 }
 
 /// Of several refusals the lowest is given.
 #[test]
 fn malformed_words_beside_other_refusals() {
+    let limited = sample::SAMPLE_IS_APP_LIMITED;
+    let option = PARAMS + params::IGNORE_APP_LIMITED_FOR_NO_BANDWIDTH_GROWTH;
+    let time = EVENT + event::EVENT_TIME;
+    let (down, high) = (call::ENTER_PROBE_DOWN, enter_probe_down::PROBED_TOO_HIGH);
     // With a parameter out of bounds, malformed or not, it is 1.
-    assert_eq!(reply_with(3, &[(7, 2), (38, 0)]), 1);
-    assert_eq!(reply_with(3, &[(7, 2), (48, 2)]), 1);
-    assert_eq!(reply_with(40, &[(1, 2), (46, u64::MAX)]), 1);
+    let beta = PARAMS + params::BETA;
+    assert_eq!(reply_with(EVENT_START, &[(limited, 2), (beta, 0)]), 1);
+    assert_eq!(reply_with(EVENT_START, &[(limited, 2), (option, 2)]), 1);
+    let period = PARAMS + params::PROBE_RTT_PERIOD;
+    assert_eq!(reply_with(down, &[(high, 2), (period, u64::MAX)]), 1);
     // With an earlier moment it is 2.
-    assert_eq!(reply_with(3, &[(22, 9)]), 3);
-    assert_eq!(reply_with(3, &[(22, 9), (28, 2)]), 2);
-    assert_eq!(reply_with(40, &[(3, 9), (1, 2)]), 2);
+    let ended = EVENT + event::END_OF_ROUND_TRIP;
+    assert_eq!(reply_with(EVENT_START, &[(time, 9)]), 3);
+    assert_eq!(reply_with(EVENT_START, &[(time, 9), (ended, 2)]), 2);
+    assert_eq!(
+        reply_with(down, &[(enter_probe_down::NOW, 9), (high, 2)]),
+        2
+    );
     // In a state out of bounds it is 1, for a number of no call, too; the cycle counts where it is
     // given.
     let in_state = |at: usize, word: u64, call: &[u8]| {
@@ -541,17 +660,19 @@ fn malformed_words_beside_other_refusals() {
         state.copy_from_slice(&changed(&started(), at, word));
         reply(&mut state, call)
     };
-    let event = changed(good(3).as_bytes(), 18, 4);
-    assert_eq!(in_state(4, MOST_BANDWIDTH, &event), 2);
-    assert_eq!(in_state(4, MOST_BANDWIDTH + 1, &event), 1);
-    let down = changed(good(40).as_bytes(), 2, 2);
-    assert_eq!(in_state(41, 30, &down), 2);
-    assert_eq!(in_state(41, 31, &down), 1);
+    let (slot, rounds) = (state::MAX_BANDWIDTH_0, state::PROBE_UP_ROUNDS);
+    let event = changed(good(EVENT_START).as_bytes(), sample::ACKED_COUNT, 4);
+    assert_eq!(in_state(slot, MOST_BANDWIDTH, &event), 2);
+    assert_eq!(in_state(slot, MOST_BANDWIDTH + 1, &event), 1);
+    let risky = enter_probe_down::STOPPED_RISKY_PROBE;
+    let down = changed(good(down).as_bytes(), risky, 2);
+    assert_eq!(in_state(rounds, 30, &down), 2);
+    assert_eq!(in_state(rounds, 31, &down), 1);
     for number in [2, 39, 46, 256, 1 << 32, u64::MAX] {
         let none = good(number);
-        assert_eq!(in_state(4, MOST_BANDWIDTH, none.as_bytes()), 2);
-        assert_eq!(in_state(4, MOST_BANDWIDTH + 1, none.as_bytes()), 1);
-        assert_eq!(in_state(41, 31, none.as_bytes()), 2);
+        assert_eq!(in_state(slot, MOST_BANDWIDTH, none.as_bytes()), 2);
+        assert_eq!(in_state(slot, MOST_BANDWIDTH + 1, none.as_bytes()), 1);
+        assert_eq!(in_state(rounds, 31, none.as_bytes()), 2);
     }
 }
 
@@ -559,17 +680,33 @@ fn malformed_words_beside_other_refusals() {
 #[test]
 fn words_that_a_call_does_not_use_are_not_looked_at() {
     let junk = |at: usize| (at, u64::MAX - at as u64);
-    let after = |range: std::ops::Range<usize>| range.map(junk).collect::<Vec<_>>();
-    assert_eq!(reply_with(1, &after(5..49)), 0);
-    assert_eq!(reply_with(0, &after(3..38)), 0);
-    assert_eq!(reply_with(4, &[after(1..22), after(38..49)].concat()), 0);
-    assert_eq!(reply_with(5, &after(1..22)), 0);
-    assert_eq!(reply_with(9, &after(2..38)), 0);
-    assert_eq!(reply_with(41, &after(2..49)), 0);
-    assert_eq!(reply_with(24, &after(1..49)), 0);
+    let fill = |range: std::ops::Range<usize>| range.map(junk).collect::<Vec<_>>();
+    let (first, end) = (table::ARGUMENTS_IN_CALL, table::CALL_WORDS);
+    let sent = argument::on_packet_sent::BYTES;
+    assert_eq!(reply_with(call::ON_PACKET_SENT, &fill(sent + 1..end)), 0);
+    let start = argument::start::INITIAL_RTT;
+    assert_eq!(reply_with(call::START, &fill(start + 1..PARAMS)), 0);
+    let around = [fill(first..EVENT), fill(PARAMS..end)].concat();
+    assert_eq!(reply_with(call::ON_CONGESTION_EVENT_FINISH, &around), 0);
+    assert_eq!(
+        reply_with(call::MAYBE_EXPIRE_MIN_RTT, &fill(first..EVENT)),
+        0
+    );
+    let gain = check_persistent_queue::TARGET_GAIN;
+    assert_eq!(
+        reply_with(call::CHECK_PERSISTENT_QUEUE, &fill(gain + 1..PARAMS)),
+        0
+    );
+    let now = argument::enter_probe_cruise::NOW;
+    assert_eq!(reply_with(call::ENTER_PROBE_CRUISE, &fill(now + 1..end)), 0);
+    assert_eq!(reply_with(call::MIN_RTT, &fill(first..end)), 0);
     // Of an event, the numbers acked beyond the count.
-    assert_eq!(reply_with(3, &[(18, 1), junk(20), junk(21)]), 0);
-    assert_eq!(reply_with(3, &[(18, 0), junk(19), junk(20), junk(21)]), 0);
+    let (count, acked) = (sample::ACKED_COUNT, sample::ACKED_PACKETS);
+    for counted in 0..table::MOST_ACKED {
+        let mut words = fill(acked + counted..EVENT);
+        words.push((count, counted as u64));
+        assert_eq!(reply_with(EVENT_START, &words), 0);
+    }
 }
 
 /// What the package writes is well formed, whatever it is given.
@@ -602,20 +739,23 @@ fn only_well_formed_words_are_written() {
         let acked = [u64::MAX; 9];
         let call = Call::on_congestion_event_start(&acked, &event, &sample, &params);
         let at = |at: usize| word(call.as_bytes(), at);
-        for flag in [7, 12, 13, 48].iter().chain(&RECORD_FLAGS) {
+        let option = PARAMS + params::IGNORE_APP_LIMITED_FOR_NO_BANDWIDTH_GROWTH;
+        for flag in [option].iter().chain(&SAMPLE_FLAGS).chain(&RECORD_FLAGS) {
             assert_eq!(at(*flag), yes as u64);
         }
-        for pair in [1, 3, 5, 8].iter().chain(&RECORD_PAIRS) {
+        for pair in SAMPLE_PAIRS.iter().chain(&RECORD_PAIRS) {
             let most = if yes { u64::MAX } else { 0 };
             assert_eq!((at(*pair), at(pair + 1)), (yes as u64, most));
         }
-        assert!((38..44).all(|word| at(word) <= u32::MAX as u64));
-        assert_eq!(at(18), 3);
+        assert!(GAINS
+            .iter()
+            .all(|gain| at(PARAMS + gain) <= u32::MAX as u64));
+        assert_eq!(at(sample::ACKED_COUNT), table::MOST_ACKED as u64);
     }
 }
 
 fn word(bytes: &[u8], at: usize) -> u64 {
-    let mut word = [0; 8];
-    word.copy_from_slice(&bytes[8 * at..8 * at + 8]);
+    let mut word = [0; WORD];
+    word.copy_from_slice(&bytes[WORD * at..][..WORD]);
     u64::from_le_bytes(word)
 }

@@ -1,6 +1,9 @@
 //! The calls of the kept frames, each made by the wrapper in the state in which the original was:
 //! reply, answer, event and state are held to the original's, once by the methods and once by a run
 //! over bytes.
+//!
+//! The numbers of calls, places of words and sizes in this file are written by hand, and not taken from
+//! the table that the package is written with: a wrong table is noticed here.
 
 use std::collections::BTreeSet;
 use std::fs;

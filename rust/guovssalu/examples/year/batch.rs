@@ -1,6 +1,11 @@
 //! Calls that wait for one run, and what their answers have to be.
 
 use guovssalu::run;
+use guovssalu::table;
+use guovssalu::table::state;
+use guovssalu::table::REPLY_IN_ANSWER;
+use guovssalu::table::VALUE_IN_ANSWER;
+use guovssalu::table::WORD_BYTES;
 use guovssalu::Answer;
 use guovssalu::Call;
 use guovssalu::Refusal;
@@ -77,26 +82,28 @@ impl Batch {
     /// Looks at the answer of one call.
     fn check(&self, at: usize, tally: &mut Tally) -> Result<(), String> {
         let answer = &self.answers[at * Answer::BYTES..(at + 1) * Answer::BYTES];
-        let reply = word(answer, 0);
+        let reply = word(answer, REPLY_IN_ANSWER);
         let expected = self.expected[at];
         let due = match expected {
             Expected::Refused(why) => why.number(),
             _ => 0,
         };
         if reply != due {
-            let number = word(&self.calls, at * Call::BYTES / 8);
+            let number = word(&self.calls[at * Call::BYTES..], table::NUMBER_IN_CALL);
             return Err(format!(
                 "call {} is answered {}, not {}",
                 number, reply, due
             ));
         }
         match expected {
-            Expected::Event if answer[16..] != *self.record(at + 1) => {
+            Expected::Event if record(answer, table::EVENT_IN_ANSWER) != self.record(at + 1) => {
                 Err("the record of an event is another than by the rules".to_string())
             }
-            Expected::InflightLo(exact, moment) => tally.look(&exact, word(answer, 1), moment),
+            Expected::InflightLo(exact, moment) => {
+                tally.look(&exact, word(answer, VALUE_IN_ANSWER), moment)
+            }
             Expected::Expiry => {
-                tally.expiries += word(answer, 1);
+                tally.expiries += word(answer, VALUE_IN_ANSWER);
                 Ok(())
             }
             _ => Ok(()),
@@ -105,23 +112,54 @@ impl Batch {
 
     /// The bytes of the record that a call is given.
     fn record(&self, at: usize) -> &[u8] {
-        let call = at * Call::BYTES;
-        &self.calls[call + 8 * 22..call + 8 * 38]
+        record(&self.calls[at * Call::BYTES..], table::EVENT_IN_CALL)
     }
 
     /// Compares the state with the rules.
     fn compare(&self, rules: &Rules) -> Result<(), String> {
         let end = rules.end_of_round_trip;
         for (at, name, due) in [
-            (0, "round_trip_count", rules.round_trip_count),
-            (1, "last_sent_packet", rules.last_sent_packet),
-            (2, "end_of_round_trip is set", end.is_some() as u64),
-            (3, "end_of_round_trip", end.unwrap_or(0)),
-            (8, "bytes_lost_in_round", rules.bytes_lost_in_round),
-            (14, "inflight_latest", rules.inflight_latest),
-            (18, "inflight_hi", rules.inflight_hi),
-            (31, "total bytes acked", rules.total_bytes_acked),
-            (32, "total bytes lost", rules.total_bytes_lost),
+            (
+                state::ROUND_TRIP_COUNT,
+                "round_trip_count",
+                rules.round_trip_count,
+            ),
+            (
+                state::LAST_SENT_PACKET,
+                "last_sent_packet",
+                rules.last_sent_packet,
+            ),
+            (
+                state::END_OF_ROUND_TRIP_SET,
+                "end_of_round_trip is set",
+                end.is_some() as u64,
+            ),
+            (
+                state::END_OF_ROUND_TRIP,
+                "end_of_round_trip",
+                end.unwrap_or(0),
+            ),
+            (
+                state::BYTES_LOST_IN_ROUND,
+                "bytes_lost_in_round",
+                rules.bytes_lost_in_round,
+            ),
+            (
+                state::INFLIGHT_LATEST,
+                "inflight_latest",
+                rules.inflight_latest,
+            ),
+            (state::INFLIGHT_HI, "inflight_hi", rules.inflight_hi),
+            (
+                state::TOTAL_BYTES_ACKED,
+                "total bytes acked",
+                rules.total_bytes_acked,
+            ),
+            (
+                state::TOTAL_BYTES_LOST,
+                "total bytes lost",
+                rules.total_bytes_lost,
+            ),
         ] {
             let stored = word(&self.state, at);
             if stored != due {
@@ -133,12 +171,12 @@ impl Batch {
 
     /// The stored inflight_lo, or unset.
     pub fn inflight_lo(&self) -> u64 {
-        word(&self.state, 17)
+        word(&self.state, state::INFLIGHT_LO)
     }
 
     /// The last accepted moment.
     pub fn moment(&self) -> u64 {
-        word(&self.state, 33)
+        word(&self.state, state::LAST_ACCEPTED_MOMENT)
     }
 
     /// Bytes of the state, and of the room for calls and answers.
@@ -149,15 +187,21 @@ impl Batch {
 
 /// The word at a place (docs/LAYOUT.md).
 fn word(bytes: &[u8], at: usize) -> u64 {
-    let mut word = [0; 8];
-    word.copy_from_slice(&bytes[8 * at..8 * at + 8]);
+    let mut word = [0; WORD_BYTES];
+    word.copy_from_slice(&bytes[WORD_BYTES * at..][..WORD_BYTES]);
     u64::from_le_bytes(word)
+}
+
+/// The bytes of the record that begins with this word.
+fn record(bytes: &[u8], first: usize) -> &[u8] {
+    &bytes[WORD_BYTES * first..][..table::EVENT_BYTES]
 }
 
 #[cfg(test)]
 mod tests {
     use super::*;
 
+    use guovssalu::table::call;
     use guovssalu::CongestionEvent;
     use guovssalu::Moment;
     use guovssalu::Params;
@@ -174,7 +218,7 @@ mod tests {
         /// A start.
         fn new(window: u64) -> Self {
             let mut batch = Batch::new();
-            let start = Call::new(0, &[0, 100_000_000]).with_params(&Params::default());
+            let start = Call::new(call::START, &[0, 100_000_000]).with_params(&Params::default());
             batch.add(&start, Expected::Done);
             Losses {
                 batch,
@@ -187,8 +231,10 @@ mod tests {
         fn round(&mut self) {
             let packet = self.rules.last_sent_packet + 1;
             self.rules.last_sent_packet = packet;
-            self.batch
-                .add(&Call::new(1, &[packet, 0, packet, 100]), Expected::Done);
+            self.batch.add(
+                &Call::new(call::ON_PACKET_SENT, &[packet, 0, packet, 100]),
+                Expected::Done,
+            );
             let mut event =
                 CongestionEvent::new(Moment::from_nanos(packet), self.window, 100, false);
             let sample = Sample {
@@ -199,8 +245,10 @@ mod tests {
             let call = Call::on_congestion_event_start(&[packet], &event, &sample, &params);
             self.batch.add(&call, Expected::Event);
             self.rules.start(&[packet], &mut event, &sample);
-            self.batch
-                .add(&Call::new(4, &[]).with_event(&event), Expected::Done);
+            self.batch.add(
+                &Call::new(call::ON_CONGESTION_EVENT_FINISH, &[]).with_event(&event),
+                Expected::Done,
+            );
             self.rules.finish(&event);
             self.look();
         }
@@ -208,7 +256,7 @@ mod tests {
         /// Asks for inflight_lo.
         fn look(&mut self) {
             let expected = Expected::InflightLo(self.rules.exact, 0);
-            self.batch.add(&Call::new(35, &[]), expected);
+            self.batch.add(&Call::new(call::INFLIGHT_LO, &[]), expected);
         }
 
         /// Makes the calls; inflight_lo after them.
@@ -250,7 +298,9 @@ mod tests {
 
         let mut losses = Losses::new(1300);
         losses.round();
-        losses.batch.add(&Call::new(19, &[]), Expected::Done);
+        losses
+            .batch
+            .add(&Call::new(call::CLEAR_INFLIGHT_LO, &[]), Expected::Done);
         assert!(losses.make().unwrap_err().contains("unset"));
 
         let mut losses = Losses::new(1300);
@@ -270,13 +320,14 @@ mod tests {
 
         let mut losses = Losses::new(1300);
         losses.round();
-        let finish = 3 * Call::BYTES + 8 * 27;
+        let lost = table::EVENT_IN_CALL + table::event::BYTES_LOST;
+        let finish = 3 * Call::BYTES + WORD_BYTES * lost;
         losses.batch.calls[finish] ^= 1;
         assert!(losses.make().unwrap_err().contains("record"));
 
         let mut losses = Losses::new(1300);
         losses.round();
-        let twice = Call::new(1, &[0, 0, 2, 100]);
+        let twice = Call::new(call::ON_PACKET_SENT, &[0, 0, 2, 100]);
         losses.batch.add(&twice, Expected::Done);
         assert!(losses.make().unwrap_err().contains("answered 3"));
     }

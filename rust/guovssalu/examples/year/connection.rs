@@ -1,5 +1,6 @@
 //! The connection: what is sent, acked and lost, and what the modes do with the model.
 
+use guovssalu::table::call;
 use guovssalu::Bandwidth;
 use guovssalu::Call;
 use guovssalu::CongestionEvent;
@@ -73,7 +74,7 @@ impl Connection {
             event: CongestionEvent::default(),
         };
         let initial_rtt = Duration::from_millis(100).as_nanos();
-        connection.call_with_params(0, &[0, initial_rtt]);
+        connection.call_with_params(call::START, &[0, initial_rtt]);
         connection
     }
 
@@ -153,7 +154,7 @@ impl Connection {
     /// Asks for inflight_lo, which has to be near the exact value.
     fn look(&mut self) {
         let expected = Expected::InflightLo(self.rules.exact, self.now);
-        self.batch.add(&Call::new(35, &[]), expected);
+        self.batch.add(&Call::new(call::INFLIGHT_LO, &[]), expected);
     }
 }
 
@@ -166,7 +167,10 @@ impl Connection {
         let bytes = 1 + self.random.below(room.max(64));
         self.rules.last_sent_packet += 1;
         let packet = self.rules.last_sent_packet;
-        self.call(1, &[self.now, self.in_flight, packet, bytes]);
+        self.call(
+            call::ON_PACKET_SENT,
+            &[self.now, self.in_flight, packet, bytes],
+        );
         self.in_flight += bytes;
         self.tally.sends += 1;
     }
@@ -188,7 +192,7 @@ impl Connection {
         let call = Call::on_congestion_event_start(acked, &event, &sample, &self.params);
         self.batch.add(&call, Expected::Event);
         let turn = self.rules.start(acked, &mut event, &sample);
-        let finish = Call::new(4, &[]).with_event(&event);
+        let finish = Call::new(call::ON_CONGESTION_EVENT_FINISH, &[]).with_event(&event);
         self.batch.add(&finish, Expected::Done);
         self.rules.finish(&event);
         self.in_flight = event.bytes_in_flight;
@@ -275,7 +279,7 @@ impl Connection {
             self.cap();
         }
         if self.random.one_in(week.clear) {
-            self.call(19, &[]);
+            self.call(call::CLEAR_INFLIGHT_LO, &[]);
             self.rules.exact.clear();
             self.tally.clears += 1;
             self.look();
@@ -297,26 +301,26 @@ impl Connection {
         match self.phase {
             Phase::NotStarted | Phase::Up => {
                 let (high, risky) = (self.random.below(2), self.random.below(2));
-                self.call_with_params(40, &[high, risky, self.now]);
+                self.call_with_params(call::ENTER_PROBE_DOWN, &[high, risky, self.now]);
                 self.rules.restart_round_early();
                 self.phase = Phase::Down;
             }
             Phase::Down => {
-                self.call(41, &[self.now]);
+                self.call(call::ENTER_PROBE_CRUISE, &[self.now]);
                 self.rules.exact.cap(self.rules.inflight_hi);
                 self.tally.caps += 1;
                 self.phase = Phase::Cruise;
             }
             Phase::Cruise => {
                 let rounds = self.random.below(31);
-                self.call(42, &[rounds, self.now]);
+                self.call(call::ENTER_PROBE_REFILL, &[rounds, self.now]);
                 self.rules.exact.clear();
                 self.rules.restart_round_early();
                 self.tally.clears += 1;
                 self.phase = Phase::Refill;
             }
             Phase::Refill => {
-                self.call(43, &[self.now, self.window]);
+                self.call(call::ENTER_PROBE_UP, &[self.now, self.window]);
                 self.rules.restart_round_early();
                 self.phase = Phase::Up;
             }
@@ -331,7 +335,7 @@ impl Connection {
             1 => self.random.sized(40),
             _ => self.random.sized(24),
         };
-        self.call(18, &[bytes]);
+        self.call(call::CAP_INFLIGHT_LO, &[bytes]);
         self.rules.exact.cap(bytes);
         self.tally.caps += 1;
         self.look();
@@ -343,7 +347,7 @@ impl Connection {
             0 => NetworkModel::UNSET,
             _ => self.random.sized(24),
         };
-        self.call(17, &[bytes]);
+        self.call(call::SET_INFLIGHT_HI, &[bytes]);
         self.rules.inflight_hi = bytes;
     }
 
@@ -353,19 +357,19 @@ impl Connection {
         let gain = u64::from((0.5 + number as f32 / 4.0).to_bits());
         match self.random.below(14) {
             0 | 1 => self.expire_min_rtt(),
-            2 => self.call_with_params(6, &[number]),
-            3 => self.call_with_params(7, &[]),
-            4 => self.call_with_params(9, &[gain]),
-            5 => self.call(15, &[gain]),
-            6 => self.call(16, &[gain]),
-            7 => self.call(20, &[]),
-            8 => self.call(21, &[]),
-            9 => self.call(22, &[number * 100_000_001]),
-            10 => self.call(44, &[]),
-            11 => self.call(45, &[self.window]),
-            12 => self.call_with_params(13, &[]),
+            2 => self.call_with_params(call::IS_INFLIGHT_TOO_HIGH, &[number]),
+            3 => self.call_with_params(call::HAS_BANDWIDTH_GROWTH, &[]),
+            4 => self.call_with_params(call::CHECK_PERSISTENT_QUEUE, &[gain]),
+            5 => self.call(call::SET_PACING_GAIN, &[gain]),
+            6 => self.call(call::SET_CWND_GAIN, &[gain]),
+            7 => self.call(call::CLEAR_BANDWIDTH_LO, &[]),
+            8 => self.call(call::ADVANCE_MAX_BANDWIDTH_FILTER, &[]),
+            9 => self.call(call::POSTPONE_MIN_RTT_TIMESTAMP, &[number * 100_000_001]),
+            10 => self.call(call::EXIT_PROBE_DOWN, &[]),
+            11 => self.call(call::RAISE_INFLIGHT_HIGH_SLOPE, &[self.window]),
+            12 => self.call_with_params(call::INFLIGHT_HI_WITH_HEADROOM, &[]),
             _ => {
-                self.call(8, &[]);
+                self.call(call::RESTART_ROUND_EARLY, &[]);
                 self.rules.restart_round_early();
             }
         }
@@ -373,7 +377,7 @@ impl Connection {
 
     /// Has the smallest round trip expire, if it is old.
     fn expire_min_rtt(&mut self) {
-        let call = Call::new(5, &[]).with_event(&self.event);
+        let call = Call::new(call::MAYBE_EXPIRE_MIN_RTT, &[]).with_event(&self.event);
         self.batch
             .add(&call.with_params(&self.params), Expected::Expiry);
     }
