@@ -346,9 +346,18 @@ def rust_module(name, what, items, indent=""):
     return lines + [indent + "}"]
 
 
-def rust_words(name, what, names):
+def rust_words(name, what, names, listed=None):
+    """A module of places; if it is a listed section, with the names of its words."""
     items = [rust_const("    ", one, "usize", at, of_kind(at, kind)) for one, at, kind in names.items()]
+    if listed:
+        cells = [f'"{word}"' for row in TABLE.rows(listed) for word in word_names(row)]
+        items.append(rust_list("    ", "NAMES", "&str", cells, "The names of its words, in order."))
     return rust_module(name, what, items)
+
+
+def word_names(row):
+    """A field's words by name."""
+    return [row["field"] + " set", row["field"]] if row["kind"].startswith("set, and ") else [row["field"]]
 
 
 def rust_numbers(name, what, names, of):
@@ -365,6 +374,9 @@ def rust_calls():
         items.append(rust_const("    ", constant(row["name"]), "u64", row["number"], what))
     named = lambda chosen: [constant(row["name"]) for row in rows if chosen(row)]
     items.append(rust_list("    ", "ALL", "u64", named(lambda row: True), "All of them, in order."))
+    items.append(rust_list("    ", "NAMES", "&str", [f'"{row["name"]}"' for row in rows], "Their names, in the same order."))
+    given = lambda row: TABLE.width(TABLE.rows("sample") if row["name"] == "on_congestion_event_start" else TABLE.given(row["name"]))
+    items.append(rust_list("    ", "GIVEN", "usize", [str(given(row)) for row in rows], "How many words their arguments have, in the same order."))
     items.append(rust_list("    ", "READ_EVENT", "u64", named(lambda row: row["event"]), "Those that read the event's record."))
     items.append(rust_list("    ", "TAKE_PARAMS", "u64", named(lambda row: row["params"]), "Those that take the parameters."))
     return rust_module("call", "The numbers of the calls: a call's first word.", items)
@@ -401,9 +413,9 @@ def rust_text():
         rust_calls(),
         rust_arguments(),
         rust_words("sample", "An event's arguments, of `call::ON_CONGESTION_EVENT_START`: words of a call.", TABLE.sample),
-        rust_words("event", "An event's record: words from `EVENT_IN_CALL` or `EVENT_IN_ANSWER` on.", TABLE.event),
+        rust_words("event", "An event's record: words from `EVENT_IN_CALL` or `EVENT_IN_ANSWER` on.", TABLE.event, "event"),
         rust_words("params", "The parameters: words of a call from `PARAMS_IN_CALL` on.", TABLE.params),
-        rust_words("state", "Words of the state. Of what may be unset there are two, `.._SET` and the number.", TABLE.state),
+        rust_words("state", "Words of the state. Of what may be unset there are two, `.._SET` and the number.", TABLE.state, "state"),
         rust_words("pair", "A pair of the filter run.", TABLE.pair),
         rust_words("samples", "The filter run's answer to a pair.", TABLE.samples),
         rust_words("slope", "The slope's output.", TABLE.slope),

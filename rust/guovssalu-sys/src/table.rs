@@ -251,6 +251,60 @@ pub mod call {
         RAISE_INFLIGHT_HIGH_SLOPE,
     ];
 
+    /// Their names, in the same order.
+    pub const NAMES: [&str; 44] = [
+        "start",
+        "on_packet_sent",
+        "on_congestion_event_start",
+        "on_congestion_event_finish",
+        "maybe_expire_min_rtt",
+        "is_inflight_too_high",
+        "has_bandwidth_growth",
+        "restart_round_early",
+        "check_persistent_queue",
+        "bdp",
+        "bdp1",
+        "bdp0",
+        "inflight_hi_with_headroom",
+        "set_full_bandwidth_reached",
+        "set_pacing_gain",
+        "set_cwnd_gain",
+        "set_inflight_hi",
+        "cap_inflight_lo",
+        "clear_inflight_lo",
+        "clear_bandwidth_lo",
+        "advance_max_bandwidth_filter",
+        "postpone_min_rtt_timestamp",
+        "bandwidth_estimate",
+        "min_rtt",
+        "min_rtt_timestamp",
+        "max_bandwidth",
+        "max_bytes_delivered_in_round",
+        "total_bytes_acked",
+        "total_bytes_lost",
+        "full_bandwidth_reached",
+        "pacing_gain",
+        "cwnd_gain",
+        "inflight_hi",
+        "inflight_hi_default",
+        "inflight_lo",
+        "loss_events_in_round",
+        "rounds_with_queueing",
+        "queueing_threshold_extra_bytes",
+        "enter_probe_down",
+        "enter_probe_cruise",
+        "enter_probe_refill",
+        "enter_probe_up",
+        "exit_probe_down",
+        "raise_inflight_high_slope",
+    ];
+
+    /// How many words their arguments have, in the same order.
+    pub const GIVEN: [usize; 44] = [
+        2, 4, 21, 0, 0, 1, 0, 0, 1, 2, 1, 0, 0, 0, 1, 1, 1, 1, 0, 0, 0, 1, 0, 0, 0, 0, 0, 0, 0, 0,
+        0, 0, 0, 0, 0, 0, 0, 0, 3, 1, 2, 2, 0, 1,
+    ];
+
     /// Those that read the event's record.
     pub const READ_EVENT: [u64; 5] = [
         ON_CONGESTION_EVENT_START,
@@ -508,6 +562,26 @@ pub mod event {
 
     /// Word 15: bytes.
     pub const LAST_PACKET_SEND_STATE_BYTES_IN_FLIGHT: usize = 15;
+
+    /// The names of its words, in order.
+    pub const NAMES: [&str; 16] = [
+        "event_time",
+        "prior_cwnd",
+        "prior_bytes_in_flight",
+        "bytes_in_flight",
+        "bytes_acked",
+        "bytes_lost",
+        "end_of_round_trip",
+        "is_probing_for_bandwidth",
+        "sample_max_bandwidth set",
+        "sample_max_bandwidth",
+        "sample_min_rtt set",
+        "sample_min_rtt",
+        "last_packet_send_state.is_valid",
+        "last_packet_send_state.is_app_limited",
+        "last_packet_send_state.total_bytes_acked",
+        "last_packet_send_state.bytes_in_flight",
+    ];
 }
 
 /// The parameters: words of a call from `PARAMS_IN_CALL` on.
@@ -697,6 +771,60 @@ pub mod state {
 
     /// Word 49: flag.
     pub const LAST_CYCLE_STOPPED_RISKY_PROBE: usize = 49;
+
+    /// The names of its words, in order.
+    pub const NAMES: [&str; 50] = [
+        "round_trip_count",
+        "last_sent_packet",
+        "end_of_round_trip set",
+        "end_of_round_trip",
+        "max_bandwidth[0]",
+        "max_bandwidth[1]",
+        "min_rtt",
+        "min_rtt_timestamp",
+        "bytes_lost_in_round",
+        "loss_events_in_round",
+        "max_bytes_delivered_in_round",
+        "min_bytes_in_flight_in_round",
+        "inflight_hi_limited_in_round",
+        "bandwidth_latest",
+        "inflight_latest",
+        "bandwidth_lo set",
+        "bandwidth_lo",
+        "inflight_lo",
+        "inflight_hi",
+        "cwnd_gain",
+        "pacing_gain",
+        "cwnd_limited_before_aggregation_epoch",
+        "full_bandwidth_reached",
+        "full_bandwidth_baseline",
+        "rounds_without_bandwidth_growth",
+        "rounds_with_queueing",
+        "ignore_app_limited_for_no_bandwidth_growth",
+        "latest_send_rate set",
+        "latest_send_rate",
+        "latest_ack_rate set",
+        "latest_ack_rate",
+        "total_bytes_acked",
+        "total_bytes_lost",
+        "last_accepted_moment",
+        "phase",
+        "start_time",
+        "phase_start_time",
+        "rounds_in_phase",
+        "rounds_since_probe",
+        "probe_wait_time set",
+        "probe_wait_time",
+        "probe_up_rounds",
+        "probe_up_bytes set",
+        "probe_up_bytes",
+        "probe_up_acked",
+        "probe_up_app_limited_since_inflight_hi_limited",
+        "has_advanced_max_bw",
+        "is_sample_from_probing",
+        "last_cycle_probed_too_high",
+        "last_cycle_stopped_risky_probe",
+    ];
 }
 
 /// A pair of the filter run.
