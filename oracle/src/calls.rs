@@ -4,8 +4,11 @@
 
 use std::collections::VecDeque;
 
+use guovssalu_sys::table::call;
+use guovssalu_sys::table::phase;
+use guovssalu_sys::table::UNSET;
+
 use crate::model::field::*;
-use crate::model::phase;
 use crate::model::Call;
 use crate::model::Getter;
 use crate::model::Record;
@@ -13,7 +16,7 @@ use crate::model::Sample;
 use crate::model::SendState;
 use crate::model::Start;
 use crate::model::State;
-use crate::model::UNSET;
+use crate::model::SET_RECORD;
 use crate::recovery::gcongestion::Host;
 use crate::replies::BANDWIDTH;
 use crate::replies::BYTES;
@@ -46,6 +49,46 @@ const TURNS: [u64; 17] = [
     16_777_223,
     BYTES - 1,
     BYTES,
+];
+
+/// An event's start and its finish.
+const EVENT: u64 = call::ON_CONGESTION_EVENT_START;
+const FINISH: u64 = call::ON_CONGESTION_EVENT_FINISH;
+
+/// The questions about an event.
+const QUESTIONS: [u64; 3] = [
+    call::MAYBE_EXPIRE_MIN_RTT,
+    call::IS_INFLIGHT_TOO_HIGH,
+    call::HAS_BANDWIDTH_GROWTH,
+];
+
+/// The calls that change the model or reckon with it, but for sends and events.
+const CHANGES: [u64; 15] = [
+    call::RESTART_ROUND_EARLY,
+    call::CHECK_PERSISTENT_QUEUE,
+    call::BDP,
+    call::BDP1,
+    call::BDP0,
+    call::INFLIGHT_HI_WITH_HEADROOM,
+    call::SET_FULL_BANDWIDTH_REACHED,
+    call::SET_PACING_GAIN,
+    call::SET_CWND_GAIN,
+    call::SET_INFLIGHT_HI,
+    call::CAP_INFLIGHT_LO,
+    call::CLEAR_INFLIGHT_LO,
+    call::CLEAR_BANDWIDTH_LO,
+    call::ADVANCE_MAX_BANDWIDTH_FILTER,
+    call::POSTPONE_MIN_RTT_TIMESTAMP,
+];
+
+/// The phase entries, the exit from Down and the slope.
+const ENTRIES: [u64; 6] = [
+    call::ENTER_PROBE_DOWN,
+    call::ENTER_PROBE_CRUISE,
+    call::ENTER_PROBE_REFILL,
+    call::ENTER_PROBE_UP,
+    call::EXIT_PROBE_DOWN,
+    call::RAISE_INFLIGHT_HIGH_SLOPE,
 ];
 
 /// How a sequence goes.
@@ -115,9 +158,9 @@ impl Calls {
         }
         let number = self.planned.pop_front().unwrap();
         // An event needs a record that isn't earlier than the last moment.
-        if number == 3 && state[EVENT_TIME] < state[LAST_MOMENT] {
-            self.planned.push_front(3);
-            return self.make(2, state);
+        if number == EVENT && state[EVENT_TIME] < state[LAST_MOMENT] {
+            self.planned.push_front(EVENT);
+            return self.make(SET_RECORD, state);
         }
         self.make(number, state)
     }
@@ -210,40 +253,59 @@ impl Calls {
         let mut plan = Vec::new();
         match self.manner {
             Anything => match random.below(20) {
-                0 | 1 => plan.extend([2, 3, 4]),
-                2 => plan.extend([2, 3]),
-                3 => plan.extend([3, 4]),
-                4 => plan.extend([3]),
-                5 => plan.extend([2, 5]),
-                6 => plan.extend([2, 6]),
-                7 => plan.extend([2, 7]),
-                8 | 9 => plan.push(1),
-                10 | 11 => plan.push(40 + random.below(6)),
+                0 | 1 => plan.extend([SET_RECORD, EVENT, FINISH]),
+                2 => plan.extend([SET_RECORD, EVENT]),
+                3 => plan.extend([EVENT, FINISH]),
+                4 => plan.extend([EVENT]),
+                5 => plan.extend([SET_RECORD, call::MAYBE_EXPIRE_MIN_RTT]),
+                6 => plan.extend([SET_RECORD, call::IS_INFLIGHT_TOO_HIGH]),
+                7 => plan.extend([SET_RECORD, call::HAS_BANDWIDTH_GROWTH]),
+                8 | 9 => plan.push(call::ON_PACKET_SENT),
+                10 | 11 => plan.push(random.pick(&ENTRIES)),
                 12 => plan.push(random.pick(&Getter::ALL) as u64),
-                13 => plan.push(5 + random.below(3)),
-                _ => plan.push(8 + random.below(15)),
+                13 => plan.push(random.pick(&QUESTIONS)),
+                _ => plan.push(random.pick(&CHANGES)),
             },
             Rounds => {
-                plan.resize(random.below(3) as usize, 1);
-                plan.extend([2, 3]);
+                plan.resize(random.below(3) as usize, call::ON_PACKET_SENT);
+                plan.extend([SET_RECORD, EVENT]);
                 if random.one_in(3) {
-                    plan.push(random.pick(&[5, 6, 6, 7, 7, 9]));
+                    plan.push(random.pick(&[
+                        call::MAYBE_EXPIRE_MIN_RTT,
+                        call::IS_INFLIGHT_TOO_HIGH,
+                        call::IS_INFLIGHT_TOO_HIGH,
+                        call::HAS_BANDWIDTH_GROWTH,
+                        call::HAS_BANDWIDTH_GROWTH,
+                        call::CHECK_PERSISTENT_QUEUE,
+                    ]));
                 }
                 if random.one_in(5) {
-                    plan.push(random.pick(&[10, 11, 12, 13, 15, 16, 17, 18, 22]));
+                    plan.push(random.pick(&[
+                        call::BDP,
+                        call::BDP1,
+                        call::BDP0,
+                        call::INFLIGHT_HI_WITH_HEADROOM,
+                        call::SET_PACING_GAIN,
+                        call::SET_CWND_GAIN,
+                        call::SET_INFLIGHT_HI,
+                        call::CAP_INFLIGHT_LO,
+                        call::POSTPONE_MIN_RTT_TIMESTAMP,
+                    ]));
                 }
                 if !random.one_in(8) {
-                    plan.push(4);
+                    plan.push(FINISH);
                 }
                 if random.one_in(4) {
                     // The next phase, mostly.
                     plan.push(match state[PHASE] {
-                        _ if random.one_in(6) => 40 + random.below(6),
-                        phase::UP => 40,
-                        phase::DOWN => random.pick(&[41, 42]),
-                        phase::CRUISE => 42,
-                        phase::REFILL => 43,
-                        _ => 40,
+                        _ if random.one_in(6) => random.pick(&ENTRIES),
+                        phase::UP => call::ENTER_PROBE_DOWN,
+                        phase::DOWN => {
+                            random.pick(&[call::ENTER_PROBE_CRUISE, call::ENTER_PROBE_REFILL])
+                        }
+                        phase::CRUISE => call::ENTER_PROBE_REFILL,
+                        phase::REFILL => call::ENTER_PROBE_UP,
+                        _ => call::ENTER_PROBE_DOWN,
                     });
                 }
                 if random.one_in(4) {
@@ -252,17 +314,25 @@ impl Calls {
             }
             Reductions => {
                 if random.one_in(3) {
-                    plan.push(1);
+                    plan.push(call::ON_PACKET_SENT);
                 }
-                plan.extend([2, 3]);
+                plan.extend([SET_RECORD, EVENT]);
                 if random.one_in(2) {
-                    plan.push(4);
+                    plan.push(FINISH);
                 }
                 if random.one_in(6) {
-                    plan.push(random.pick(&[17, 18, 18, 19, 20, 41, 42]));
+                    plan.push(random.pick(&[
+                        call::SET_INFLIGHT_HI,
+                        call::CAP_INFLIGHT_LO,
+                        call::CAP_INFLIGHT_LO,
+                        call::CLEAR_INFLIGHT_LO,
+                        call::CLEAR_BANDWIDTH_LO,
+                        call::ENTER_PROBE_CRUISE,
+                        call::ENTER_PROBE_REFILL,
+                    ]));
                 }
                 if random.one_in(5) {
-                    plan.push(random.pick(&[23, 35]));
+                    plan.push(random.pick(&[call::BANDWIDTH_ESTIMATE, call::INFLIGHT_LO]));
                 }
             }
         }
@@ -272,12 +342,12 @@ impl Calls {
     /// The call of this number, with arguments.
     pub fn make(&mut self, number: u64, state: &State) -> Call {
         match number {
-            1 => self.sent(state),
-            2 => Call::Record(self.record(state)),
-            3 => Call::Event(self.sample(state)),
-            4 => Call::Finish,
-            5 => Call::ExpireMinRtt,
-            6 => {
+            call::ON_PACKET_SENT => self.sent(state),
+            SET_RECORD => Call::Record(self.record(state)),
+            EVENT => Call::Event(self.sample(state)),
+            FINISH => Call::Finish,
+            call::MAYBE_EXPIRE_MIN_RTT => Call::ExpireMinRtt,
+            call::IS_INFLIGHT_TOO_HIGH => {
                 let events = state[LOSS_EVENTS_IN_ROUND];
                 let random = &mut self.random;
                 Call::InflightTooHigh {
@@ -290,27 +360,27 @@ impl Calls {
                     },
                 }
             }
-            7 => Call::BandwidthGrowth,
-            8 => Call::RestartRound,
-            9 => Call::PersistentQueue { gain: self.gain() },
-            10 => Call::Bdp {
+            call::HAS_BANDWIDTH_GROWTH => Call::BandwidthGrowth,
+            call::RESTART_ROUND_EARLY => Call::RestartRound,
+            call::CHECK_PERSISTENT_QUEUE => Call::PersistentQueue { gain: self.gain() },
+            call::BDP => Call::Bdp {
                 bandwidth: self.bandwidth(state),
                 gain: self.gain(),
             },
-            11 => Call::Bdp1 {
+            call::BDP1 => Call::Bdp1 {
                 bandwidth: self.bandwidth(state),
             },
-            12 => Call::Bdp0,
-            13 => Call::WithHeadroom,
-            14 => Call::SetFullReached,
-            15 => Call::SetPacingGain(self.gain()),
-            16 => Call::SetCwndGain(self.gain()),
-            17 => Call::SetInflightHi(self.bound(state)),
-            18 => Call::CapInflightLo(self.bound(state)),
-            19 => Call::ClearInflightLo,
-            20 => Call::ClearBandwidthLo,
-            21 => Call::AdvanceMaxBandwidth,
-            22 => {
+            call::BDP0 => Call::Bdp0,
+            call::INFLIGHT_HI_WITH_HEADROOM => Call::WithHeadroom,
+            call::SET_FULL_BANDWIDTH_REACHED => Call::SetFullReached,
+            call::SET_PACING_GAIN => Call::SetPacingGain(self.gain()),
+            call::SET_CWND_GAIN => Call::SetCwndGain(self.gain()),
+            call::SET_INFLIGHT_HI => Call::SetInflightHi(self.bound(state)),
+            call::CAP_INFLIGHT_LO => Call::CapInflightLo(self.bound(state)),
+            call::CLEAR_INFLIGHT_LO => Call::ClearInflightLo,
+            call::CLEAR_BANDWIDTH_LO => Call::ClearBandwidthLo,
+            call::ADVANCE_MAX_BANDWIDTH_FILTER => Call::AdvanceMaxBandwidth,
+            call::POSTPONE_MIN_RTT_TIMESTAMP => {
                 let most = LENGTH.min(MOMENT - state[MIN_RTT_TIMESTAMP]);
                 let random = &mut self.random;
                 let length = match random.below(6) {
@@ -321,16 +391,15 @@ impl Calls {
                 };
                 Call::PostponeMinRtt(length.min(most))
             }
-            23..=38 => Call::Get(Getter::ALL[number as usize - 23]),
-            40 => Call::ProbeDown {
+            call::ENTER_PROBE_DOWN => Call::ProbeDown {
                 too_high: self.random.one_in(2),
                 risky: self.random.one_in(2),
                 moment: self.moment(state),
             },
-            41 => Call::ProbeCruise {
+            call::ENTER_PROBE_CRUISE => Call::ProbeCruise {
                 moment: self.moment(state),
             },
-            42 => Call::ProbeRefill {
+            call::ENTER_PROBE_REFILL => Call::ProbeRefill {
                 rounds: match self.random.below(4) {
                     0 => self.random.below(UP_ROUNDS + 1),
                     1 => self.random.pick(&[1, 2, UP_ROUNDS - 1, UP_ROUNDS]),
@@ -339,14 +408,15 @@ impl Calls {
                 },
                 moment: self.moment(state),
             },
-            43 => Call::ProbeUp {
+            call::ENTER_PROBE_UP => Call::ProbeUp {
                 moment: self.moment(state),
                 cwnd: self.slope_window(state),
             },
-            44 => Call::ExitProbeDown,
-            _ => Call::RaiseSlope {
+            call::EXIT_PROBE_DOWN => Call::ExitProbeDown,
+            call::RAISE_INFLIGHT_HIGH_SLOPE => Call::RaiseSlope {
                 cwnd: self.slope_window(state),
             },
+            number => Call::Get(Getter::of(number).expect("no call has the number")),
         }
     }
 
@@ -391,7 +461,7 @@ impl Calls {
 
     fn record(&mut self, state: &State) -> Record {
         // Only an event needs a moment that doesn't fall.
-        let expiry = self.planned.front() == Some(&5);
+        let expiry = self.planned.front() == Some(&call::MAYBE_EXPIRE_MIN_RTT);
         let event_time = if expiry || (self.manner == Anything && self.random.one_in(8)) {
             let random = &mut self.random;
             let due = state[MIN_RTT_TIMESTAMP] + self.start.probe_rtt_period;

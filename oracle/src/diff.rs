@@ -6,6 +6,8 @@ use std::mem;
 use std::time::Duration;
 use std::time::Instant;
 
+use guovssalu_sys::table::REPLY_IN_ANSWER;
+
 use crate::frame;
 use crate::frame::Frame;
 use crate::port::Port;
@@ -92,7 +94,7 @@ impl<'a> Comparison<'a> {
         let puts = matches!(step, Step::Put(_));
         self.steps.push(step);
         for asked in asked {
-            self.replies[asked.answer[0] as usize] += !puts as u64;
+            self.replies[asked.answer[REPLY_IN_ANSWER] as usize] += !puts as u64;
             self.frame.add(&asked);
             self.taken.push(self.steps.len());
             if self.frame.is_full() {

@@ -1,6 +1,11 @@
 //! Chooses runs of the exported filter and of the exported slope, with lengths
 //! at which they are refused.
 
+use guovssalu_sys::table::PAIR_BYTES;
+use guovssalu_sys::table::SAMPLES_BYTES;
+use guovssalu_sys::table::SLOPE_BYTES;
+use guovssalu_sys::table::WORD_BYTES;
+
 use crate::filter_steps;
 use crate::filter_steps::WINDOWS;
 use crate::frame::MEMORY;
@@ -10,6 +15,10 @@ use crate::replies::UP_ROUNDS;
 use crate::values::Random;
 use crate::windowed;
 use crate::world::Step;
+
+/// Bytes of a pair, and of the slope's output.
+const PAIR: u64 = PAIR_BYTES as u64;
+const SLOPE: u64 = SLOPE_BYTES as u64;
 
 /// An endless choice of calls, each for itself.
 pub struct ExportSteps {
@@ -50,7 +59,16 @@ impl ExportSteps {
         Step::Slope {
             rounds,
             window,
-            lent: random.pick(&[15, 16, 16, 16, 17, 0, 8, MEMORY as u64]),
+            lent: random.pick(&[
+                SLOPE - 1,
+                SLOPE,
+                SLOPE,
+                SLOPE,
+                SLOPE + 1,
+                0,
+                8,
+                MEMORY as u64,
+            ]),
         }
     }
 
@@ -58,12 +76,12 @@ impl ExportSteps {
         let window = self.random.pick(&WINDOWS);
         let mut words = self.pairs(window);
         let random = &mut self.random;
-        let mut length = 8 * words.len() as u64;
+        let mut length = (WORD_BYTES * words.len()) as u64;
         if random.one_in(6) {
-            length = (length + 1 + random.below(15)).min(MOST_PAIRS);
-            words.resize(length.div_ceil(8) as usize, 7);
+            length = (length + 1 + random.below(PAIR - 1)).min(MOST_PAIRS);
+            words.resize(length.div_ceil(WORD_BYTES as u64) as usize, 7);
         }
-        let whole = 24 * (length / 16);
+        let whole = SAMPLES_BYTES as u64 * (length / PAIR);
         let lent = match random.below(8) {
             0 => whole.saturating_sub(1),
             1 => whole + 1,
@@ -83,7 +101,7 @@ impl ExportSteps {
     fn pairs(&mut self, window: u64) -> Vec<u64> {
         let random = &mut self.random;
         let falls = random.one_in(5);
-        let count = random.below(MOST_PAIRS / 16 + 1);
+        let count = random.below(MOST_PAIRS / PAIR + 1);
         let mut filter = [0; 8];
         windowed::operate(&mut filter, 0, window, 0);
         let mut words = Vec::new();

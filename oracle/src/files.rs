@@ -7,6 +7,9 @@ use std::io;
 use std::mem;
 use std::path::Path;
 
+use guovssalu_sys::table::NUMBER_IN_CALL;
+use guovssalu_sys::table::REPLY_IN_ANSWER;
+
 use crate::export_steps::ExportSteps;
 use crate::filter_steps::FilterSteps;
 use crate::frame;
@@ -80,8 +83,11 @@ impl Files {
         if self.summed && self.frame.is_empty() {
             self.frame.add(&asked.summed());
         }
-        *self.calls.entry(asked.words[0]).or_default() += 1;
-        *self.replies.entry(asked.answer[0]).or_default() += 1;
+        *self.calls.entry(asked.words[NUMBER_IN_CALL]).or_default() += 1;
+        *self
+            .replies
+            .entry(asked.answer[REPLY_IN_ANSWER])
+            .or_default() += 1;
         self.frame.add(asked);
         if self.frame.is_full() {
             let Frame { request, expected } = mem::take(&mut self.frame);

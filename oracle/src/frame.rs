@@ -6,29 +6,27 @@ use std::io::ErrorKind;
 use std::io::Read;
 use std::io::Write;
 
+use guovssalu_sys::table;
+
 /// Calls in a frame.
 pub const CALLS: usize = 100;
 
-/// Numbers of the state that the port carries, and those of the record and the
-/// parameters, which are handed in with each call.
-pub const CARRIED: usize = 50;
-pub const RECORD: usize = 16;
-pub const PARAMETERS: usize = 11;
+/// Numbers of the state that the port carries, and those of the record, which
+/// is handed in with each call.
+pub const CARRIED: usize = table::STATE_WORDS;
+pub const RECORD: usize = table::EVENT_WORDS;
 
-/// The most arguments of a call.
-pub const ARGUMENTS: usize = 21;
-
-/// Words of a call and of its answer.
-pub const CALL: usize = 1 + ARGUMENTS + RECORD + PARAMETERS;
-pub const ANSWER: usize = 2 + RECORD + CARRIED;
+/// Words of a call and of its answer, with the state after it.
+pub const CALL: usize = table::CALL_WORDS;
+pub const ANSWER: usize = table::ANSWER_WORDS + CARRIED;
 
 /// Words of a frame.
 pub const REQUEST: usize = CARRIED + CALLS * CALL;
 pub const ANSWERS: usize = CALLS * ANSWER;
 
 /// The numbers of a start and of an event.
-pub const START: u64 = 0;
-pub const EVENT: u64 = 3;
+pub const START: u64 = table::call::START;
+pub const EVENT: u64 = table::call::ON_CONGESTION_EVENT_START;
 
 /// The numbers of calls that are not the model's: on a windowed filter, of
 /// functions on numbers, of the exported run of a filter, of the exported
@@ -41,13 +39,14 @@ pub const SLOPE: u64 = 49;
 pub const SUMMED: u64 = 98;
 pub const PUT: u64 = 99;
 
-/// The most numbers that one call puts.
-pub const MOST_PUT: usize = 23;
+/// The most numbers that one call puts, after its number and their count.
+pub const MOST_PUT: usize = (CALL - 2) / 2;
 
-/// The most bytes of pairs that a run of a filter is given, and the bytes of
-/// the memory of which a part is lent to an exported call.
-pub const MOST_PAIRS: u64 = 360;
-pub const MEMORY: usize = 528;
+/// The most bytes of pairs that a run of a filter is given, after its number
+/// and three arguments, and the bytes of the memory of which a part is lent to
+/// an exported call: all of an answer but the reply and the number beside it.
+pub const MOST_PAIRS: u64 = (table::WORD_BYTES * (CALL - 4)) as u64;
+pub const MEMORY: usize = table::WORD_BYTES * (ANSWER - table::EVENT_IN_ANSWER);
 
 /// A call: its number, its arguments, the record and the parameters.
 pub type CallWords = [u64; CALL];
@@ -68,7 +67,7 @@ impl Asked {
     /// it puts nothing into the state.
     pub fn summed(&self) -> Asked {
         let mut answer = [0; ANSWER];
-        answer[2 + RECORD..].copy_from_slice(&self.before);
+        answer[table::ANSWER_WORDS..].copy_from_slice(&self.before);
         Asked {
             before: self.before,
             words: bare_call(SUMMED, &[]),
@@ -113,17 +112,16 @@ impl Frame {
 /// The words of a call that has no record and no parameters.
 pub fn bare_call(number: u64, arguments: &[u64]) -> CallWords {
     let mut words = [0; CALL];
-    words[0] = number;
-    words[1..][..arguments.len()].copy_from_slice(arguments);
+    words[table::NUMBER_IN_CALL] = number;
+    words[table::ARGUMENTS_IN_CALL..][..arguments.len()].copy_from_slice(arguments);
     words
 }
 
 /// The words of a call with these arguments.
 pub fn call(number: u64, arguments: &[u64], record: &[u64], parameters: &[u64]) -> CallWords {
     let mut words = bare_call(number, arguments);
-    let tail = &mut words[1 + ARGUMENTS..];
-    tail[..RECORD].copy_from_slice(record);
-    tail[RECORD..].copy_from_slice(parameters);
+    words[table::EVENT_IN_CALL..][..RECORD].copy_from_slice(record);
+    words[table::PARAMS_IN_CALL..].copy_from_slice(parameters);
     words
 }
 
@@ -134,7 +132,7 @@ pub fn bytes(words: &[u64]) -> Vec<u8> {
 
 /// The words in these bytes.
 pub fn words(bytes: &[u8]) -> Vec<u64> {
-    let words = bytes.chunks_exact(8);
+    let words = bytes.chunks_exact(table::WORD_BYTES);
     words
         .map(|word| u64::from_le_bytes(word.try_into().unwrap()))
         .collect()
@@ -147,7 +145,7 @@ pub fn write(to: &mut impl Write, words: &[u64]) -> io::Result<()> {
 
 /// The next `count` words, or none where the stream ends before them.
 pub fn read(from: &mut impl Read, count: usize) -> io::Result<Option<Vec<u64>>> {
-    let mut bytes = vec![0; count * 8];
+    let mut bytes = vec![0; count * table::WORD_BYTES];
     let first = loop {
         match from.read(&mut bytes) {
             Err(error) if error.kind() == ErrorKind::Interrupted => {}

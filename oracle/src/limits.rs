@@ -1,6 +1,8 @@
 //! The limits: calls with a number at each limit of document 01, which
 //! are accepted, and outside it, which are refused.
 
+use guovssalu_sys::table::UNSET;
+
 use crate::files::Files;
 use crate::model::field::*;
 use crate::model::Call;
@@ -9,7 +11,6 @@ use crate::model::Record;
 use crate::model::Sample;
 use crate::model::SendState;
 use crate::model::Start;
-use crate::model::UNSET;
 use crate::recovery::gcongestion::Host;
 use crate::replies::BANDWIDTH;
 use crate::replies::BYTES;

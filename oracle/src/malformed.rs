@@ -1,6 +1,19 @@
 //! Steps as `Steps` chooses them, and between them calls that are refused for
 //! their words: malformed ones, and numbers that are no call's.
 
+use guovssalu_sys::table::argument::bdp;
+use guovssalu_sys::table::argument::check_persistent_queue;
+use guovssalu_sys::table::argument::enter_probe_down;
+use guovssalu_sys::table::argument::set_cwnd_gain;
+use guovssalu_sys::table::argument::set_pacing_gain;
+use guovssalu_sys::table::call;
+use guovssalu_sys::table::event;
+use guovssalu_sys::table::params;
+use guovssalu_sys::table::sample;
+use guovssalu_sys::table::EVENT_IN_CALL;
+use guovssalu_sys::table::NUMBER_IN_CALL;
+use guovssalu_sys::table::PARAMS_IN_CALL;
+
 use crate::calls::Calls;
 use crate::frame;
 use crate::frame::CallWords;
@@ -28,37 +41,61 @@ use Form::*;
 
 /// The words of the record and of the parameters that have a form.
 const RECORD: [(usize, Form); 6] = [
-    (28, Flag),
-    (29, Flag),
-    (30, Pair),
-    (32, Pair),
-    (34, Flag),
-    (35, Flag),
+    (EVENT_IN_CALL + event::END_OF_ROUND_TRIP, Flag),
+    (EVENT_IN_CALL + event::IS_PROBING_FOR_BANDWIDTH, Flag),
+    (EVENT_IN_CALL + event::SAMPLE_MAX_BANDWIDTH_SET, Pair),
+    (EVENT_IN_CALL + event::SAMPLE_MIN_RTT_SET, Pair),
+    (EVENT_IN_CALL + event::LAST_PACKET_SEND_STATE_IS_VALID, Flag),
+    (
+        EVENT_IN_CALL + event::LAST_PACKET_SEND_STATE_IS_APP_LIMITED,
+        Flag,
+    ),
 ];
 const PARAMETERS: [(usize, Form); 7] = [
-    (38, Float),
-    (39, Float),
-    (40, Float),
-    (41, Float),
-    (42, Float),
-    (43, Float),
-    (48, Flag),
+    (PARAMS_IN_CALL + params::BETA, Float),
+    (PARAMS_IN_CALL + params::LOSS_THRESHOLD, Float),
+    (PARAMS_IN_CALL + params::INFLIGHT_HI_HEADROOM, Float),
+    (PARAMS_IN_CALL + params::FULL_BW_THRESHOLD, Float),
+    (PARAMS_IN_CALL + params::STARTUP_CWND_GAIN, Float),
+    (PARAMS_IN_CALL + params::STARTUP_PACING_GAIN, Float),
+    (
+        PARAMS_IN_CALL + params::IGNORE_APP_LIMITED_FOR_NO_BANDWIDTH_GROWTH,
+        Flag,
+    ),
 ];
 const EVENT: [(usize, Form); 8] = [
-    (1, Pair),
-    (3, Pair),
-    (5, Pair),
-    (7, Flag),
-    (8, Pair),
-    (12, Flag),
-    (13, Flag),
-    (18, Count),
+    (sample::SAMPLE_MAX_BANDWIDTH_SET, Pair),
+    (sample::SAMPLE_MAX_SEND_RATE_SET, Pair),
+    (sample::SAMPLE_MAX_ACK_RATE_SET, Pair),
+    (sample::SAMPLE_IS_APP_LIMITED, Flag),
+    (sample::SAMPLE_RTT_SET, Pair),
+    (sample::LAST_PACKET_SEND_STATE_IS_VALID, Flag),
+    (sample::LAST_PACKET_SEND_STATE_IS_APP_LIMITED, Flag),
+    (sample::ACKED_COUNT, Count),
 ];
 
 /// Calls that use such words, but for a start.
-const CALLS: [u64; 17] = [3, 3, 3, 3, 3, 4, 5, 6, 7, 9, 9, 10, 13, 15, 16, 40, 40];
+const CALLS: [u64; 17] = [
+    call::ON_CONGESTION_EVENT_START,
+    call::ON_CONGESTION_EVENT_START,
+    call::ON_CONGESTION_EVENT_START,
+    call::ON_CONGESTION_EVENT_START,
+    call::ON_CONGESTION_EVENT_START,
+    call::ON_CONGESTION_EVENT_FINISH,
+    call::MAYBE_EXPIRE_MIN_RTT,
+    call::IS_INFLIGHT_TOO_HIGH,
+    call::HAS_BANDWIDTH_GROWTH,
+    call::CHECK_PERSISTENT_QUEUE,
+    call::CHECK_PERSISTENT_QUEUE,
+    call::BDP,
+    call::INFLIGHT_HI_WITH_HEADROOM,
+    call::SET_PACING_GAIN,
+    call::SET_CWND_GAIN,
+    call::ENTER_PROBE_DOWN,
+    call::ENTER_PROBE_DOWN,
+];
 
-/// Numbers that are no call's, and not one of the frames' own.
+/// Numbers that are no call's, and not one of the frames' own: by hand.
 const NO_CALLS: [u64; 10] = [
     2,
     39,
@@ -117,7 +154,7 @@ impl Mixed {
         let parameters = world.start.parameters();
         let mut words = frame::call(number, &numbers[1..], record, &parameters);
         if self.random.one_in(6) {
-            words[0] = self.random.pick(&NO_CALLS);
+            words[NUMBER_IN_CALL] = self.random.pick(&NO_CALLS);
         } else {
             let place = self.place(number);
             self.malform(&mut words, place);
@@ -134,17 +171,22 @@ impl Mixed {
     /// A word that the call of this number uses, and its form.
     fn place(&mut self, number: u64) -> (usize, Form) {
         let arguments: &[(usize, Form)] = match number {
-            3 => &EVENT,
-            9 | 15 | 16 => &[(1, Float)],
-            10 => &[(2, Float)],
-            40 => &[(1, Flag), (2, Flag)],
+            call::ON_CONGESTION_EVENT_START => &EVENT,
+            call::CHECK_PERSISTENT_QUEUE => &[(check_persistent_queue::TARGET_GAIN, Float)],
+            call::SET_PACING_GAIN => &[(set_pacing_gain::PACING_GAIN, Float)],
+            call::SET_CWND_GAIN => &[(set_cwnd_gain::CWND_GAIN, Float)],
+            call::BDP => &[(bdp::GAIN, Float)],
+            call::ENTER_PROBE_DOWN => &[
+                (enter_probe_down::PROBED_TOO_HIGH, Flag),
+                (enter_probe_down::STOPPED_RISKY_PROBE, Flag),
+            ],
             _ => &[],
         };
         let mut places = arguments.to_vec();
-        if (3..=7).contains(&number) {
+        if call::READ_EVENT.contains(&number) {
             places.extend(RECORD);
         }
-        if [0, 3, 5, 6, 7, 9, 13, 40].contains(&number) {
+        if call::TAKE_PARAMS.contains(&number) {
             places.extend(PARAMETERS);
         }
         self.random.pick(&places)

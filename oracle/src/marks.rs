@@ -3,15 +3,16 @@
 
 use std::collections::BTreeMap;
 
+use guovssalu_sys::table::phase;
+use guovssalu_sys::table::UNSET;
+
 use crate::calls::bdp;
 use crate::model::field::*;
-use crate::model::phase;
 use crate::model::Call;
 use crate::model::Getter;
 use crate::model::Sample;
 use crate::model::Start;
 use crate::model::State;
-use crate::model::UNSET;
 use crate::replies::MOMENT;
 
 /// What has to occur, each at least `LEAST` times. Cases with the same number

@@ -2,89 +2,99 @@
 //! What answers them is `Host`, which is appended to probe_bw.rs of the
 //! original, where it reaches what is private.
 
-/// The 66 fields in the order of README.md: the model, the last accepted
-/// moment, the cycle, the record of the current event.
-pub type State = [u64; 66];
+use guovssalu_sys::table::argument;
+use guovssalu_sys::table::call;
+use guovssalu_sys::table::event;
+use guovssalu_sys::table::params;
+use guovssalu_sys::table::sample;
+use guovssalu_sys::table::ARGUMENTS_IN_CALL;
+use guovssalu_sys::table::EVENT_WORDS;
+use guovssalu_sys::table::MOST_ACKED;
+use guovssalu_sys::table::PARAMS_WORDS;
+use guovssalu_sys::table::STATE_WORDS;
 
-/// An unset number of bytes, as the original stores it.
-pub const UNSET: u64 = u64::MAX;
+/// The fields in the order of README.md: the model, the last accepted moment,
+/// the cycle, the record of the current event.
+pub type State = [u64; FIELDS];
+
+/// How many there are.
+pub const FIELDS: usize = STATE_WORDS + EVENT_WORDS;
+
+/// The number, no call's, of the step that sets the current record.
+pub const SET_RECORD: u64 = 2;
 
 /// Places in a `State`.
 pub mod field {
-    pub const ROUND_TRIP_COUNT: usize = 0;
-    pub const LAST_SENT: usize = 1;
-    pub const END_SET: usize = 2;
-    pub const END: usize = 3;
-    pub const SLOT_0: usize = 4;
-    pub const SLOT_1: usize = 5;
-    pub const MIN_RTT: usize = 6;
-    pub const MIN_RTT_TIMESTAMP: usize = 7;
-    pub const BYTES_LOST_IN_ROUND: usize = 8;
-    pub const LOSS_EVENTS_IN_ROUND: usize = 9;
-    pub const MAX_DELIVERED: usize = 10;
-    pub const MIN_IN_FLIGHT: usize = 11;
-    pub const LIMITED_IN_ROUND: usize = 12;
-    pub const BANDWIDTH_LATEST: usize = 13;
-    pub const INFLIGHT_LATEST: usize = 14;
-    pub const BANDWIDTH_LO_SET: usize = 15;
-    pub const BANDWIDTH_LO: usize = 16;
-    pub const INFLIGHT_LO: usize = 17;
-    pub const INFLIGHT_HI: usize = 18;
-    pub const CWND_GAIN: usize = 19;
-    pub const PACING_GAIN: usize = 20;
-    pub const CWND_LIMITED: usize = 21;
-    pub const FULL_REACHED: usize = 22;
-    pub const BASELINE: usize = 23;
-    pub const ROUNDS_WITHOUT_GROWTH: usize = 24;
-    pub const ROUNDS_WITH_QUEUEING: usize = 25;
-    pub const IGNORE_APP_LIMITED: usize = 26;
-    pub const SEND_RATE_SET: usize = 27;
-    pub const SEND_RATE: usize = 28;
-    pub const ACK_RATE_SET: usize = 29;
-    pub const ACK_RATE: usize = 30;
-    pub const TOTAL_ACKED: usize = 31;
-    pub const TOTAL_LOST: usize = 32;
-    pub const LAST_MOMENT: usize = 33;
-    pub const PHASE: usize = 34;
-    pub const CYCLE_START: usize = 35;
-    pub const PHASE_START: usize = 36;
-    pub const ROUNDS_IN_PHASE: usize = 37;
-    pub const ROUNDS_SINCE_PROBE: usize = 38;
-    pub const PROBE_WAIT_SET: usize = 39;
-    pub const PROBE_WAIT: usize = 40;
-    pub const PROBE_UP_ROUNDS: usize = 41;
-    pub const PROBE_UP_BYTES_SET: usize = 42;
-    pub const PROBE_UP_BYTES: usize = 43;
-    pub const PROBE_UP_ACKED: usize = 44;
-    pub const UP_APP_LIMITED: usize = 45;
-    pub const HAS_ADVANCED: usize = 46;
-    pub const FROM_PROBING: usize = 47;
-    pub const PROBED_TOO_HIGH: usize = 48;
-    pub const STOPPED_RISKY: usize = 49;
-    pub const EVENT_TIME: usize = 50;
-    pub const PRIOR_CWND: usize = 51;
-    pub const PRIOR_IN_FLIGHT: usize = 52;
-    pub const BYTES_IN_FLIGHT: usize = 53;
-    pub const BYTES_ACKED: usize = 54;
-    pub const BYTES_LOST: usize = 55;
-    pub const ROUND_ENDED: usize = 56;
-    pub const PROBING: usize = 57;
-    pub const SAMPLE_SET: usize = 58;
-    pub const SAMPLE: usize = 59;
-    pub const RTT_SET: usize = 60;
-    pub const RTT: usize = 61;
-    pub const STATE_VALID: usize = 62;
-    pub const STATE_APP_LIMITED: usize = 63;
-    pub const STATE_ACKED: usize = 64;
-    pub const STATE_IN_FLIGHT: usize = 65;
-}
+    use guovssalu_sys::table::event;
+    use guovssalu_sys::table::state;
+    use guovssalu_sys::table::STATE_WORDS;
 
-/// The phases of a cycle, as the state numbers them.
-pub mod phase {
-    pub const UP: u64 = 1;
-    pub const DOWN: u64 = 2;
-    pub const CRUISE: u64 = 3;
-    pub const REFILL: u64 = 4;
+    pub const ROUND_TRIP_COUNT: usize = state::ROUND_TRIP_COUNT;
+    pub const LAST_SENT: usize = state::LAST_SENT_PACKET;
+    pub const END_SET: usize = state::END_OF_ROUND_TRIP_SET;
+    pub const END: usize = state::END_OF_ROUND_TRIP;
+    pub const SLOT_0: usize = state::MAX_BANDWIDTH_0;
+    pub const SLOT_1: usize = state::MAX_BANDWIDTH_1;
+    pub const MIN_RTT: usize = state::MIN_RTT;
+    pub const MIN_RTT_TIMESTAMP: usize = state::MIN_RTT_TIMESTAMP;
+    pub const BYTES_LOST_IN_ROUND: usize = state::BYTES_LOST_IN_ROUND;
+    pub const LOSS_EVENTS_IN_ROUND: usize = state::LOSS_EVENTS_IN_ROUND;
+    pub const MAX_DELIVERED: usize = state::MAX_BYTES_DELIVERED_IN_ROUND;
+    pub const MIN_IN_FLIGHT: usize = state::MIN_BYTES_IN_FLIGHT_IN_ROUND;
+    pub const LIMITED_IN_ROUND: usize = state::INFLIGHT_HI_LIMITED_IN_ROUND;
+    pub const BANDWIDTH_LATEST: usize = state::BANDWIDTH_LATEST;
+    pub const INFLIGHT_LATEST: usize = state::INFLIGHT_LATEST;
+    pub const BANDWIDTH_LO_SET: usize = state::BANDWIDTH_LO_SET;
+    pub const BANDWIDTH_LO: usize = state::BANDWIDTH_LO;
+    pub const INFLIGHT_LO: usize = state::INFLIGHT_LO;
+    pub const INFLIGHT_HI: usize = state::INFLIGHT_HI;
+    pub const CWND_GAIN: usize = state::CWND_GAIN;
+    pub const PACING_GAIN: usize = state::PACING_GAIN;
+    pub const CWND_LIMITED: usize = state::CWND_LIMITED_BEFORE_AGGREGATION_EPOCH;
+    pub const FULL_REACHED: usize = state::FULL_BANDWIDTH_REACHED;
+    pub const BASELINE: usize = state::FULL_BANDWIDTH_BASELINE;
+    pub const ROUNDS_WITHOUT_GROWTH: usize = state::ROUNDS_WITHOUT_BANDWIDTH_GROWTH;
+    pub const ROUNDS_WITH_QUEUEING: usize = state::ROUNDS_WITH_QUEUEING;
+    pub const IGNORE_APP_LIMITED: usize = state::IGNORE_APP_LIMITED_FOR_NO_BANDWIDTH_GROWTH;
+    pub const SEND_RATE_SET: usize = state::LATEST_SEND_RATE_SET;
+    pub const SEND_RATE: usize = state::LATEST_SEND_RATE;
+    pub const ACK_RATE_SET: usize = state::LATEST_ACK_RATE_SET;
+    pub const ACK_RATE: usize = state::LATEST_ACK_RATE;
+    pub const TOTAL_ACKED: usize = state::TOTAL_BYTES_ACKED;
+    pub const TOTAL_LOST: usize = state::TOTAL_BYTES_LOST;
+    pub const LAST_MOMENT: usize = state::LAST_ACCEPTED_MOMENT;
+    pub const PHASE: usize = state::PHASE;
+    pub const CYCLE_START: usize = state::START_TIME;
+    pub const PHASE_START: usize = state::PHASE_START_TIME;
+    pub const ROUNDS_IN_PHASE: usize = state::ROUNDS_IN_PHASE;
+    pub const ROUNDS_SINCE_PROBE: usize = state::ROUNDS_SINCE_PROBE;
+    pub const PROBE_WAIT_SET: usize = state::PROBE_WAIT_TIME_SET;
+    pub const PROBE_WAIT: usize = state::PROBE_WAIT_TIME;
+    pub const PROBE_UP_ROUNDS: usize = state::PROBE_UP_ROUNDS;
+    pub const PROBE_UP_BYTES_SET: usize = state::PROBE_UP_BYTES_SET;
+    pub const PROBE_UP_BYTES: usize = state::PROBE_UP_BYTES;
+    pub const PROBE_UP_ACKED: usize = state::PROBE_UP_ACKED;
+    pub const UP_APP_LIMITED: usize = state::PROBE_UP_APP_LIMITED_SINCE_INFLIGHT_HI_LIMITED;
+    pub const HAS_ADVANCED: usize = state::HAS_ADVANCED_MAX_BW;
+    pub const FROM_PROBING: usize = state::IS_SAMPLE_FROM_PROBING;
+    pub const PROBED_TOO_HIGH: usize = state::LAST_CYCLE_PROBED_TOO_HIGH;
+    pub const STOPPED_RISKY: usize = state::LAST_CYCLE_STOPPED_RISKY_PROBE;
+    pub const EVENT_TIME: usize = STATE_WORDS + event::EVENT_TIME;
+    pub const PRIOR_CWND: usize = STATE_WORDS + event::PRIOR_CWND;
+    pub const PRIOR_IN_FLIGHT: usize = STATE_WORDS + event::PRIOR_BYTES_IN_FLIGHT;
+    pub const BYTES_IN_FLIGHT: usize = STATE_WORDS + event::BYTES_IN_FLIGHT;
+    pub const BYTES_ACKED: usize = STATE_WORDS + event::BYTES_ACKED;
+    pub const BYTES_LOST: usize = STATE_WORDS + event::BYTES_LOST;
+    pub const ROUND_ENDED: usize = STATE_WORDS + event::END_OF_ROUND_TRIP;
+    pub const PROBING: usize = STATE_WORDS + event::IS_PROBING_FOR_BANDWIDTH;
+    pub const SAMPLE_SET: usize = STATE_WORDS + event::SAMPLE_MAX_BANDWIDTH_SET;
+    pub const SAMPLE: usize = STATE_WORDS + event::SAMPLE_MAX_BANDWIDTH;
+    pub const RTT_SET: usize = STATE_WORDS + event::SAMPLE_MIN_RTT_SET;
+    pub const RTT: usize = STATE_WORDS + event::SAMPLE_MIN_RTT;
+    pub const STATE_VALID: usize = STATE_WORDS + event::LAST_PACKET_SEND_STATE_IS_VALID;
+    pub const STATE_APP_LIMITED: usize = STATE_WORDS + event::LAST_PACKET_SEND_STATE_IS_APP_LIMITED;
+    pub const STATE_ACKED: usize = STATE_WORDS + event::LAST_PACKET_SEND_STATE_TOTAL_BYTES_ACKED;
+    pub const STATE_IN_FLIGHT: usize = STATE_WORDS + event::LAST_PACKET_SEND_STATE_BYTES_IN_FLIGHT;
 }
 
 /// The start of a sequence, with its parameters. Times are nanoseconds.
@@ -145,28 +155,28 @@ pub struct Sample {
     pub total_acked: u64,
     pub total_lost: u64,
     pub acked_length: usize,
-    pub acked: [u64; 3],
+    pub acked: [u64; MOST_ACKED],
 }
 
 /// Calls that only answer, with their numbers.
 #[derive(Clone, Copy, Debug, PartialEq)]
 pub enum Getter {
-    BandwidthEstimate = 23,
-    MinRtt = 24,
-    MinRttTimestamp = 25,
-    MaxBandwidth = 26,
-    MaxBytesDelivered = 27,
-    TotalAcked = 28,
-    TotalLost = 29,
-    FullBandwidthReached = 30,
-    PacingGain = 31,
-    CwndGain = 32,
-    InflightHi = 33,
-    InflightHiDefault = 34,
-    InflightLo = 35,
-    LossEvents = 36,
-    RoundsWithQueueing = 37,
-    QueueingThreshold = 38,
+    BandwidthEstimate = call::BANDWIDTH_ESTIMATE as isize,
+    MinRtt = call::MIN_RTT as isize,
+    MinRttTimestamp = call::MIN_RTT_TIMESTAMP as isize,
+    MaxBandwidth = call::MAX_BANDWIDTH as isize,
+    MaxBytesDelivered = call::MAX_BYTES_DELIVERED_IN_ROUND as isize,
+    TotalAcked = call::TOTAL_BYTES_ACKED as isize,
+    TotalLost = call::TOTAL_BYTES_LOST as isize,
+    FullBandwidthReached = call::FULL_BANDWIDTH_REACHED as isize,
+    PacingGain = call::PACING_GAIN as isize,
+    CwndGain = call::CWND_GAIN as isize,
+    InflightHi = call::INFLIGHT_HI as isize,
+    InflightHiDefault = call::INFLIGHT_HI_DEFAULT as isize,
+    InflightLo = call::INFLIGHT_LO as isize,
+    LossEvents = call::LOSS_EVENTS_IN_ROUND as isize,
+    RoundsWithQueueing = call::ROUNDS_WITH_QUEUEING as isize,
+    QueueingThreshold = call::QUEUEING_THRESHOLD_EXTRA_BYTES as isize,
 }
 
 impl Getter {
@@ -188,6 +198,12 @@ impl Getter {
         Getter::RoundsWithQueueing,
         Getter::QueueingThreshold,
     ];
+
+    /// The one of this number.
+    pub fn of(number: u64) -> Option<Getter> {
+        let mut all = Getter::ALL.into_iter();
+        all.find(|&getter| getter as u64 == number)
+    }
 }
 
 #[derive(Clone, Copy, Debug)]
@@ -257,54 +273,62 @@ impl Start {
     /// The start with these parameters instead of its own.
     pub fn with_parameters(self, numbers: &[u64]) -> Start {
         Start {
-            beta: to_float(numbers[0]),
-            loss_threshold: to_float(numbers[1]),
-            headroom: to_float(numbers[2]),
-            full_bw_threshold: to_float(numbers[3]),
-            cwnd_gain: to_float(numbers[4]),
-            pacing_gain: to_float(numbers[5]),
-            full_bw_rounds: numbers[6],
-            queue_rounds: numbers[7],
-            probe_rtt_period: numbers[8],
-            probe_base_duration: numbers[9],
-            ignore_app_limited: numbers[10] == 1,
+            beta: to_float(numbers[params::BETA]),
+            loss_threshold: to_float(numbers[params::LOSS_THRESHOLD]),
+            headroom: to_float(numbers[params::INFLIGHT_HI_HEADROOM]),
+            full_bw_threshold: to_float(numbers[params::FULL_BW_THRESHOLD]),
+            cwnd_gain: to_float(numbers[params::STARTUP_CWND_GAIN]),
+            pacing_gain: to_float(numbers[params::STARTUP_PACING_GAIN]),
+            full_bw_rounds: numbers[params::STARTUP_FULL_BW_ROUNDS],
+            queue_rounds: numbers[params::MAX_STARTUP_QUEUE_ROUNDS],
+            probe_rtt_period: numbers[params::PROBE_RTT_PERIOD],
+            probe_base_duration: numbers[params::PROBE_BW_PROBE_BASE_DURATION],
+            ignore_app_limited: numbers[params::IGNORE_APP_LIMITED_FOR_NO_BANDWIDTH_GROWTH] == 1,
             ..self
         }
     }
 
     /// The parameters, as numbers.
-    pub fn parameters(&self) -> [u64; 11] {
-        [
-            float(self.beta),
-            float(self.loss_threshold),
-            float(self.headroom),
-            float(self.full_bw_threshold),
-            float(self.cwnd_gain),
-            float(self.pacing_gain),
-            self.full_bw_rounds,
-            self.queue_rounds,
-            self.probe_rtt_period,
-            self.probe_base_duration,
-            self.ignore_app_limited as u64,
-        ]
+    pub fn parameters(&self) -> [u64; PARAMS_WORDS] {
+        let mut numbers = [0; PARAMS_WORDS];
+        let option = params::IGNORE_APP_LIMITED_FOR_NO_BANDWIDTH_GROWTH;
+        for (at, number) in [
+            (params::BETA, float(self.beta)),
+            (params::LOSS_THRESHOLD, float(self.loss_threshold)),
+            (params::INFLIGHT_HI_HEADROOM, float(self.headroom)),
+            (params::FULL_BW_THRESHOLD, float(self.full_bw_threshold)),
+            (params::STARTUP_CWND_GAIN, float(self.cwnd_gain)),
+            (params::STARTUP_PACING_GAIN, float(self.pacing_gain)),
+            (params::STARTUP_FULL_BW_ROUNDS, self.full_bw_rounds),
+            (params::MAX_STARTUP_QUEUE_ROUNDS, self.queue_rounds),
+            (params::PROBE_RTT_PERIOD, self.probe_rtt_period),
+            (
+                params::PROBE_BW_PROBE_BASE_DURATION,
+                self.probe_base_duration,
+            ),
+            (option, self.ignore_app_limited as u64),
+        ] {
+            numbers[at] = number;
+        }
+        numbers
     }
 }
 
 impl Record {
-    /// The record of these 16 numbers of a state.
+    /// The record of these numbers of a state.
     pub fn of(numbers: &[u64]) -> Record {
         Record {
-            event_time: numbers[0],
-            prior_cwnd: numbers[1],
-            prior_in_flight: numbers[2],
-            bytes_in_flight: numbers[3],
-            bytes_acked: numbers[4],
-            bytes_lost: numbers[5],
-            round_ended: numbers[6] == 1,
-            probing: numbers[7] == 1,
-            bandwidth: to_option(&numbers[8..]),
-            rtt: to_option(&numbers[10..]),
-            send_state: SendState::of(&numbers[12..]),
+            event_time: numbers[event::EVENT_TIME],
+            prior_cwnd: numbers[event::PRIOR_CWND],
+            prior_in_flight: numbers[event::PRIOR_BYTES_IN_FLIGHT],
+            bytes_in_flight: numbers[event::BYTES_IN_FLIGHT],
+            bytes_acked: numbers[event::BYTES_ACKED],
+            bytes_lost: numbers[event::BYTES_LOST],
+            round_ended: numbers[event::END_OF_ROUND_TRIP] == 1,
+            probing: numbers[event::IS_PROBING_FOR_BANDWIDTH] == 1,
+            bandwidth: to_option(&numbers[event::SAMPLE_MAX_BANDWIDTH_SET..]),
+            rtt: to_option(&numbers[event::SAMPLE_MIN_RTT_SET..]),
+            send_state: SendState::of(&numbers[event::LAST_PACKET_SEND_STATE_IS_VALID..]),
         }
     }
 
@@ -328,21 +352,25 @@ impl Record {
 }
 
 impl Sample {
-    /// The sampler's answer of these 21 arguments.
-    pub fn of(numbers: &[u64]) -> Sample {
+    /// The sampler's answer of an event's arguments, from the first on.
+    pub fn of(arguments: &[u64]) -> Sample {
+        let from = |at: usize| &arguments[at - ARGUMENTS_IN_CALL..];
+        let number = |at: usize| from(at)[0];
+        let mut acked = [0; MOST_ACKED];
+        acked.copy_from_slice(&from(sample::ACKED_PACKETS)[..MOST_ACKED]);
         Sample {
-            bandwidth: to_option(numbers),
-            send_rate: to_option(&numbers[2..]),
-            ack_rate: to_option(&numbers[4..]),
-            app_limited: numbers[6] == 1,
-            rtt: to_option(&numbers[7..]),
-            max_inflight: numbers[9],
-            extra_acked: numbers[10],
-            send_state: SendState::of(&numbers[11..]),
-            total_acked: numbers[15],
-            total_lost: numbers[16],
-            acked_length: numbers[17].min(3) as usize,
-            acked: [numbers[18], numbers[19], numbers[20]],
+            bandwidth: to_option(from(sample::SAMPLE_MAX_BANDWIDTH_SET)),
+            send_rate: to_option(from(sample::SAMPLE_MAX_SEND_RATE_SET)),
+            ack_rate: to_option(from(sample::SAMPLE_MAX_ACK_RATE_SET)),
+            app_limited: number(sample::SAMPLE_IS_APP_LIMITED) == 1,
+            rtt: to_option(from(sample::SAMPLE_RTT_SET)),
+            max_inflight: number(sample::SAMPLE_MAX_INFLIGHT),
+            extra_acked: number(sample::EXTRA_ACKED),
+            send_state: SendState::of(from(sample::LAST_PACKET_SEND_STATE_IS_VALID)),
+            total_acked: number(sample::TOTAL_BYTES_ACKED),
+            total_lost: number(sample::TOTAL_BYTES_LOST),
+            acked_length: number(sample::ACKED_COUNT).min(MOST_ACKED as u64) as usize,
+            acked,
         }
     }
 }
@@ -352,82 +380,93 @@ impl Call {
     /// enough; a start has the parameters of `start`. It is none for other
     /// numbers, and for the one that sets the record.
     pub fn of(number: u64, numbers: &[u64], start: &Start) -> Option<Call> {
+        let given = |at: usize| numbers[at - ARGUMENTS_IN_CALL];
         Some(match number {
-            0 => Call::Start(Start {
-                moment: numbers[0],
-                initial_rtt: numbers[1],
+            call::START => Call::Start(Start {
+                moment: given(argument::start::NOW),
+                initial_rtt: given(argument::start::INITIAL_RTT),
                 ..*start
             }),
-            1 => Call::Sent {
-                moment: numbers[0],
-                in_flight: numbers[1],
-                number: numbers[2],
-                bytes: numbers[3],
+            call::ON_PACKET_SENT => Call::Sent {
+                moment: given(argument::on_packet_sent::SENT_TIME),
+                in_flight: given(argument::on_packet_sent::BYTES_IN_FLIGHT),
+                number: given(argument::on_packet_sent::PACKET_NUMBER),
+                bytes: given(argument::on_packet_sent::BYTES),
             },
-            3 => Call::Event(Sample::of(numbers)),
-            4 => Call::Finish,
-            5 => Call::ExpireMinRtt,
-            6 => Call::InflightTooHigh {
-                max_loss_events: numbers[0],
+            call::ON_CONGESTION_EVENT_START => Call::Event(Sample::of(numbers)),
+            call::ON_CONGESTION_EVENT_FINISH => Call::Finish,
+            call::MAYBE_EXPIRE_MIN_RTT => Call::ExpireMinRtt,
+            call::IS_INFLIGHT_TOO_HIGH => Call::InflightTooHigh {
+                max_loss_events: given(argument::is_inflight_too_high::MAX_LOSS_EVENTS),
             },
-            7 => Call::BandwidthGrowth,
-            8 => Call::RestartRound,
-            9 => Call::PersistentQueue {
-                gain: to_float(numbers[0]),
+            call::HAS_BANDWIDTH_GROWTH => Call::BandwidthGrowth,
+            call::RESTART_ROUND_EARLY => Call::RestartRound,
+            call::CHECK_PERSISTENT_QUEUE => Call::PersistentQueue {
+                gain: to_float(given(argument::check_persistent_queue::TARGET_GAIN)),
             },
-            10 => Call::Bdp {
-                bandwidth: numbers[0],
-                gain: to_float(numbers[1]),
+            call::BDP => Call::Bdp {
+                bandwidth: given(argument::bdp::BANDWIDTH),
+                gain: to_float(given(argument::bdp::GAIN)),
             },
-            11 => Call::Bdp1 {
-                bandwidth: numbers[0],
+            call::BDP1 => Call::Bdp1 {
+                bandwidth: given(argument::bdp1::BANDWIDTH),
             },
-            12 => Call::Bdp0,
-            13 => Call::WithHeadroom,
-            14 => Call::SetFullReached,
-            15 => Call::SetPacingGain(to_float(numbers[0])),
-            16 => Call::SetCwndGain(to_float(numbers[0])),
-            17 => Call::SetInflightHi(numbers[0]),
-            18 => Call::CapInflightLo(numbers[0]),
-            19 => Call::ClearInflightLo,
-            20 => Call::ClearBandwidthLo,
-            21 => Call::AdvanceMaxBandwidth,
-            22 => Call::PostponeMinRtt(numbers[0]),
-            23..=38 => Call::Get(Getter::ALL[number as usize - 23]),
-            40 => Call::ProbeDown {
-                too_high: numbers[0] == 1,
-                risky: numbers[1] == 1,
-                moment: numbers[2],
+            call::BDP0 => Call::Bdp0,
+            call::INFLIGHT_HI_WITH_HEADROOM => Call::WithHeadroom,
+            call::SET_FULL_BANDWIDTH_REACHED => Call::SetFullReached,
+            call::SET_PACING_GAIN => {
+                Call::SetPacingGain(to_float(given(argument::set_pacing_gain::PACING_GAIN)))
+            }
+            call::SET_CWND_GAIN => {
+                Call::SetCwndGain(to_float(given(argument::set_cwnd_gain::CWND_GAIN)))
+            }
+            call::SET_INFLIGHT_HI => {
+                Call::SetInflightHi(given(argument::set_inflight_hi::NEW_INFLIGHT_HI))
+            }
+            call::CAP_INFLIGHT_LO => Call::CapInflightLo(given(argument::cap_inflight_lo::CAP)),
+            call::CLEAR_INFLIGHT_LO => Call::ClearInflightLo,
+            call::CLEAR_BANDWIDTH_LO => Call::ClearBandwidthLo,
+            call::ADVANCE_MAX_BANDWIDTH_FILTER => Call::AdvanceMaxBandwidth,
+            call::POSTPONE_MIN_RTT_TIMESTAMP => {
+                Call::PostponeMinRtt(given(argument::postpone_min_rtt_timestamp::DURATION))
+            }
+            call::ENTER_PROBE_DOWN => Call::ProbeDown {
+                too_high: given(argument::enter_probe_down::PROBED_TOO_HIGH) == 1,
+                risky: given(argument::enter_probe_down::STOPPED_RISKY_PROBE) == 1,
+                moment: given(argument::enter_probe_down::NOW),
             },
-            41 => Call::ProbeCruise { moment: numbers[0] },
-            42 => Call::ProbeRefill {
-                rounds: numbers[0],
-                moment: numbers[1],
+            call::ENTER_PROBE_CRUISE => Call::ProbeCruise {
+                moment: given(argument::enter_probe_cruise::NOW),
             },
-            43 => Call::ProbeUp {
-                moment: numbers[0],
-                cwnd: numbers[1],
+            call::ENTER_PROBE_REFILL => Call::ProbeRefill {
+                rounds: given(argument::enter_probe_refill::PROBE_UP_ROUNDS),
+                moment: given(argument::enter_probe_refill::NOW),
             },
-            44 => Call::ExitProbeDown,
-            45 => Call::RaiseSlope { cwnd: numbers[0] },
-            _ => return None,
+            call::ENTER_PROBE_UP => Call::ProbeUp {
+                moment: given(argument::enter_probe_up::NOW),
+                cwnd: given(argument::enter_probe_up::CWND),
+            },
+            call::EXIT_PROBE_DOWN => Call::ExitProbeDown,
+            call::RAISE_INFLIGHT_HIGH_SLOPE => Call::RaiseSlope {
+                cwnd: given(argument::raise_inflight_high_slope::CWND),
+            },
+            number => return Getter::of(number).map(Call::Get),
         })
     }
-
     /// The number of the call, then its arguments. The parameters of a start
     /// and the record stand with the state.
     pub fn numbers(&self) -> Vec<u64> {
         match *self {
-            Call::Start(start) => vec![0, start.moment, start.initial_rtt],
+            Call::Start(start) => vec![call::START, start.moment, start.initial_rtt],
             Call::Sent {
                 moment,
                 in_flight,
                 number,
                 bytes,
-            } => vec![1, moment, in_flight, number, bytes],
-            Call::Record(_) => vec![2],
+            } => vec![call::ON_PACKET_SENT, moment, in_flight, number, bytes],
+            Call::Record(_) => vec![SET_RECORD],
             Call::Event(sample) => {
-                let mut numbers = vec![3];
+                let mut numbers = vec![call::ON_CONGESTION_EVENT_START];
                 numbers.extend(option(sample.bandwidth));
                 numbers.extend(option(sample.send_rate));
                 numbers.extend(option(sample.ack_rate));
@@ -440,47 +479,57 @@ impl Call {
                 numbers.extend(sample.acked);
                 numbers
             }
-            Call::Finish => vec![4],
-            Call::ExpireMinRtt => vec![5],
-            Call::InflightTooHigh { max_loss_events } => vec![6, max_loss_events],
-            Call::BandwidthGrowth => vec![7],
-            Call::RestartRound => vec![8],
-            Call::PersistentQueue { gain } => vec![9, float(gain)],
-            Call::Bdp { bandwidth, gain } => vec![10, bandwidth, float(gain)],
-            Call::Bdp1 { bandwidth } => vec![11, bandwidth],
-            Call::Bdp0 => vec![12],
-            Call::WithHeadroom => vec![13],
-            Call::SetFullReached => vec![14],
-            Call::SetPacingGain(gain) => vec![15, float(gain)],
-            Call::SetCwndGain(gain) => vec![16, float(gain)],
-            Call::SetInflightHi(bytes) => vec![17, bytes],
-            Call::CapInflightLo(cap) => vec![18, cap],
-            Call::ClearInflightLo => vec![19],
-            Call::ClearBandwidthLo => vec![20],
-            Call::AdvanceMaxBandwidth => vec![21],
-            Call::PostponeMinRtt(length) => vec![22, length],
+            Call::Finish => vec![call::ON_CONGESTION_EVENT_FINISH],
+            Call::ExpireMinRtt => vec![call::MAYBE_EXPIRE_MIN_RTT],
+            Call::InflightTooHigh { max_loss_events } => {
+                vec![call::IS_INFLIGHT_TOO_HIGH, max_loss_events]
+            }
+            Call::BandwidthGrowth => vec![call::HAS_BANDWIDTH_GROWTH],
+            Call::RestartRound => vec![call::RESTART_ROUND_EARLY],
+            Call::PersistentQueue { gain } => vec![call::CHECK_PERSISTENT_QUEUE, float(gain)],
+            Call::Bdp { bandwidth, gain } => vec![call::BDP, bandwidth, float(gain)],
+            Call::Bdp1 { bandwidth } => vec![call::BDP1, bandwidth],
+            Call::Bdp0 => vec![call::BDP0],
+            Call::WithHeadroom => vec![call::INFLIGHT_HI_WITH_HEADROOM],
+            Call::SetFullReached => vec![call::SET_FULL_BANDWIDTH_REACHED],
+            Call::SetPacingGain(gain) => vec![call::SET_PACING_GAIN, float(gain)],
+            Call::SetCwndGain(gain) => vec![call::SET_CWND_GAIN, float(gain)],
+            Call::SetInflightHi(bytes) => vec![call::SET_INFLIGHT_HI, bytes],
+            Call::CapInflightLo(cap) => vec![call::CAP_INFLIGHT_LO, cap],
+            Call::ClearInflightLo => vec![call::CLEAR_INFLIGHT_LO],
+            Call::ClearBandwidthLo => vec![call::CLEAR_BANDWIDTH_LO],
+            Call::AdvanceMaxBandwidth => vec![call::ADVANCE_MAX_BANDWIDTH_FILTER],
+            Call::PostponeMinRtt(length) => vec![call::POSTPONE_MIN_RTT_TIMESTAMP, length],
             Call::Get(getter) => vec![getter as u64],
             Call::ProbeDown {
                 too_high,
                 risky,
                 moment,
-            } => vec![40, too_high as u64, risky as u64, moment],
-            Call::ProbeCruise { moment } => vec![41, moment],
-            Call::ProbeRefill { rounds, moment } => vec![42, rounds, moment],
-            Call::ProbeUp { moment, cwnd } => vec![43, moment, cwnd],
-            Call::ExitProbeDown => vec![44],
-            Call::RaiseSlope { cwnd } => vec![45, cwnd],
+            } => vec![
+                call::ENTER_PROBE_DOWN,
+                too_high as u64,
+                risky as u64,
+                moment,
+            ],
+            Call::ProbeCruise { moment } => vec![call::ENTER_PROBE_CRUISE, moment],
+            Call::ProbeRefill { rounds, moment } => vec![call::ENTER_PROBE_REFILL, rounds, moment],
+            Call::ProbeUp { moment, cwnd } => vec![call::ENTER_PROBE_UP, moment, cwnd],
+            Call::ExitProbeDown => vec![call::EXIT_PROBE_DOWN],
+            Call::RaiseSlope { cwnd } => vec![call::RAISE_INFLIGHT_HIGH_SLOPE, cwnd],
         }
     }
 }
 
 impl SendState {
     fn of(numbers: &[u64]) -> SendState {
+        let &[valid, app_limited, total_acked, bytes_in_flight, ..] = numbers else {
+            panic!("a send state has four numbers");
+        };
         SendState {
-            valid: numbers[0] == 1,
-            app_limited: numbers[1] == 1,
-            total_acked: numbers[2],
-            bytes_in_flight: numbers[3],
+            valid: valid == 1,
+            app_limited: app_limited == 1,
+            total_acked,
+            bytes_in_flight,
         }
     }
 

@@ -1,13 +1,26 @@
 //! The replies of the port, by document 01, "Replies and bounds": read from
 //! its words, apart from the port's code.
 
+use guovssalu_sys::table::argument::bdp;
+use guovssalu_sys::table::argument::check_persistent_queue;
+use guovssalu_sys::table::argument::enter_probe_down;
+use guovssalu_sys::table::argument::set_cwnd_gain;
+use guovssalu_sys::table::argument::set_pacing_gain;
+use guovssalu_sys::table::event;
+use guovssalu_sys::table::params;
+use guovssalu_sys::table::sample;
+use guovssalu_sys::table::ARGUMENTS_IN_CALL;
+use guovssalu_sys::table::EVENT_IN_CALL;
+use guovssalu_sys::table::NUMBER_IN_CALL;
+use guovssalu_sys::table::PARAMS_IN_CALL;
+use guovssalu_sys::table::UNSET;
+
 use crate::model::field::*;
 use crate::model::Call;
 use crate::model::Sample;
 use crate::model::SendState;
 use crate::model::Start;
 use crate::model::State;
-use crate::model::UNSET;
 
 /// The bounds, inclusive.
 pub const BYTES: u64 = 1 << 40;
@@ -64,8 +77,9 @@ pub fn reply(call: &Call, state: &State, start: &Start) -> u64 {
 /// is a number that is no call's: 2. A malformed parameter is one out of bounds:
 /// 1, as where another number of row 1 is out of its bounds.
 pub fn malformed(words: &[u64], state: &State) -> Option<u64> {
-    let start = REFUSED_START.with_parameters(&words[38..]);
-    let Some(call) = Call::of(words[0], &words[1..], &start) else {
+    let start = REFUSED_START.with_parameters(&words[PARAMS_IN_CALL..]);
+    let (number, arguments) = (words[NUMBER_IN_CALL], &words[ARGUMENTS_IN_CALL..]);
+    let Some(call) = Call::of(number, arguments, &start) else {
         return Some(if model(state) { 2 } else { 1 });
     };
     let flag = |at: &usize| words[*at] > 1;
@@ -73,15 +87,47 @@ pub fn malformed(words: &[u64], state: &State) -> Option<u64> {
     let pair = |at: &usize| words[*at] != 1 && words[*at..][..2] != [0, 0];
     let argument = match call {
         Call::Event(_) => {
-            [1, 3, 5, 8].iter().any(pair) || [7, 12, 13].iter().any(flag) || words[18] > 3
+            let pairs = [
+                sample::SAMPLE_MAX_BANDWIDTH_SET,
+                sample::SAMPLE_MAX_SEND_RATE_SET,
+                sample::SAMPLE_MAX_ACK_RATE_SET,
+                sample::SAMPLE_RTT_SET,
+            ];
+            let flags = [
+                sample::SAMPLE_IS_APP_LIMITED,
+                sample::LAST_PACKET_SEND_STATE_IS_VALID,
+                sample::LAST_PACKET_SEND_STATE_IS_APP_LIMITED,
+            ];
+            pairs.iter().any(pair) || flags.iter().any(flag) || words[sample::ACKED_COUNT] > 3
         }
-        Call::PersistentQueue { .. } | Call::SetPacingGain(_) | Call::SetCwndGain(_) => float(&1),
-        Call::Bdp { .. } => float(&2),
-        Call::ProbeDown { .. } => [1, 2].iter().any(flag),
+        Call::PersistentQueue { .. } => float(&check_persistent_queue::TARGET_GAIN),
+        Call::SetPacingGain(_) => float(&set_pacing_gain::PACING_GAIN),
+        Call::SetCwndGain(_) => float(&set_cwnd_gain::CWND_GAIN),
+        Call::Bdp { .. } => float(&bdp::GAIN),
+        Call::ProbeDown { .. } => {
+            flag(&enter_probe_down::PROBED_TOO_HIGH) || flag(&enter_probe_down::STOPPED_RISKY_PROBE)
+        }
         _ => false,
     };
-    let record = [28, 29, 34, 35].iter().any(flag) || [30, 32].iter().any(pair);
-    let given = [38, 39, 40, 41, 42, 43].iter().any(float) || flag(&48);
+    let flags = [
+        event::END_OF_ROUND_TRIP,
+        event::IS_PROBING_FOR_BANDWIDTH,
+        event::LAST_PACKET_SEND_STATE_IS_VALID,
+        event::LAST_PACKET_SEND_STATE_IS_APP_LIMITED,
+    ];
+    let pairs = [event::SAMPLE_MAX_BANDWIDTH_SET, event::SAMPLE_MIN_RTT_SET];
+    let record = flags.iter().any(|at| flag(&(EVENT_IN_CALL + at)))
+        || pairs.iter().any(|at| pair(&(EVENT_IN_CALL + at)));
+    let floats = [
+        params::BETA,
+        params::LOSS_THRESHOLD,
+        params::INFLIGHT_HI_HEADROOM,
+        params::FULL_BW_THRESHOLD,
+        params::STARTUP_CWND_GAIN,
+        params::STARTUP_PACING_GAIN,
+    ];
+    let option = PARAMS_IN_CALL + params::IGNORE_APP_LIMITED_FOR_NO_BANDWIDTH_GROWTH;
+    let given = floats.iter().any(|at| float(&(PARAMS_IN_CALL + at))) || flag(&option);
     let parameter = takes_parameters(&call) && given;
     if !argument && !(takes_record(&call) && record) && !parameter {
         return None;

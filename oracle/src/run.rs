@@ -1,6 +1,10 @@
 //! Runs of calls on a model and its cycle, with the replies that are expected,
 //! for the kept frames.
 
+use guovssalu_sys::table::MOST_ACKED;
+use guovssalu_sys::table::REPLY_IN_ANSWER;
+use guovssalu_sys::table::VALUE_IN_ANSWER;
+
 use crate::files::Files;
 use crate::marks::Marks;
 use crate::model::field::*;
@@ -65,7 +69,9 @@ impl<'a> Run<'a> {
     fn make(&mut self, reply: u64, call: Call) -> u64 {
         let before = self.state;
         let answer = self.files.step(&Step::Call(call));
-        let [by_table, answer] = answer.map_or([0, 0], |words| [words[0], words[1]]);
+        let [by_table, answer] = answer.map_or([0, 0], |words| {
+            [words[REPLY_IN_ANSWER], words[VALUE_IN_ANSWER]]
+        });
         assert_eq!(by_table, reply, "the port's reply to {call:?}");
         self.state = self.files.world.state;
         if reply == 0 {
@@ -166,7 +172,7 @@ pub const NONE: Sample = Sample {
     total_acked: 0,
     total_lost: 0,
     acked_length: 0,
-    acked: [0; 3],
+    acked: [0; MOST_ACKED],
 };
 
 pub const LOST: Sample = Sample {

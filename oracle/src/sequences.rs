@@ -1,5 +1,7 @@
 //! Sequences of calls on a model and its cycle, all accepted.
 
+use guovssalu_sys::table::UNSET;
+
 use crate::calls::Calls;
 use crate::files::Files;
 use crate::model::field::*;
@@ -9,7 +11,6 @@ use crate::model::Record;
 use crate::model::Sample;
 use crate::model::SendState;
 use crate::model::Start;
-use crate::model::UNSET;
 use crate::recovery::gcongestion::Host;
 use crate::replies::BANDWIDTH;
 use crate::replies::BYTES;

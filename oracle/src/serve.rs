@@ -3,9 +3,12 @@
 use std::io;
 use std::io::ErrorKind;
 
+use guovssalu_sys::table::ARGUMENTS_IN_CALL;
+use guovssalu_sys::table::EVENT_IN_CALL;
+use guovssalu_sys::table::NUMBER_IN_CALL;
+
 use crate::frame;
 use crate::frame::Answer;
-use crate::frame::ARGUMENTS;
 use crate::frame::CARRIED;
 use crate::frame::FILTER_RUN;
 use crate::frame::MEMORY;
@@ -41,7 +44,7 @@ pub fn serve() -> io::Result<()> {
 
 /// The answer to a call of these words, if it is one.
 fn answer(world: &mut World, words: &[u64]) -> Option<Answer> {
-    let step = match words[0] {
+    let step = match words[NUMBER_IN_CALL] {
         PUT => {
             let count = words[1].min(MOST_PUT as u64) as usize;
             return Some(world.overwrite(&words[2..][..2 * count]));
@@ -66,14 +69,14 @@ fn answer(world: &mut World, words: &[u64]) -> Option<Answer> {
 /// Whether the words are of the model, and make no call.
 fn is_refused(world: &World, words: &[u64]) -> bool {
     let others = [WINDOWED_FILTER, NUMBERS, SUMMED];
-    !others.contains(&words[0]) && replies::malformed(words, &world.state).is_some()
+    !others.contains(&words[NUMBER_IN_CALL]) && replies::malformed(words, &world.state).is_some()
 }
 
 /// The step of a call's words, if it is one; takes what is handed in with it.
 fn step(world: &mut World, words: &[u64]) -> Option<Step> {
-    let (call, handed_in) = words.split_at(1 + ARGUMENTS);
+    let (call, handed_in) = words.split_at(EVENT_IN_CALL);
     let (record, parameters) = handed_in.split_at(RECORD);
-    let (number, arguments) = (call[0], &call[1..]);
+    let (number, arguments) = (call[NUMBER_IN_CALL], &call[ARGUMENTS_IN_CALL..]);
     world.hand_in(record, parameters);
     match number {
         WINDOWED_FILTER => {

@@ -3,13 +3,20 @@
 
 use std::collections::VecDeque;
 
+use guovssalu_sys::table::call;
+use guovssalu_sys::table::event;
+use guovssalu_sys::table::params;
+use guovssalu_sys::table::sample;
+use guovssalu_sys::table::ARGUMENTS_IN_CALL;
+use guovssalu_sys::table::UNSET;
+
 use crate::calls::Calls;
+use crate::frame::CARRIED;
 use crate::model::field::*;
 use crate::model::Call;
 use crate::model::Record;
 use crate::model::Start;
 use crate::model::State;
-use crate::model::UNSET;
 use crate::recovery::gcongestion::Host;
 use crate::replies;
 use crate::replies::BANDWIDTH;
@@ -93,7 +100,33 @@ const FIELDS: [(usize, Kind, Option<usize>); 44] = [
 
 /// Calls that have arguments to be refused.
 const SPOILED: [u64; 17] = [
-    1, 3, 3, 3, 9, 10, 11, 15, 16, 17, 18, 22, 40, 41, 42, 43, 45,
+    call::ON_PACKET_SENT,
+    call::ON_CONGESTION_EVENT_START,
+    call::ON_CONGESTION_EVENT_START,
+    call::ON_CONGESTION_EVENT_START,
+    call::CHECK_PERSISTENT_QUEUE,
+    call::BDP,
+    call::BDP1,
+    call::SET_PACING_GAIN,
+    call::SET_CWND_GAIN,
+    call::SET_INFLIGHT_HI,
+    call::CAP_INFLIGHT_LO,
+    call::POSTPONE_MIN_RTT_TIMESTAMP,
+    call::ENTER_PROBE_DOWN,
+    call::ENTER_PROBE_CRUISE,
+    call::ENTER_PROBE_REFILL,
+    call::ENTER_PROBE_UP,
+    call::RAISE_INFLIGHT_HIGH_SLOPE,
+];
+
+/// The parameters that are floats.
+const FLOATS: [usize; 6] = [
+    params::BETA,
+    params::LOSS_THRESHOLD,
+    params::INFLIGHT_HI_HEADROOM,
+    params::FULL_BW_THRESHOLD,
+    params::STARTUP_CWND_GAIN,
+    params::STARTUP_PACING_GAIN,
 ];
 
 /// An endless run of steps on a model and its cycle.
@@ -162,7 +195,7 @@ impl Steps {
     fn refuse(&mut self, call: &Call, world: &World) {
         let state = within(&world.state);
         if let Call::Record(record) = call {
-            let later = self.random.below(5) + 3;
+            let later = self.random.pick(&call::READ_EVENT);
             let spoiled = Call::Record(self.spoiled_record(record));
             let later = self.calls.make(later, &state);
             self.planned
@@ -176,12 +209,16 @@ impl Steps {
             for _ in 0..1 + self.random.below(4) / 3 {
                 let at = 1 + self.random.below(numbers.len() as u64 - 1) as usize;
                 numbers[at] = match (number, at, self.random.one_in(2)) {
-                    (3, 16, true) => state[TOTAL_ACKED].saturating_sub(1),
-                    (3, 17, true) => state[TOTAL_LOST].saturating_sub(1),
+                    (call::ON_CONGESTION_EVENT_START, sample::TOTAL_BYTES_ACKED, true) => {
+                        state[TOTAL_ACKED].saturating_sub(1)
+                    }
+                    (call::ON_CONGESTION_EVENT_START, sample::TOTAL_BYTES_LOST, true) => {
+                        state[TOTAL_LOST].saturating_sub(1)
+                    }
                     _ => self.outside(&world.state),
                 };
             }
-            let call = Call::of(number, &numbers[1..], &world.start).unwrap();
+            let call = Call::of(number, &numbers[ARGUMENTS_IN_CALL..], &world.start).unwrap();
             if replies::reply(&call, &world.state, &world.start) > 0 {
                 self.planned.push_back(Step::Call(call));
                 return;
@@ -193,20 +230,20 @@ impl Steps {
     fn spoiled_record(&mut self, record: &Record) -> Record {
         let mut numbers = record.numbers();
         let limits = [
-            (0, MOMENT),
-            (1, BYTES),
-            (2, BYTES),
-            (3, BYTES),
-            (4, TOTAL),
-            (5, TOTAL),
-            (9, BANDWIDTH),
-            (11, LENGTH),
-            (14, TOTAL),
-            (15, BYTES),
+            (event::EVENT_TIME, MOMENT),
+            (event::PRIOR_CWND, BYTES),
+            (event::PRIOR_BYTES_IN_FLIGHT, BYTES),
+            (event::BYTES_IN_FLIGHT, BYTES),
+            (event::BYTES_ACKED, TOTAL),
+            (event::BYTES_LOST, TOTAL),
+            (event::SAMPLE_MAX_BANDWIDTH, BANDWIDTH),
+            (event::SAMPLE_MIN_RTT, LENGTH),
+            (event::LAST_PACKET_SEND_STATE_TOTAL_BYTES_ACKED, TOTAL),
+            (event::LAST_PACKET_SEND_STATE_BYTES_IN_FLIGHT, BYTES),
         ];
         let (at, limit) = self.random.pick(&limits);
         numbers[at] = self.past(limit);
-        if [9, 11].contains(&at) {
+        if [event::SAMPLE_MAX_BANDWIDTH, event::SAMPLE_MIN_RTT].contains(&at) {
             numbers[at - 1] = 1;
         }
         Record::of(&numbers)
@@ -227,9 +264,9 @@ impl Steps {
         match self.random.below(10) {
             0 => start.moment = self.past(MOMENT),
             1 => start.initial_rtt = self.past(LENGTH),
-            2 => parameters[8] = self.past(LENGTH),
-            3 => parameters[9] = self.past(LENGTH),
-            at => parameters[at as usize - 4] = self.no_float() as u64,
+            2 => parameters[params::PROBE_RTT_PERIOD] = self.past(LENGTH),
+            3 => parameters[params::PROBE_BW_PROBE_BASE_DURATION] = self.past(LENGTH),
+            at => parameters[FLOATS[at as usize - 4]] = self.no_float() as u64,
         }
         if self.random.one_in(8) {
             start.moment = self.past(MOMENT);
@@ -305,7 +342,7 @@ impl Steps {
             let left = 1 + self.random.below(8);
             self.calls.at_most(left);
         }
-        let changed = (0..50).filter(|&field| put[field] != state[field]);
+        let changed = (0..CARRIED).filter(|&field| put[field] != state[field]);
         Step::Put(changed.map(|field| (field, put[field])).collect())
     }
 

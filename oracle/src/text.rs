@@ -1,6 +1,19 @@
 //! Steps as text, one a line, and the names of calls and fields.
 
-use crate::frame::EVENT;
+use guovssalu_sys::table::argument;
+use guovssalu_sys::table::call;
+use guovssalu_sys::table::event;
+use guovssalu_sys::table::state;
+use guovssalu_sys::table::ANSWER_WORDS;
+use guovssalu_sys::table::CALL_WORDS;
+use guovssalu_sys::table::EVENT_IN_ANSWER;
+use guovssalu_sys::table::EVENT_WORDS;
+use guovssalu_sys::table::PARAMS_WORDS;
+use guovssalu_sys::table::REPLY_IN_ANSWER;
+use guovssalu_sys::table::STATE_WORDS;
+use guovssalu_sys::table::VALUE_IN_ANSWER;
+use guovssalu_sys::table::WORD_BYTES;
+
 use crate::frame::FILTER_RUN;
 use crate::frame::MEMORY;
 use crate::frame::MOST_PAIRS;
@@ -11,139 +24,50 @@ use crate::frame::START;
 use crate::frame::WINDOWED_FILTER;
 use crate::model::Call;
 use crate::model::Record;
+use crate::model::FIELDS;
+use crate::model::SET_RECORD;
 use crate::recovery::gcongestion::Host;
 use crate::replies;
 use crate::scalars;
 use crate::world::Step;
 
-const RECORD: u64 = 2;
+/// The word after those that answer functions on numbers.
+const NUMBERS_END: usize = EVENT_IN_ANSWER + scalars::RUN as usize;
+
+/// The number, no call's, of the step that makes a call of any words.
 const WORDS: u64 = 50;
 
-/// The number of a call, its name, and how many arguments it has. A start may
-/// also have 2, without the parameters; what puts numbers has any even number;
-/// a run of a filter also has the words of its pairs.
-const CALLS: [(u64, &str, usize); 51] = [
-    (START, "start", 13),
-    (1, "on_packet_sent", 4),
-    (RECORD, "record", 16),
-    (EVENT, "on_congestion_event_start", 21),
-    (4, "on_congestion_event_finish", 0),
-    (5, "maybe_expire_min_rtt", 0),
-    (6, "is_inflight_too_high", 1),
-    (7, "has_bandwidth_growth", 0),
-    (8, "restart_round_early", 0),
-    (9, "check_persistent_queue", 1),
-    (10, "bdp", 2),
-    (11, "bdp1", 1),
-    (12, "bdp0", 0),
-    (13, "inflight_hi_with_headroom", 0),
-    (14, "set_full_bandwidth_reached", 0),
-    (15, "set_pacing_gain", 1),
-    (16, "set_cwnd_gain", 1),
-    (17, "set_inflight_hi", 1),
-    (18, "cap_inflight_lo", 1),
-    (19, "clear_inflight_lo", 0),
-    (20, "clear_bandwidth_lo", 0),
-    (21, "advance_max_bandwidth_filter", 0),
-    (22, "postpone_min_rtt_timestamp", 1),
-    (23, "bandwidth_estimate", 0),
-    (24, "min_rtt", 0),
-    (25, "min_rtt_timestamp", 0),
-    (26, "max_bandwidth", 0),
-    (27, "max_bytes_delivered_in_round", 0),
-    (28, "total_bytes_acked", 0),
-    (29, "total_bytes_lost", 0),
-    (30, "full_bandwidth_reached", 0),
-    (31, "pacing_gain", 0),
-    (32, "cwnd_gain", 0),
-    (33, "inflight_hi", 0),
-    (34, "inflight_hi_default", 0),
-    (35, "inflight_lo", 0),
-    (36, "loss_events_in_round", 0),
-    (37, "rounds_with_queueing", 0),
-    (38, "queueing_threshold_extra_bytes", 0),
-    (40, "enter_probe_down", 3),
-    (41, "enter_probe_cruise", 1),
-    (42, "enter_probe_refill", 2),
-    (43, "enter_probe_up", 2),
-    (44, "exit_probe_down", 0),
-    (45, "raise_inflight_high_slope", 1),
+/// The steps that are no call of the model: number, name, and how many
+/// arguments. What puts numbers has any even number; a run of a filter also has
+/// the words of its pairs.
+const OTHERS: [(u64, &str, usize); 7] = [
+    (SET_RECORD, "record", EVENT_WORDS),
     (WINDOWED_FILTER, "windowed_filter", 3),
     (NUMBERS, "numbers", 3),
     (FILTER_RUN, "filter_run", 3),
     (SLOPE, "slope", 3),
-    (WORDS, "words", 49),
+    (WORDS, "words", CALL_WORDS),
     (PUT, "put", 0),
 ];
 
-const FIELDS: [&str; 66] = [
-    "round_trip_count",
-    "last_sent_packet",
-    "end_of_round_trip set",
-    "end_of_round_trip",
-    "max_bandwidth[0]",
-    "max_bandwidth[1]",
-    "min_rtt",
-    "min_rtt_timestamp",
-    "bytes_lost_in_round",
-    "loss_events_in_round",
-    "max_bytes_delivered_in_round",
-    "min_bytes_in_flight_in_round",
-    "inflight_hi_limited_in_round",
-    "bandwidth_latest",
-    "inflight_latest",
-    "bandwidth_lo set",
-    "bandwidth_lo",
-    "inflight_lo",
-    "inflight_hi",
-    "cwnd_gain",
-    "pacing_gain",
-    "cwnd_limited_before_aggregation_epoch",
-    "full_bandwidth_reached",
-    "full_bandwidth_baseline",
-    "rounds_without_bandwidth_growth",
-    "rounds_with_queueing",
-    "ignore_app_limited_for_no_bandwidth_growth",
-    "latest_send_rate set",
-    "latest_send_rate",
-    "latest_ack_rate set",
-    "latest_ack_rate",
-    "total bytes acked",
-    "total bytes lost",
-    "last accepted moment",
-    "phase",
-    "start_time",
-    "phase_start_time",
-    "rounds_in_phase",
-    "rounds_since_probe",
-    "probe_wait_time set",
-    "probe_wait_time",
-    "probe_up_rounds",
-    "probe_up_bytes set",
-    "probe_up_bytes",
-    "probe_up_acked",
-    "probe_up_app_limited_since_inflight_hi_limited",
-    "has_advanced_max_bw",
-    "is_sample_from_probing",
-    "last_cycle_probed_too_high",
-    "last_cycle_stopped_risky_probe",
-    "event_time",
-    "prior_cwnd",
-    "prior_bytes_in_flight",
-    "bytes_in_flight",
-    "bytes_acked",
-    "bytes_lost",
-    "end_of_round_trip of the event",
-    "is_probing_for_bandwidth",
-    "sample_max_bandwidth set",
-    "sample_max_bandwidth",
-    "sample_min_rtt set",
-    "sample_min_rtt",
-    "last_packet_send_state.is_valid",
-    "last_packet_send_state.is_app_limited",
-    "last_packet_send_state.total_bytes_acked",
-    "last_packet_send_state.bytes_in_flight",
-];
+/// The number of each call, its name, and how many arguments it has. A start
+/// also has the parameters; it may have its two alone.
+fn calls() -> impl Iterator<Item = (u64, &'static str, usize)> {
+    let calls = call::ALL.into_iter().zip(call::NAMES).zip(call::GIVEN);
+    let calls = calls.map(|((number, name), given)| match number {
+        START => (number, name, given + PARAMS_WORDS),
+        _ => (number, name, given),
+    });
+    calls.chain(OTHERS)
+}
+
+/// The name of a field of the state.
+fn field(at: usize) -> String {
+    match at.checked_sub(STATE_WORDS) {
+        None => format!("field {at}, {}", state::NAMES[at]),
+        Some(of_event) => format!("field {at}, {} of the event", event::NAMES[of_event]),
+    }
+}
 
 const FILTER: [&str; 8] = [
     "window",
@@ -158,37 +82,40 @@ const FILTER: [&str; 8] = [
 
 /// The numbers of all calls that the port is asked.
 pub fn asked() -> impl Iterator<Item = u64> {
-    let numbers = CALLS.iter().map(|call| call.0);
-    numbers.filter(|number| ![RECORD, WORDS].contains(number))
+    let numbers = calls().map(|call| call.0);
+    numbers.filter(|number| ![SET_RECORD, WORDS].contains(number))
 }
 
 /// What the word of an answer to this step is.
 pub fn word(step: &Step, word: usize) -> String {
     match (step, word) {
-        (_, 0) => "reply".to_string(),
-        (_, 1) => "answer".to_string(),
-        (Step::Filter { .. }, 2..10) => FILTER[word - 2].to_string(),
+        (_, REPLY_IN_ANSWER) => "reply".to_string(),
+        (_, VALUE_IN_ANSWER) => "answer".to_string(),
+        (Step::Filter { .. }, EVENT_IN_ANSWER..10) => FILTER[word - EVENT_IN_ANSWER].to_string(),
         (
             Step::Numbers {
                 function, first, ..
             },
-            2..66,
+            EVENT_IN_ANSWER..NUMBERS_END,
         ) => {
-            let number = first + word as u64 - 2;
+            let number = first + (word - EVENT_IN_ANSWER) as u64;
             format!("{} of {number}", scalars::NAMES[*function as usize])
         }
         (Step::FilterRun { .. } | Step::Slope { .. }, _) => {
-            format!("output from byte {} on", 8 * (word - 2))
+            format!(
+                "output from byte {} on",
+                WORD_BYTES * (word - EVENT_IN_ANSWER)
+            )
         }
-        (_, 2..18) => format!("field {}, {}", word + 48, FIELDS[word + 48]),
-        _ => format!("field {}, {}", word - 18, FIELDS[word - 18]),
+        (_, EVENT_IN_ANSWER..ANSWER_WORDS) => field(STATE_WORDS + word - EVENT_IN_ANSWER),
+        _ => field(word - ANSWER_WORDS),
     }
 }
 
 /// The name of the step's call.
 pub fn name(step: &Step) -> &'static str {
     let number = numbers(step)[0];
-    let named = CALLS.iter().find(|call| call.0 == number);
+    let named = calls().find(|call| call.0 == number);
     named.unwrap().1
 }
 
@@ -207,7 +134,7 @@ fn numbers(step: &Step) -> Vec<u64> {
         Step::Call(call @ Call::Start(start)) => {
             [&call.numbers()[..], &start.parameters()].concat()
         }
-        Step::Call(Call::Record(record)) => [&[RECORD], &record.numbers()[..]].concat(),
+        Step::Call(Call::Record(record)) => [&[SET_RECORD], &record.numbers()[..]].concat(),
         Step::Call(call) => call.numbers(),
         Step::Words(words) => [&[WORDS], &words[..]].concat(),
         Step::Put(pairs) => {
@@ -252,17 +179,21 @@ pub fn steps(text: &str) -> Result<Vec<Step>, String> {
 
 fn parse(call: &str, arguments: &[&str]) -> Result<Step, String> {
     let named =
-        |(number, name, _): &&(u64, &str, usize)| *name == call || number.to_string() == call;
-    let &(number, _, count) = CALLS
-        .iter()
+        |(number, name, _): &(u64, &str, usize)| *name == call || number.to_string() == call;
+    let (number, _, count) = calls()
         .find(named)
         .ok_or_else(|| format!("there is no call {call}."))?;
     let parsed: Result<Vec<u64>, _> = arguments.iter().map(|word| word.parse()).collect();
     let parsed = parsed.map_err(|_| "an argument is no decimal number of 64 bits.".to_string())?;
 
     let fits = match number {
-        START => [2, count].contains(&parsed.len()),
-        PUT => parsed.len() % 2 == 0 && parsed.chunks(2).all(|pair| pair[0] <= 76),
+        START => [count - PARAMS_WORDS, count].contains(&parsed.len()),
+        PUT => {
+            parsed.len() % 2 == 0
+                && parsed
+                    .chunks(2)
+                    .all(|pair| pair[0] < (FIELDS + PARAMS_WORDS) as u64)
+        }
         WINDOWED_FILTER => parsed.len() == count && parsed[0] <= 3,
         NUMBERS => {
             parsed.len() == count && parsed[0] <= 6 && parsed[1] <= u64::MAX - (scalars::RUN - 1)
@@ -271,7 +202,7 @@ fn parse(call: &str, arguments: &[&str]) -> Result<Step, String> {
             parsed.len() >= count
                 && parsed[1] <= MOST_PAIRS
                 && parsed[2] <= MEMORY as u64
-                && parsed.len() == count + parsed[1].div_ceil(8) as usize
+                && parsed.len() == count + parsed[1].div_ceil(WORD_BYTES as u64) as usize
         }
         SLOPE => parsed.len() == count && parsed[2] <= MEMORY as u64,
         _ => parsed.len() == count,
@@ -279,7 +210,7 @@ fn parse(call: &str, arguments: &[&str]) -> Result<Step, String> {
     if !fits {
         return Err("the number of arguments, or an index, doesn't fit.".to_string());
     }
-    if number == WORDS && replies::malformed(&parsed, &[0; 66]).is_none() {
+    if number == WORDS && replies::malformed(&parsed, &[0; FIELDS]).is_none() {
         return Err("the words are those of a call, which has a name.".to_string());
     }
     let step = step(number, &parsed);
@@ -297,12 +228,13 @@ fn step(number: u64, arguments: &[u64]) -> Step {
     match number {
         START => {
             let mut start = Host::usual_start();
-            if arguments.len() > 2 {
-                start = start.with_parameters(&arguments[2..]);
+            let parameters = argument::start::INITIAL_RTT;
+            if arguments.len() > parameters {
+                start = start.with_parameters(&arguments[parameters..]);
             }
             Step::Call(Call::of(START, arguments, &start).unwrap())
         }
-        RECORD => Step::Call(Call::Record(Record::of(arguments))),
+        SET_RECORD => Step::Call(Call::Record(Record::of(arguments))),
         WORDS => Step::Words(arguments.to_vec()),
         PUT => {
             let pairs = arguments.chunks(2);

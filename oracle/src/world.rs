@@ -1,6 +1,17 @@
 //! The original with its state, and its answers in the words of a frame. What
 //! the table of document 01 refuses isn't asked of it.
 
+use guovssalu_sys::table::reply;
+use guovssalu_sys::table::ANSWER_WORDS;
+use guovssalu_sys::table::ARGUMENTS_IN_CALL;
+use guovssalu_sys::table::EVENT_IN_ANSWER;
+use guovssalu_sys::table::EVENT_IN_CALL;
+use guovssalu_sys::table::NUMBER_IN_CALL;
+use guovssalu_sys::table::PARAMS_IN_CALL;
+use guovssalu_sys::table::REPLY_IN_ANSWER;
+use guovssalu_sys::table::SLOPE_BYTES;
+use guovssalu_sys::table::VALUE_IN_ANSWER;
+
 use crate::frame;
 use crate::frame::Answer;
 use crate::frame::Asked;
@@ -23,6 +34,7 @@ use crate::model::Call;
 use crate::model::Record;
 use crate::model::Start;
 use crate::model::State;
+use crate::model::FIELDS;
 use crate::recovery::gcongestion::Host;
 use crate::replies;
 use crate::scalars;
@@ -39,7 +51,7 @@ pub enum Step {
     Call(Call),
     /// A call that is refused for its words, which are these.
     Words(Vec<u64>),
-    /// Puts numbers into the state (0 to 65) and the parameters (66 to 76).
+    /// Puts numbers into the state and, from its length on, the parameters.
     Put(Vec<(usize, u64)>),
     /// An operation on the windowed filter, as in its list.
     Filter { op: u64, x: u64, y: u64 },
@@ -78,7 +90,7 @@ impl World {
         let usual = Host::usual_start();
         let mut world = World {
             host: Host::new(&usual),
-            state: [0; 66],
+            state: [0; FIELDS],
             start: usual,
             filter: [0; 8],
         };
@@ -106,7 +118,12 @@ impl World {
     fn words(&self, step: &Step) -> Option<CallWords> {
         let record = &self.state[CARRIED..];
         let words = |numbers: &[u64], start: &Start| {
-            frame::call(numbers[0], &numbers[1..], record, &start.parameters())
+            frame::call(
+                numbers[NUMBER_IN_CALL],
+                &numbers[ARGUMENTS_IN_CALL..],
+                record,
+                &start.parameters(),
+            )
         };
         match step {
             Step::Put(_) | Step::Call(Call::Record(_)) => None,
@@ -156,7 +173,7 @@ impl World {
                 other,
             } => {
                 let mut words = [0; frame::ANSWER];
-                for (place, word) in (0..scalars::RUN).zip(&mut words[2..]) {
+                for (place, word) in (0..scalars::RUN).zip(&mut words[EVENT_IN_ANSWER..]) {
                     *word = scalars::answer(*function, first + place, *other);
                 }
                 words
@@ -208,12 +225,12 @@ impl World {
     fn refused(&mut self, words: &[u64]) -> Answer {
         let reply = replies::malformed(words, &self.state);
         let reply = reply.expect("the words make no call");
-        match words[0] {
+        match words[NUMBER_IN_CALL] {
             START => {
                 self.start_refused();
                 self.answer(reply, 0, &[])
             }
-            EVENT => self.answer(reply, 0, &words[22..38]),
+            EVENT => self.answer(reply, 0, &words[EVENT_IN_CALL..PARAMS_IN_CALL]),
             _ => self.answer(reply, 0, &[]),
         }
     }
@@ -232,8 +249,8 @@ impl World {
         let mut parameters = self.start.parameters();
         for &(index, number) in numbers {
             match index {
-                0..66 => self.state[index] = written(index, number),
-                _ => parameters[index - 66] = number,
+                0..FIELDS => self.state[index] = written(index, number),
+                _ => parameters[index - FIELDS] = number,
             }
         }
         self.start = self.start.with_parameters(&parameters);
@@ -295,10 +312,10 @@ impl World {
 
     fn answer(&self, reply: u64, answer: u64, record: &[u64]) -> Answer {
         let mut words = [0; frame::ANSWER];
-        words[0] = reply;
-        words[1] = answer;
-        words[2..][..record.len()].copy_from_slice(record);
-        words[2 + frame::RECORD..].copy_from_slice(&self.state[..CARRIED]);
+        words[REPLY_IN_ANSWER] = reply;
+        words[VALUE_IN_ANSWER] = answer;
+        words[EVENT_IN_ANSWER..][..record.len()].copy_from_slice(record);
+        words[ANSWER_WORDS..].copy_from_slice(&self.state[..CARRIED]);
         words
     }
 }
@@ -309,8 +326,8 @@ fn memory(reply: u64, written: &[u64]) -> Answer {
     let mut memory = frame::bytes(written);
     memory.resize(MEMORY, UNTOUCHED);
     let mut words = [0; frame::ANSWER];
-    words[0] = reply;
-    words[2..].copy_from_slice(&frame::words(&memory));
+    words[REPLY_IN_ANSWER] = reply;
+    words[EVENT_IN_ANSWER..].copy_from_slice(&frame::words(&memory));
     words
 }
 
@@ -319,13 +336,13 @@ fn memory(reply: u64, written: &[u64]) -> Answer {
 fn slope(rounds: u64, window: u64, lent: u64) -> (u64, Vec<u64>) {
     let none = |reply| (reply, Vec::new());
     if rounds > replies::UP_ROUNDS {
-        return none(1);
+        return none(reply::OUT_OF_BOUNDS);
     }
     if window > replies::BYTES {
-        return none(2);
+        return none(reply::BAD_ARGUMENT);
     }
-    if lent < 16 {
-        return none(7);
+    if lent < SLOPE_BYTES as u64 {
+        return none(reply::SHORT_OUTPUT);
     }
     let mut host = Host::new(&Host::usual_start());
     host.call(&Call::ProbeRefill { rounds, moment: 0 });

@@ -2,6 +2,8 @@
 // numbers, two calls in which the model scales a number of bytes, and what the
 // host of whole sequences (appended to probe_bw.rs) needs of a model.
 
+use guovssalu_sys::table::state;
+
 /// The max filter.
 pub struct MaxBandwidth(MaxBandwidthFilter);
 
@@ -172,43 +174,44 @@ impl BBRv2NetworkModel {
         let bandwidth = Bandwidth::from_bits_per_second;
         let gain = |field: usize| f32::from_bits(state[field] as u32);
         self.round_trip_counter = RoundTripCounter {
-            round_trip_count: state[0] as usize,
-            last_sent_packet: state[1],
-            end_of_round_trip: set(2),
+            round_trip_count: state[state::ROUND_TRIP_COUNT] as usize,
+            last_sent_packet: state[state::LAST_SENT_PACKET],
+            end_of_round_trip: set(state::END_OF_ROUND_TRIP_SET),
         };
-        self.max_bandwidth_filter.max_bandwidth = [bandwidth(state[4]), bandwidth(state[5])];
+        self.max_bandwidth_filter.max_bandwidth = [bandwidth(state[state::MAX_BANDWIDTH_0]), bandwidth(state[state::MAX_BANDWIDTH_1])];
         self.min_rtt_filter = MinRttFilter {
-            min_rtt: Duration::from_nanos(state[6]),
-            min_rtt_timestamp: base + Duration::from_nanos(state[7]),
+            min_rtt: Duration::from_nanos(state[state::MIN_RTT]),
+            min_rtt_timestamp: base + Duration::from_nanos(state[state::MIN_RTT_TIMESTAMP]),
         };
-        self.bytes_lost_in_round = state[8] as usize;
-        self.loss_events_in_round = state[9] as usize;
-        self.max_bytes_delivered_in_round = state[10] as usize;
-        self.min_bytes_in_flight_in_round = state[11] as usize;
-        self.inflight_hi_limited_in_round = state[12] == 1;
-        self.bandwidth_latest = bandwidth(state[13]);
-        self.inflight_latest = state[14] as usize;
-        self.bandwidth_lo = set(15).map(bandwidth);
-        self.inflight_lo = state[17] as usize;
-        self.inflight_hi = state[18] as usize;
-        self.cwnd_gain = gain(19);
-        self.pacing_gain = gain(20);
-        self.cwnd_limited_before_aggregation_epoch = state[21] == 1;
-        self.full_bandwidth_reached = state[22] == 1;
-        self.full_bandwidth_baseline = bandwidth(state[23]);
-        self.rounds_without_bandwidth_growth = state[24] as usize;
-        self.rounds_with_queueing = state[25] as usize;
-        self.ignore_app_limited_for_no_bandwidth_growth = state[26] == 1;
-        self.latest_send_rate = set(27).map(bandwidth);
-        self.latest_ack_rate = set(29).map(bandwidth);
+        self.bytes_lost_in_round = state[state::BYTES_LOST_IN_ROUND] as usize;
+        self.loss_events_in_round = state[state::LOSS_EVENTS_IN_ROUND] as usize;
+        self.max_bytes_delivered_in_round = state[state::MAX_BYTES_DELIVERED_IN_ROUND] as usize;
+        self.min_bytes_in_flight_in_round = state[state::MIN_BYTES_IN_FLIGHT_IN_ROUND] as usize;
+        self.inflight_hi_limited_in_round = state[state::INFLIGHT_HI_LIMITED_IN_ROUND] == 1;
+        self.bandwidth_latest = bandwidth(state[state::BANDWIDTH_LATEST]);
+        self.inflight_latest = state[state::INFLIGHT_LATEST] as usize;
+        self.bandwidth_lo = set(state::BANDWIDTH_LO_SET).map(bandwidth);
+        self.inflight_lo = state[state::INFLIGHT_LO] as usize;
+        self.inflight_hi = state[state::INFLIGHT_HI] as usize;
+        self.cwnd_gain = gain(state::CWND_GAIN);
+        self.pacing_gain = gain(state::PACING_GAIN);
+        self.cwnd_limited_before_aggregation_epoch = state[state::CWND_LIMITED_BEFORE_AGGREGATION_EPOCH] == 1;
+        self.full_bandwidth_reached = state[state::FULL_BANDWIDTH_REACHED] == 1;
+        self.full_bandwidth_baseline = bandwidth(state[state::FULL_BANDWIDTH_BASELINE]);
+        self.rounds_without_bandwidth_growth = state[state::ROUNDS_WITHOUT_BANDWIDTH_GROWTH] as usize;
+        self.rounds_with_queueing = state[state::ROUNDS_WITH_QUEUEING] as usize;
+        self.ignore_app_limited_for_no_bandwidth_growth = state[state::IGNORE_APP_LIMITED_FOR_NO_BANDWIDTH_GROWTH] == 1;
+        self.latest_send_rate = set(state::LATEST_SEND_RATE_SET).map(bandwidth);
+        self.latest_ack_rate = set(state::LATEST_ACK_RATE_SET).map(bandwidth);
         self.bandwidth_sampler.put(super::super::bbr::Totals {
-            acked: state[31] as usize,
-            lost: state[32] as usize,
+            acked: state[state::TOTAL_BYTES_ACKED] as usize,
+            lost: state[state::TOTAL_BYTES_LOST] as usize,
         });
     }
 
-    /// The model's part of the state, in its order.
-    pub(super) fn fields(&self, base: Instant) -> [u64; 33] {
+    /// The model's part of the state, in its order, but for the last accepted
+    /// moment.
+    pub(super) fn fields(&self, base: Instant) -> [u64; state::LAST_ACCEPTED_MOMENT] {
         // Used by the other modes only.
         assert!(self.prior_bandwidth_lo.is_none());
 

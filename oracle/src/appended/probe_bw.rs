@@ -1,6 +1,12 @@
 // Appended to probe_bw.rs: the host of calls on a model and a cycle side by
 // side, with the record of the current event, on plain numbers.
 
+use guovssalu_sys::table::phase;
+use guovssalu_sys::table::state;
+use guovssalu_sys::table::CYCLE_IN_STATE;
+use guovssalu_sys::table::EVENT_WORDS;
+use guovssalu_sys::table::STATE_WORDS;
+
 use crate::model::option;
 use crate::model::Call;
 use crate::model::Getter;
@@ -9,6 +15,7 @@ use crate::model::Sample;
 use crate::model::SendState;
 use crate::model::Start;
 use crate::model::State;
+use crate::model::FIELDS;
 use crate::recovery::gcongestion::Bandwidth;
 
 pub struct Host {
@@ -75,29 +82,29 @@ impl Host {
         self.params = params_of(start);
         self.probe.model.put(state, self.base);
         self.probe.cycle = Cycle {
-            phase: match state[34] {
-                0 => CyclePhase::NotStarted,
-                1 => CyclePhase::Up,
-                2 => CyclePhase::Down,
-                3 => CyclePhase::Cruise,
+            phase: match state[state::PHASE] {
+                phase::NOT_STARTED => CyclePhase::NotStarted,
+                phase::UP => CyclePhase::Up,
+                phase::DOWN => CyclePhase::Down,
+                phase::CRUISE => CyclePhase::Cruise,
                 _ => CyclePhase::Refill,
             },
-            start_time: moment(state[35]),
-            phase_start_time: moment(state[36]),
-            rounds_in_phase: state[37] as usize,
-            rounds_since_probe: state[38] as usize,
-            probe_wait_time: set(39).map(Duration::from_nanos),
-            probe_up_rounds: state[41] as usize,
-            probe_up_bytes: set(42).map(|bytes| bytes as usize),
-            probe_up_acked: state[44] as usize,
-            probe_up_app_limited_since_inflight_hi_limited: state[45] == 1,
-            has_advanced_max_bw: state[46] == 1,
-            is_sample_from_probing: state[47] == 1,
-            last_cycle_probed_too_high: state[48] == 1,
-            last_cycle_stopped_risky_probe: state[49] == 1,
+            start_time: moment(state[state::START_TIME]),
+            phase_start_time: moment(state[state::PHASE_START_TIME]),
+            rounds_in_phase: state[state::ROUNDS_IN_PHASE] as usize,
+            rounds_since_probe: state[state::ROUNDS_SINCE_PROBE] as usize,
+            probe_wait_time: set(state::PROBE_WAIT_TIME_SET).map(Duration::from_nanos),
+            probe_up_rounds: state[state::PROBE_UP_ROUNDS] as usize,
+            probe_up_bytes: set(state::PROBE_UP_BYTES_SET).map(|bytes| bytes as usize),
+            probe_up_acked: state[state::PROBE_UP_ACKED] as usize,
+            probe_up_app_limited_since_inflight_hi_limited: state[state::PROBE_UP_APP_LIMITED_SINCE_INFLIGHT_HI_LIMITED] == 1,
+            has_advanced_max_bw: state[state::HAS_ADVANCED_MAX_BW] == 1,
+            is_sample_from_probing: state[state::IS_SAMPLE_FROM_PROBING] == 1,
+            last_cycle_probed_too_high: state[state::LAST_CYCLE_PROBED_TOO_HIGH] == 1,
+            last_cycle_stopped_risky_probe: state[state::LAST_CYCLE_STOPPED_RISKY_PROBE] == 1,
         };
-        self.event = event_of(&Record::of(&state[50..]), self.base);
-        self.last = state[33];
+        self.event = event_of(&Record::of(&state[STATE_WORDS..]), self.base);
+        self.last = state[state::LAST_ACCEPTED_MOMENT];
     }
 
     /// A packet is sent.
@@ -114,12 +121,12 @@ impl Host {
     }
 
     /// The numbers of the current record.
-    pub fn recorded(&self) -> [u64; 16] {
+    pub fn recorded(&self) -> [u64; EVENT_WORDS] {
         self.recorded_at(whole_nanos(self.event.event_time - self.base))
     }
 
     /// The same, where its moment is known.
-    pub fn recorded_at(&self, moment: u64) -> [u64; 16] {
+    pub fn recorded_at(&self, moment: u64) -> [u64; EVENT_WORDS] {
         let event = &self.event;
         let bandwidth = event.sample_max_bandwidth;
         let [bandwidth_set, bandwidth] = option(bandwidth.map(Bandwidth::to_bits_per_second));
@@ -239,20 +246,20 @@ impl Host {
         let Host { base, probe, .. } = self;
         let moment = |moment: Instant| whole_nanos(moment - *base);
         let cycle = &probe.cycle;
-        let mut state = [0; 66];
+        let mut state = [0; FIELDS];
 
-        state[..33].copy_from_slice(&probe.model.fields(*base));
-        state[33] = self.last;
+        state[..state::LAST_ACCEPTED_MOMENT].copy_from_slice(&probe.model.fields(*base));
+        state[state::LAST_ACCEPTED_MOMENT] = self.last;
 
         let [wait_set, wait] = option(cycle.probe_wait_time.map(whole_nanos));
         let [up_bytes_set, up_bytes] = option(cycle.probe_up_bytes.map(|bytes| bytes as u64));
-        state[34..50].copy_from_slice(&[
+        state[CYCLE_IN_STATE..STATE_WORDS].copy_from_slice(&[
             match cycle.phase {
-                CyclePhase::NotStarted => 0,
-                CyclePhase::Up => 1,
-                CyclePhase::Down => 2,
-                CyclePhase::Cruise => 3,
-                CyclePhase::Refill => 4,
+                CyclePhase::NotStarted => phase::NOT_STARTED,
+                CyclePhase::Up => phase::UP,
+                CyclePhase::Down => phase::DOWN,
+                CyclePhase::Cruise => phase::CRUISE,
+                CyclePhase::Refill => phase::REFILL,
             },
             moment(cycle.start_time),
             moment(cycle.phase_start_time),
@@ -271,7 +278,7 @@ impl Host {
             cycle.last_cycle_stopped_risky_probe as u64,
         ]);
 
-        state[50..].copy_from_slice(&self.recorded());
+        state[STATE_WORDS..].copy_from_slice(&self.recorded());
         state
     }
 }
