@@ -1,5 +1,10 @@
 //! The inputs, the same for both sides and in every run.
 
+use guovssalu_sys::table::CALL_BYTES;
+use guovssalu_sys::table::EVENT_IN_CALL;
+use guovssalu_sys::table::PAIR_BYTES;
+use guovssalu_sys::table::STATE_WORDS;
+
 use crate::model::Call;
 use crate::model::Record;
 use crate::model::Sample;
@@ -7,11 +12,6 @@ use crate::model::SendState;
 use crate::model::Start;
 use crate::recovery::gcongestion::Host;
 use crate::values::Random;
-
-/// Bytes of the state, of a call and of its answer (docs/LAYOUT.md).
-pub const STATE: usize = 400;
-pub const CALL: usize = 392;
-pub const ANSWER: usize = 144;
 
 /// Numbers of up to so many bits, gains from 1/1024 to 8, and round trips up to 200 ms.
 pub struct Numbers {
@@ -38,7 +38,7 @@ impl Numbers {
 pub fn pairs(count: usize) -> Vec<u8> {
     let mut random = Random::new(7);
     let mut time = 0;
-    let mut bytes = Vec::with_capacity(16 * count);
+    let mut bytes = Vec::with_capacity(PAIR_BYTES * count);
     for _ in 0..count {
         time += random.below(4);
         let sample = 50_000_000 + random.below(5_000_000);
@@ -66,7 +66,7 @@ pub struct Trace {
 impl Trace {
     /// How many calls there are.
     pub fn count(&self) -> usize {
-        self.calls.len() / CALL
+        self.calls.len() / CALL_BYTES
     }
 
     /// Sends alone.
@@ -116,7 +116,7 @@ impl Maker {
             trace: Trace {
                 start,
                 steps: Vec::new(),
-                state: bytes(&host.state()[..STATE / 8]),
+                state: bytes(&host.state()[..STATE_WORDS]),
                 calls: Vec::new(),
             },
             host,
@@ -193,7 +193,7 @@ impl Maker {
 
     fn add(&mut self, call: Call) {
         let mut words = call.numbers();
-        words.resize(22, 0);
+        words.resize(EVENT_IN_CALL, 0);
         words.extend(self.host.recorded());
         words.extend(self.trace.start.parameters());
         self.trace.calls.extend(bytes(&words));

@@ -19,6 +19,9 @@ use std::time::Instant;
 
 use guovssalu::Duration;
 use guovssalu::Params;
+use guovssalu_sys::table::ANSWER_BYTES;
+use guovssalu_sys::table::CALL_BYTES;
+use guovssalu_sys::table::SAMPLES_BYTES;
 use inputs::Numbers;
 use inputs::Step;
 use inputs::Trace;
@@ -152,7 +155,7 @@ fn each<T: PartialEq>(name: &str, port: impl Fn(usize) -> T, original: impl Fn(u
 fn filter() {
     const WINDOW: u64 = 30;
     let pairs = inputs::pairs(PAIRS);
-    let mut port = vec![0; 24 * PAIRS];
+    let mut port = vec![0; SAMPLES_BYTES * PAIRS];
     let mut original = port.clone();
     compare(
         "filter update, one run",
@@ -166,7 +169,7 @@ fn filter() {
 /// A trace in one run over bytes.
 fn one_run(name: &str, trace: &Trace) {
     let mut state = trace.state.clone();
-    let mut port = vec![1; inputs::ANSWER * trace.count()];
+    let mut port = vec![1; ANSWER_BYTES * trace.count()];
     let mut original = port.clone();
     let mut model = original::Model::new(&trace.start);
     compare(
@@ -188,22 +191,22 @@ fn one_run(name: &str, trace: &Trace) {
 /// A trace over bytes, in a run for each call.
 fn runs_of_one(name: &str, trace: &Trace) {
     let mut state = trace.state.clone();
-    let mut port = vec![1; inputs::ANSWER * trace.count()];
+    let mut port = vec![1; ANSWER_BYTES * trace.count()];
     let mut original = port.clone();
     let mut model = original::Model::new(&trace.start);
-    let calls = || trace.calls.chunks_exact(inputs::CALL);
+    let calls = || trace.calls.chunks_exact(CALL_BYTES);
     compare(
         &format!("{name}: runs of one call"),
         trace.count(),
         || {
             state.copy_from_slice(&trace.state);
-            for (call, answer) in calls().zip(port.chunks_exact_mut(inputs::ANSWER)) {
+            for (call, answer) in calls().zip(port.chunks_exact_mut(ANSWER_BYTES)) {
                 guovssalu::run(&mut state, call, answer).unwrap();
             }
         },
         || {
             model = original::Model::new(&trace.start);
-            for (call, answer) in calls().zip(original.chunks_exact_mut(inputs::ANSWER)) {
+            for (call, answer) in calls().zip(original.chunks_exact_mut(ANSWER_BYTES)) {
                 model.run(call, answer);
             }
         },

@@ -3,10 +3,23 @@
 
 use std::time::Duration;
 
+use guovssalu_sys::table::argument::on_packet_sent;
+use guovssalu_sys::table::call;
+use guovssalu_sys::table::event;
+use guovssalu_sys::table::ANSWER_BYTES;
+use guovssalu_sys::table::ARGUMENTS_IN_CALL;
+use guovssalu_sys::table::ARGUMENTS_WORDS;
+use guovssalu_sys::table::CALL_BYTES;
+use guovssalu_sys::table::EVENT_IN_ANSWER;
+use guovssalu_sys::table::EVENT_IN_CALL;
+use guovssalu_sys::table::EVENT_WORDS;
+use guovssalu_sys::table::NUMBER_IN_CALL;
+use guovssalu_sys::table::PAIR_BYTES;
+use guovssalu_sys::table::SAMPLES_BYTES;
+use guovssalu_sys::table::STATE_WORDS;
+use guovssalu_sys::table::WORD_BYTES;
+
 use crate::inputs::bytes;
-use crate::inputs::ANSWER;
-use crate::inputs::CALL;
-use crate::inputs::STATE;
 use crate::model::Record;
 use crate::model::Sample;
 use crate::model::Start;
@@ -58,7 +71,10 @@ pub mod numbers {
 #[inline(never)]
 pub fn filter_run(window: u64, pairs: &[u8], out: &mut [u8]) {
     let mut filter: WindowedFilter<u64, usize, usize> = WindowedFilter::new(window as usize);
-    for (pair, out) in pairs.chunks_exact(16).zip(out.chunks_exact_mut(24)) {
+    for (pair, out) in pairs
+        .chunks_exact(PAIR_BYTES)
+        .zip(out.chunks_exact_mut(SAMPLES_BYTES))
+    {
         let [time, sample] = words(pair, 0);
         filter.update(sample, time as usize);
         let samples = [
@@ -66,7 +82,7 @@ pub fn filter_run(window: u64, pairs: &[u8], out: &mut [u8]) {
             filter.get_second_best().unwrap_or(0),
             filter.get_third_best().unwrap_or(0),
         ];
-        for (out, sample) in out.chunks_exact_mut(8).zip(samples) {
+        for (out, sample) in out.chunks_exact_mut(WORD_BYTES).zip(samples) {
             out.copy_from_slice(&sample.to_le_bytes());
         }
     }
@@ -81,29 +97,38 @@ impl Model {
     }
 
     pub fn state(&self) -> Vec<u8> {
-        bytes(&self.0.state()[..STATE / 8])
+        bytes(&self.0.state()[..STATE_WORDS])
     }
 
     /// Sends, events and their finish, as bytes.
     #[inline(never)]
     pub fn run(&mut self, calls: &[u8], answers: &mut [u8]) {
         let host = &mut self.0;
-        let answers = answers.chunks_exact_mut(ANSWER);
-        for (call, answer) in calls.chunks_exact(CALL).zip(answers) {
+        let answers = answers.chunks_exact_mut(ANSWER_BYTES);
+        for (call, answer) in calls.chunks_exact(CALL_BYTES).zip(answers) {
             answer.fill(0);
-            match word(call, 0) {
-                1 => host.sent(word(call, 1), word(call, 2), word(call, 3), word(call, 4)),
-                3 => {
-                    let moment = word(call, 22);
-                    host.record(&Record::of(&words::<16>(call, 22)));
-                    host.event(moment, &Sample::of(&words::<21>(call, 1)));
+            match word(call, NUMBER_IN_CALL) {
+                call::ON_PACKET_SENT => host.sent(
+                    word(call, on_packet_sent::SENT_TIME),
+                    word(call, on_packet_sent::BYTES_IN_FLIGHT),
+                    word(call, on_packet_sent::PACKET_NUMBER),
+                    word(call, on_packet_sent::BYTES),
+                ),
+                call::ON_CONGESTION_EVENT_START => {
+                    let moment = word(call, EVENT_IN_CALL + event::EVENT_TIME);
+                    host.record(&Record::of(&words::<EVENT_WORDS>(call, EVENT_IN_CALL)));
+                    let sample = words::<ARGUMENTS_WORDS>(call, ARGUMENTS_IN_CALL);
+                    host.event(moment, &Sample::of(&sample));
                     let record = host.recorded_at(moment);
-                    for (out, word) in answer[16..].chunks_exact_mut(8).zip(record) {
+                    for (out, word) in answer[WORD_BYTES * EVENT_IN_ANSWER..]
+                        .chunks_exact_mut(WORD_BYTES)
+                        .zip(record)
+                    {
                         out.copy_from_slice(&word.to_le_bytes());
                     }
                 }
                 _ => {
-                    host.record(&Record::of(&words::<16>(call, 22)));
+                    host.record(&Record::of(&words::<EVENT_WORDS>(call, EVENT_IN_CALL)));
                     host.finish();
                 }
             }
@@ -117,7 +142,7 @@ impl Model {
     }
 
     #[inline(never)]
-    pub fn event(&mut self, record: &Record, sample: &Sample) -> [u64; 16] {
+    pub fn event(&mut self, record: &Record, sample: &Sample) -> [u64; EVENT_WORDS] {
         self.0.record(record);
         self.0.event(record.event_time, sample);
         self.0.recorded_at(record.event_time)
@@ -130,12 +155,15 @@ impl Model {
 }
 
 fn word(bytes: &[u8], at: usize) -> u64 {
-    u64::from_le_bytes(bytes[8 * at..8 * at + 8].try_into().unwrap())
+    u64::from_le_bytes(bytes[WORD_BYTES * at..][..WORD_BYTES].try_into().unwrap())
 }
 
 fn words<const N: usize>(bytes: &[u8], at: usize) -> [u64; N] {
     let mut words = [0; N];
-    for (word, bytes) in words.iter_mut().zip(bytes[8 * at..].chunks_exact(8)) {
+    for (word, bytes) in words
+        .iter_mut()
+        .zip(bytes[WORD_BYTES * at..].chunks_exact(WORD_BYTES))
+    {
         *word = u64::from_le_bytes(bytes.try_into().unwrap());
     }
     words
