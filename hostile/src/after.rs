@@ -1,10 +1,16 @@
 //! What a call leaves: the state and the answer, of a refused call by document 01, of an accepted
 //! one by the original's Rust.
 
+use guovssalu_sys::table::argument as arg;
+use guovssalu_sys::table::call as calls;
+use guovssalu_sys::table::ANSWER_WORDS;
+use guovssalu_sys::table::STATE_WORDS;
+
 use crate::next;
 use crate::reckon;
 use crate::table;
 use crate::words;
+use crate::words::answer as a;
 use crate::words::call as c;
 use crate::words::gain;
 use crate::words::optional;
@@ -21,7 +27,7 @@ pub const ONE: u64 = 0x3f80_0000;
 /// A fresh model and cycle: network_model.rs `new`, and "A fresh cycle: NotStarted, both moments
 /// the start's, counts 0, flags off, wait and probe_up_bytes unset". Gains and option are words.
 pub fn fresh(now: u64, rtt: u64, cwnd_gain: u64, pacing_gain: u64, option: u64) -> State {
-    let mut state = [0; 50];
+    let mut state = [0; STATE_WORDS];
     state[s::MIN_RTT] = rtt;
     for index in [
         s::MIN_RTT_TIMESTAMP,
@@ -54,14 +60,15 @@ fn refused_start() -> State {
 fn started(call: &Call) -> State {
     let (cwnd_gain, pacing_gain) = (call[c::STARTUP_CWND_GAIN], call[c::STARTUP_PACING_GAIN]);
     let option = call[c::IGNORE_APP_LIMITED];
-    fresh(call[1], call[2], cwnd_gain, pacing_gain, option)
+    let (now, rtt) = (call[arg::start::NOW], call[arg::start::INITIAL_RTT]);
+    fresh(now, rtt, cwnd_gain, pacing_gain, option)
 }
 
 /// The state after a call: a refusal changes nothing but at a start.
 pub fn state(before: &State, call: &Call, due: u64) -> State {
-    match (call[0], due) {
-        (0, 0) => started(call),
-        (0, _) => refused_start(),
+    match (call[c::NUMBER], due) {
+        (calls::START, 0) => started(call),
+        (calls::START, _) => refused_start(),
         (_, 0) => next::state(before, call),
         _ => *before,
     }
@@ -72,10 +79,10 @@ pub fn answer(before: &State, call: &Call, due: u64) -> Answer {
     if due != 0 {
         return refused(call, due);
     }
-    let mut answer = [0; 18];
-    answer[1] = number(before, call);
-    if call[0] == 3 {
-        answer[2..].copy_from_slice(&next::record(before, call));
+    let mut answer = [0; ANSWER_WORDS];
+    answer[a::VALUE] = number(before, call);
+    if call[c::NUMBER] == calls::ON_CONGESTION_EVENT_START {
+        answer[a::RECORD..].copy_from_slice(&next::record(before, call));
     }
     answer
 }
@@ -83,30 +90,32 @@ pub fn answer(before: &State, call: &Call, due: u64) -> Answer {
 /// The answer to a refused call: "0 for a number, no for a yes or no, and an event's record as
 /// handed in".
 fn refused(call: &Call, due: u64) -> Answer {
-    let mut answer = [0; 18];
-    answer[0] = due;
-    if call[0] == 3 {
-        answer[2..].copy_from_slice(&words::record(call));
+    let mut answer = [0; ANSWER_WORDS];
+    answer[a::REPLY] = due;
+    if call[c::NUMBER] == calls::ON_CONGESTION_EVENT_START {
+        answer[a::RECORD..].copy_from_slice(&words::record(call));
     }
     answer
 }
 
 /// The number that an accepted call answers, as network_model.rs has it.
 fn number(state: &State, call: &Call) -> u64 {
-    match call[0] {
-        5 => next::expires(state, call) as u64,
-        6 => is_inflight_too_high(state, call) as u64,
-        7 => table::grows(state, call) as u64,
-        10 => table::bdp(state, call[1], gain(call[2])),
-        11 => table::bdp(state, call[1], 1.0),
-        12 => table::bdp(state, table::max_bandwidth(state), 1.0),
-        13 => with_headroom(state[s::INFLIGHT_HI], gain(call[c::HEADROOM])),
-        23 => optional(state, s::BANDWIDTH_LO)
+    match call[c::NUMBER] {
+        calls::MAYBE_EXPIRE_MIN_RTT => next::expires(state, call) as u64,
+        calls::IS_INFLIGHT_TOO_HIGH => is_inflight_too_high(state, call) as u64,
+        calls::HAS_BANDWIDTH_GROWTH => table::grows(state, call) as u64,
+        calls::BDP => table::bdp(state, call[arg::bdp::BANDWIDTH], gain(call[arg::bdp::GAIN])),
+        calls::BDP1 => table::bdp(state, call[arg::bdp1::BANDWIDTH], 1.0),
+        calls::BDP0 => table::bdp(state, table::max_bandwidth(state), 1.0),
+        calls::INFLIGHT_HI_WITH_HEADROOM => {
+            with_headroom(state[s::INFLIGHT_HI], gain(call[c::HEADROOM]))
+        }
+        calls::BANDWIDTH_ESTIMATE => optional(state, s::BANDWIDTH_LO)
             .unwrap_or(u64::MAX)
             .min(table::max_bandwidth(state)),
-        26 => table::max_bandwidth(state),
-        34 => UNSET,
-        38 => 2 * 1300,
+        calls::MAX_BANDWIDTH => table::max_bandwidth(state),
+        calls::INFLIGHT_HI_DEFAULT => UNSET,
+        calls::QUEUEING_THRESHOLD_EXTRA_BYTES => 2 * 1300,
         number => stored(number).map_or(0, |index| state[index]),
     }
 }
@@ -114,18 +123,18 @@ fn number(state: &State, call: &Call) -> u64 {
 /// The word of the state that a call answers as it stands.
 fn stored(number: u64) -> Option<usize> {
     Some(match number {
-        24 => s::MIN_RTT,
-        25 => s::MIN_RTT_TIMESTAMP,
-        27 => s::MAX_BYTES_DELIVERED_IN_ROUND,
-        28 => s::TOTAL_ACKED,
-        29 => s::TOTAL_LOST,
-        30 => s::FULL_BANDWIDTH_REACHED,
-        31 => s::PACING_GAIN,
-        32 => s::CWND_GAIN,
-        33 => s::INFLIGHT_HI,
-        35 => s::INFLIGHT_LO,
-        36 => s::LOSS_EVENTS_IN_ROUND,
-        37 => s::ROUNDS_WITH_QUEUEING,
+        calls::MIN_RTT => s::MIN_RTT,
+        calls::MIN_RTT_TIMESTAMP => s::MIN_RTT_TIMESTAMP,
+        calls::MAX_BYTES_DELIVERED_IN_ROUND => s::MAX_BYTES_DELIVERED_IN_ROUND,
+        calls::TOTAL_BYTES_ACKED => s::TOTAL_ACKED,
+        calls::TOTAL_BYTES_LOST => s::TOTAL_LOST,
+        calls::FULL_BANDWIDTH_REACHED => s::FULL_BANDWIDTH_REACHED,
+        calls::PACING_GAIN => s::PACING_GAIN,
+        calls::CWND_GAIN => s::CWND_GAIN,
+        calls::INFLIGHT_HI => s::INFLIGHT_HI,
+        calls::INFLIGHT_LO => s::INFLIGHT_LO,
+        calls::LOSS_EVENTS_IN_ROUND => s::LOSS_EVENTS_IN_ROUND,
+        calls::ROUNDS_WITH_QUEUEING => s::ROUNDS_WITH_QUEUEING,
         _ => return None,
     })
 }
@@ -134,7 +143,7 @@ fn stored(number: u64) -> Option<usize> {
 fn is_inflight_too_high(state: &State, call: &Call) -> bool {
     let (lost, inflight) = (state[s::BYTES_LOST_IN_ROUND], call[c::LAST_IN_FLIGHT]);
     yes(call[c::LAST_IS_VALID])
-        && state[s::LOSS_EVENTS_IN_ROUND] >= call[1]
+        && state[s::LOSS_EVENTS_IN_ROUND] >= call[arg::is_inflight_too_high::MAX_LOSS_EVENTS]
         && inflight > 0
         && lost > 0
         && lost > reckon::scale(inflight, gain(call[c::LOSS_THRESHOLD]))
@@ -149,7 +158,8 @@ fn with_headroom(inflight_hi: u64, headroom: f32) -> u64 {
 /// encode; an event's record stays within its bounds, too.
 pub fn within(call: &Call, after: &State, answer: &Answer) -> bool {
     table::encodes(after)
-        && (!table::gets_model(call[0]) || table::model_ok(after))
-        && (!table::gets_cycle(call[0]) || table::cycle_ok(after))
-        && (call[0] != 3 || table::record_ok(&answer[2..]))
+        && (!table::gets_model(call[c::NUMBER]) || table::model_ok(after))
+        && (!table::gets_cycle(call[c::NUMBER]) || table::cycle_ok(after))
+        && (call[c::NUMBER] != calls::ON_CONGESTION_EVENT_START
+            || table::record_ok(&answer[a::RECORD..]))
 }

@@ -1,5 +1,9 @@
 //! States, calls and lengths to hand in: good ones, and hostile ones made of them.
 
+use guovssalu_sys::table::call as calls;
+use guovssalu_sys::table::CALL_WORDS;
+use guovssalu_sys::table::STATE_WORDS;
+
 use crate::dice::Dice;
 use crate::kinds;
 use crate::kinds::Kind;
@@ -20,7 +24,20 @@ const COUNTERS: [usize; 4] = [
 ];
 
 /// The calls that add 1 to a counter, and those with many arguments: they are made more often.
-const OFTEN: [u64; 12] = [0, 1, 3, 3, 3, 3, 4, 7, 9, 22, 40, 43];
+const OFTEN: [u64; 12] = [
+    calls::START,
+    calls::ON_PACKET_SENT,
+    calls::ON_CONGESTION_EVENT_START,
+    calls::ON_CONGESTION_EVENT_START,
+    calls::ON_CONGESTION_EVENT_START,
+    calls::ON_CONGESTION_EVENT_START,
+    calls::ON_CONGESTION_EVENT_FINISH,
+    calls::HAS_BANDWIDTH_GROWTH,
+    calls::CHECK_PERSISTENT_QUEUE,
+    calls::POSTPONE_MIN_RTT_TIMESTAMP,
+    calls::ENTER_PROBE_DOWN,
+    calls::ENTER_PROBE_UP,
+];
 
 /// The words that were made hostile, for a report.
 #[derive(Clone, Default)]
@@ -31,7 +48,7 @@ pub struct Spoilt {
 
 /// A state within all bounds, field by field.
 pub fn good_state(dice: &mut Dice) -> State {
-    let mut state = [0; 50];
+    let mut state = [0; STATE_WORDS];
     kinds::fill(dice, &mut state, &kinds::STATE);
     state[s::BYTES_LOST_IN_ROUND] = values::within(dice, state[s::TOTAL_LOST]);
     state[s::MAX_BYTES_DELIVERED_IN_ROUND] = values::within(dice, state[s::TOTAL_ACKED]);
@@ -72,7 +89,7 @@ pub fn spoil_state(dice: &mut Dice, state: &mut State, spoilt: &mut Spoilt, enco
 
 /// Random words that still encode a state.
 pub fn random_state(dice: &mut Dice) -> State {
-    let mut state = [0; 50];
+    let mut state = [0; STATE_WORDS];
     for (index, kind) in kinds::STATE.iter().enumerate() {
         state[index] = match kind {
             Kind::Flag | Kind::Set(_) => dice.below(2),
@@ -100,7 +117,7 @@ pub fn number(dice: &mut Dice) -> u64 {
         let number = if dice.one_in(2) {
             dice.pick(&OFTEN)
         } else {
-            dice.below(46)
+            dice.below(words::CALLS_END)
         };
         if table::is_a_call(number) {
             return number;
@@ -110,24 +127,13 @@ pub fn number(dice: &mut Dice) -> u64 {
 
 /// A call that is accepted in the state, if that is good and its counters are not full.
 pub fn good_call(dice: &mut Dice, state: &State, number: u64) -> Call {
-    let mut call = [0; 49];
-    call[0] = number;
-    let arguments = kinds::arguments(call[0]);
-    kinds::fill(dice, &mut call[1..], arguments);
+    let mut call = [0; CALL_WORDS];
+    call[c::NUMBER] = number;
+    let arguments = kinds::arguments(number);
+    kinds::fill(dice, &mut call[c::ARGUMENTS..], arguments);
     kinds::fill(dice, &mut call[c::RECORD..], &kinds::REST);
     go_on(dice, state, &mut call);
     call
-}
-
-/// The word of a call that has the moment it tests.
-fn moment_word(number: u64) -> Option<usize> {
-    match number {
-        1 | 41 | 43 => Some(1),
-        3 => Some(c::EVENT_TIME),
-        40 => Some(3),
-        42 => Some(2),
-        _ => None,
-    }
 }
 
 /// Sets a call's moment and totals to the stored ones or a little above, and its acked packets near
@@ -137,10 +143,10 @@ fn go_on(dice: &mut Dice, state: &State, call: &mut Call) {
         let step = dice.pick(&[0, 0, 1, 1_000, 1 << 20, 1 << 41]);
         stored.saturating_add(step).min(bound.max(stored))
     };
-    if let Some(index) = moment_word(call[0]) {
+    if let Some(index) = table::moment_word(call[c::NUMBER]) {
         call[index] = above(state[s::LAST_MOMENT], table::MOMENT);
     }
-    if call[0] == 3 {
+    if call[c::NUMBER] == calls::ON_CONGESTION_EVENT_START {
         call[c::TOTAL_ACKED] = above(state[s::TOTAL_ACKED], table::TOTAL);
         call[c::TOTAL_LOST] = above(state[s::TOTAL_LOST], table::TOTAL);
         call[c::ACKED_COUNT] = dice.below(4);
@@ -154,12 +160,12 @@ fn go_on(dice: &mut Dice, state: &State, call: &mut Call) {
 
 /// Makes some words of a call hostile, most of them such as it reads.
 pub fn spoil_call(dice: &mut Dice, call: &mut Call, spoilt: &mut Spoilt) {
-    let arguments = kinds::arguments(call[0]);
+    let arguments = kinds::arguments(call[c::NUMBER]);
     for _ in 0..=dice.below(3) {
         let index = match dice.below(4) {
-            0 | 1 if !arguments.is_empty() => 1 + dice.length(arguments.len()),
+            0 | 1 if !arguments.is_empty() => c::ARGUMENTS + dice.length(arguments.len()),
             2 => c::RECORD + dice.length(kinds::REST.len()),
-            _ => 1 + dice.length(call.len() - 1),
+            _ => c::ARGUMENTS + dice.length(call.len() - c::ARGUMENTS),
         };
         spoilt.call.push(index);
         if index <= arguments.len() {
@@ -182,7 +188,7 @@ pub fn spoil_call(dice: &mut Dice, call: &mut Call, spoilt: &mut Spoilt) {
 /// which the call must not look.
 pub fn malform_call(dice: &mut Dice, call: &mut Call, spoilt: &mut Spoilt) {
     let can = |&(_, kind): &(usize, Kind)| kinds::ways(kind) > 0;
-    let mut places: Vec<_> = kinds::used(call[0]).filter(can).collect();
+    let mut places: Vec<_> = kinds::used(call[c::NUMBER]).filter(can).collect();
     if places.is_empty() {
         places.extend(kinds::rest().filter(can));
     }
@@ -222,11 +228,11 @@ impl Beside {
             Beside::StoredCycle => state[s::PROBE_UP_ROUNDS] = table::ROUNDS + 1,
             Beside::Parameter => call[c::PROBE_RTT_PERIOD] = table::LENGTH + 1,
             Beside::Moment => {
-                if let Some(index) = moment_word(call[0]) {
+                if let Some(index) = table::moment_word(call[c::NUMBER]) {
                     call[index] = state[s::LAST_MOMENT].saturating_sub(1);
                 }
             }
-            Beside::Total if call[0] == 3 => {
+            Beside::Total if call[c::NUMBER] == calls::ON_CONGESTION_EVENT_START => {
                 call[c::TOTAL_ACKED] = state[s::TOTAL_ACKED].saturating_sub(1);
             }
             Beside::Total => {}
@@ -241,9 +247,13 @@ impl Beside {
 
 /// Lets the moment or a total be lower than the stored one.
 pub fn fall(dice: &mut Dice, state: &State, call: &mut Call, spoilt: &mut Spoilt) {
-    let (index, stored) = match (moment_word(call[0]), dice.below(3)) {
-        (Some(_), 0) if call[0] == 3 => (c::TOTAL_ACKED, state[s::TOTAL_ACKED]),
-        (Some(_), 1) if call[0] == 3 => (c::TOTAL_LOST, state[s::TOTAL_LOST]),
+    let (index, stored) = match (table::moment_word(call[c::NUMBER]), dice.below(3)) {
+        (Some(_), 0) if call[c::NUMBER] == calls::ON_CONGESTION_EVENT_START => {
+            (c::TOTAL_ACKED, state[s::TOTAL_ACKED])
+        }
+        (Some(_), 1) if call[c::NUMBER] == calls::ON_CONGESTION_EVENT_START => {
+            (c::TOTAL_LOST, state[s::TOTAL_LOST])
+        }
         (Some(index), _) => (index, state[s::LAST_MOMENT]),
         (None, _) => return,
     };
@@ -252,7 +262,7 @@ pub fn fall(dice: &mut Dice, state: &State, call: &mut Call, spoilt: &mut Spoilt
     spoilt.call.push(index);
 }
 
-/// Numbers that are no call's.
+/// Numbers that are no call's: by hand, as `table::is_a_call`.
 pub const NO_CALLS: [u64; 16] = [
     2,
     39,
@@ -277,11 +287,11 @@ pub fn no_call(dice: &mut Dice, call: &mut Call) {
     if dice.one_in(3) {
         *call = words::words(&dice.bytes(words::CALL_BYTES));
     }
-    call[0] = match dice.below(4) {
+    call[c::NUMBER] = match dice.below(4) {
         0 => dice.pick(&[2, 39]),
         1 => dice.pick(&NO_CALLS),
-        2 => values::hostile(dice, 45),
-        _ => call[0].wrapping_add(dice.pick(&[1 << 8, 1 << 16, 1 << 32, 1 << 63])),
+        2 => values::hostile(dice, words::CALLS_END - 1),
+        _ => call[c::NUMBER].wrapping_add(dice.pick(&[1 << 8, 1 << 16, 1 << 32, 1 << 63])),
     };
 }
 

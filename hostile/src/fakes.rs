@@ -7,6 +7,10 @@ use std::process::Command;
 use std::ptr;
 use std::slice;
 
+use guovssalu_sys::table::call as calls;
+use guovssalu_sys::table::SLOPE_BYTES;
+use guovssalu_sys::table::WORD_BYTES;
+
 use crate::after;
 use crate::cases::random;
 use crate::cases::sweep;
@@ -22,6 +26,7 @@ use crate::tally::Fault;
 use crate::tally::Tally;
 use crate::trial::Trial;
 use crate::words;
+use crate::words::answer as a;
 use crate::words::state as s;
 use crate::words::Answer;
 use crate::words::Call;
@@ -93,7 +98,7 @@ unsafe extern "C" fn raise_inflight_high_slope(
 ) -> u64 {
     let due = slope::rows(rounds, window, out_len).due();
     if due == 0 {
-        lent((out, out_len))[..16].copy_from_slice(&slope::written(rounds, window));
+        lent((out, out_len))[..SLOPE_BYTES].copy_from_slice(&slope::written(rounds, window));
     }
     due
 }
@@ -238,25 +243,36 @@ run_with!(writes_past_answers, |reply, _s, calls, answers| {
 });
 run_with!(answers_wrong_bit, |reply, _s, calls, answers| {
     if reply == 0 && calls.1 == words::CALL_BYTES {
-        flip(answers.0, 8);
+        flip(answers.0, WORD_BYTES * a::VALUE);
     }
     reply
 });
 run_with!(answers_a_record, |reply, _s, calls, answers| {
-    if reply == 0 && calls.1 == words::CALL_BYTES && *calls.0 != 3 {
+    if reply == 0
+        && calls.1 == words::CALL_BYTES
+        && *calls.0 != calls::ON_CONGESTION_EVENT_START as u8
+    {
         flip(answers.0, words::ANSWER_BYTES - 1);
     }
     reply
 });
 run_with!(leaves_bad_state, |reply, state, calls, answers| {
-    if reply == 0 && calls.1 == words::CALL_BYTES && *calls.0 == 8 && *answers.0 == 0 {
-        *state.0.add(8 * s::MIN_RTT + 7) = 0xff;
+    if reply == 0
+        && calls.1 == words::CALL_BYTES
+        && *calls.0 == calls::RESTART_ROUND_EARLY as u8
+        && *answers.0 == 0
+    {
+        *state.0.add(WORD_BYTES * s::MIN_RTT + 7) = 0xff;
     }
     reply
 });
 run_with!(changes_more_at_events, |reply, state, calls, answers| {
-    if reply == 0 && calls.1 == words::CALL_BYTES && *calls.0 == 3 && *answers.0 == 0 {
-        flip(state.0, 8 * s::MIN_RTT_TIMESTAMP);
+    if reply == 0
+        && calls.1 == words::CALL_BYTES
+        && *calls.0 == calls::ON_CONGESTION_EVENT_START as u8
+        && *answers.0 == 0
+    {
+        flip(state.0, WORD_BYTES * s::MIN_RTT_TIMESTAMP);
     }
     reply
 });

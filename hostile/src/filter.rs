@@ -1,5 +1,8 @@
 //! Hostile runs of the windowed filter.
 
+use guovssalu_sys::table::PAIR_BYTES;
+use guovssalu_sys::table::SAMPLES_BYTES;
+
 use crate::checks;
 use crate::choose;
 use crate::dice::Dice;
@@ -10,9 +13,6 @@ use crate::tally::Tally;
 use crate::trial::Trial;
 use crate::values;
 use crate::words;
-
-const PAIR_BYTES: usize = 16;
-const ANSWER_BYTES: usize = 24;
 
 /// A run has fewer pairs than this, and the ranges lent are no longer.
 const MOST: usize = 24;
@@ -104,7 +104,7 @@ pub fn due(window: u64, src: &[u8], out_len: usize) -> (Rows, Vec<u8>) {
     let rows = Rows::default()
         .with(2, src.len() % PAIR_BYTES != 0)
         .with(3, refused)
-        .with(7, out_len < src.len() / PAIR_BYTES * ANSWER_BYTES);
+        .with(7, out_len < src.len() / PAIR_BYTES * SAMPLES_BYTES);
     (rows, written)
 }
 
@@ -126,7 +126,7 @@ impl Filter {
     pub fn case(&mut self, trial: &mut Trial) {
         let window = window(&mut trial.dice);
         let mut src = pairs(&mut trial.dice, window);
-        let mut length = src.len() / PAIR_BYTES * ANSWER_BYTES;
+        let mut length = src.len() / PAIR_BYTES * SAMPLES_BYTES;
         if trial.dice.one_in(4) {
             length = choose::length(&mut trial.dice, length, LONGEST);
         }
@@ -141,7 +141,7 @@ impl Filter {
     /// Inputs of each length with outputs of each length, about three pairs of them.
     pub fn each_length(&mut self, trial: &mut Trial) {
         for src_len in 0..=3 * PAIR_BYTES + 1 {
-            for out_len in 0..=3 * ANSWER_BYTES + 1 {
+            for out_len in 0..=3 * SAMPLES_BYTES + 1 {
                 let window = window(&mut trial.dice);
                 let mut src = pairs(&mut trial.dice, window);
                 choose::resize(&mut trial.dice, &mut src, src_len);

@@ -1,5 +1,11 @@
 //! What the words of states and calls are, for choosing numbers that fit them or don't.
 
+use guovssalu_sys::table::call as calls;
+use guovssalu_sys::table::ARGUMENTS_WORDS;
+use guovssalu_sys::table::EVENT_WORDS;
+use guovssalu_sys::table::PARAMS_WORDS;
+use guovssalu_sys::table::STATE_WORDS;
+
 use crate::dice::Dice;
 use crate::table;
 use crate::table::BANDWIDTH;
@@ -50,8 +56,8 @@ const ANY: u64 = u64::MAX;
 const GAIN: Kind = Float(0x3a80_0000, 0x4100_0000);
 const SHARE: Kind = Float(0, 0x3f80_0000);
 
-/// The 50 words of a state.
-pub const STATE: [Kind; 50] = [
+/// The words of a state, in order.
+pub const STATE: [Kind; STATE_WORDS] = [
     Free,
     Free,
     Set(ANY),
@@ -104,8 +110,8 @@ pub const STATE: [Kind; 50] = [
     Flag,
 ];
 
-/// The record and the parameters, words 22 to 48 of a call.
-pub const REST: [Kind; 27] = [
+/// The words of the record and of the parameters, in order.
+pub const REST: [Kind; EVENT_WORDS + PARAMS_WORDS] = [
     Upto(MOMENT),
     Upto(BYTES),
     Upto(BYTES),
@@ -135,7 +141,7 @@ pub const REST: [Kind; 27] = [
     Flag,
 ];
 
-const EVENT: [Kind; 21] = [
+const EVENT: [Kind; ARGUMENTS_WORDS] = [
     Set(BANDWIDTH),
     Held,
     Set(BANDWIDTH),
@@ -159,23 +165,23 @@ const EVENT: [Kind; 21] = [
     Free,
 ];
 
-/// The arguments of a call, from word 1 on.
+/// The arguments of a call, in order.
 pub fn arguments(number: u64) -> &'static [Kind] {
     match number {
-        0 => &[Upto(MOMENT), Upto(LENGTH)],
-        1 => &[Upto(MOMENT), Upto(BYTES), Free, Upto(BYTES)],
-        3 => &EVENT,
-        6 => &[Free],
-        9 | 15 | 16 => &[GAIN],
-        10 => &[Upto(BANDWIDTH), GAIN],
-        11 => &[Upto(BANDWIDTH)],
-        17 | 18 => &[OrUnset],
-        22 => &[Upto(LENGTH)],
-        40 => &[Flag, Flag, Upto(MOMENT)],
-        41 => &[Upto(MOMENT)],
-        42 => &[Upto(ROUNDS), Upto(MOMENT)],
-        43 => &[Upto(MOMENT), Upto(BYTES)],
-        45 => &[Upto(BYTES)],
+        calls::START => &[Upto(MOMENT), Upto(LENGTH)],
+        calls::ON_PACKET_SENT => &[Upto(MOMENT), Upto(BYTES), Free, Upto(BYTES)],
+        calls::ON_CONGESTION_EVENT_START => &EVENT,
+        calls::IS_INFLIGHT_TOO_HIGH => &[Free],
+        calls::CHECK_PERSISTENT_QUEUE | calls::SET_PACING_GAIN | calls::SET_CWND_GAIN => &[GAIN],
+        calls::BDP => &[Upto(BANDWIDTH), GAIN],
+        calls::BDP1 => &[Upto(BANDWIDTH)],
+        calls::SET_INFLIGHT_HI | calls::CAP_INFLIGHT_LO => &[OrUnset],
+        calls::POSTPONE_MIN_RTT_TIMESTAMP => &[Upto(LENGTH)],
+        calls::ENTER_PROBE_DOWN => &[Flag, Flag, Upto(MOMENT)],
+        calls::ENTER_PROBE_CRUISE => &[Upto(MOMENT)],
+        calls::ENTER_PROBE_REFILL => &[Upto(ROUNDS), Upto(MOMENT)],
+        calls::ENTER_PROBE_UP => &[Upto(MOMENT), Upto(BYTES)],
+        calls::RAISE_INFLIGHT_HIGH_SLOPE => &[Upto(BYTES)],
         _ => &[],
     }
 }
@@ -191,7 +197,7 @@ pub fn used(number: u64) -> impl Iterator<Item = (usize, Kind)> {
     let (record, params) = (table::gets_record(number), table::takes_params(number));
     let arguments = arguments(number).iter().enumerate();
     arguments
-        .map(|(at, &kind)| (1 + at, kind))
+        .map(|(at, &kind)| (c::ARGUMENTS + at, kind))
         .chain(rest().filter(move |&(at, _)| if at < c::PARAMS { record } else { params }))
 }
 
@@ -239,7 +245,7 @@ pub fn malform(words: &mut [u64], place: usize, kind: Kind, way: usize) {
 
 /// Whether a word that the call uses is malformed.
 pub fn is_malformed(call: &Call) -> bool {
-    used(call[0]).any(|(place, kind)| match kind {
+    used(call[c::NUMBER]).any(|(place, kind)| match kind {
         Flag => words::flag(call[place]).is_none(),
         Count => words::acked(call).is_none(),
         Set(_) => words::pair(call, place).is_none(),

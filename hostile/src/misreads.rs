@@ -3,6 +3,10 @@
 
 use std::ops::Range;
 
+use guovssalu_sys::table::call as calls;
+use guovssalu_sys::table::ANSWER_WORDS;
+use guovssalu_sys::table::CALL_WORDS;
+
 use crate::fakes::assert_noticed;
 use crate::fakes::exported_run;
 use crate::fakes::lent;
@@ -14,15 +18,16 @@ use crate::kinds::Kind;
 use crate::table;
 use crate::tally::Fault;
 use crate::words;
+use crate::words::answer as a;
 use crate::words::call as c;
 use crate::words::Answer;
 use crate::words::Call;
 use crate::words::State;
 
 /// The words of a call, in three parts.
-const ARGUMENTS: Range<usize> = 1..c::RECORD;
+const ARGUMENTS: Range<usize> = c::ARGUMENTS..c::RECORD;
 const RECORD: Range<usize> = c::RECORD..c::PARAMS;
-const PARAMS: Range<usize> = c::PARAMS..49;
+const PARAMS: Range<usize> = c::PARAMS..CALL_WORDS;
 const PARTS: [Range<usize>; 3] = [ARGUMENTS, RECORD, PARAMS];
 
 /// The exported run that a function on slices makes.
@@ -53,8 +58,8 @@ macro_rules! reads {
             let one = |state: &mut State, call: &Call| {
                 let read = |$words: &mut Call, $place: usize, $kind: Kind| $read;
                 let mut answer = step(state, &read_as(call, &PARTS[PART], read));
-                if call[0] == 3 && answer[0] != 0 {
-                    answer[2..].copy_from_slice(&words::record(call));
+                if call[c::NUMBER] == calls::ON_CONGESTION_EVENT_START && answer[a::REPLY] != 0 {
+                    answer[a::RECORD..].copy_from_slice(&words::record(call));
                 }
                 answer
             };
@@ -66,7 +71,7 @@ macro_rules! reads {
 /// The call in which the words of a part that it uses are read as others.
 fn read_as(call: &Call, part: &Range<usize>, read: impl Fn(&mut Call, usize, Kind)) -> Call {
     let mut other = *call;
-    for (place, kind) in kinds::used(call[0]).filter(|(place, _)| part.contains(place)) {
+    for (place, kind) in kinds::used(call[c::NUMBER]).filter(|(place, _)| part.contains(place)) {
         read(&mut other, place, kind);
     }
     other
@@ -90,8 +95,8 @@ fn is_malformed(call: &Call, part: &Range<usize>) -> bool {
 
 /// An answer without a record.
 fn plain(reply: u64) -> Answer {
-    let mut answer = [0; 18];
-    answer[0] = reply;
+    let mut answer = [0; ANSWER_WORDS];
+    answer[a::REPLY] = reply;
     answer
 }
 
@@ -168,41 +173,41 @@ makes!(parameters_are_arguments, |state, call| {
     let mended = read_as(call, &PARAMS, mend);
     let otherwise = table::call_rows(state, &mended).due();
     let mut answer = step(state, call);
-    if answer[0] == 1 && otherwise != 1 {
-        answer[0] = 2;
+    if answer[a::REPLY] == 1 && otherwise != 1 {
+        answer[a::REPLY] = 2;
     }
     answer
 });
 makes!(arguments_before_what_is_stored, |state, call| {
     let mut answer = step(state, call);
-    if answer[0] == 1 && (is_malformed(call, &ARGUMENTS) || is_malformed(call, &RECORD)) {
-        answer[0] = 2;
+    if answer[a::REPLY] == 1 && (is_malformed(call, &ARGUMENTS) || is_malformed(call, &RECORD)) {
+        answer[a::REPLY] = 2;
     }
     answer
 });
 makes!(looks_at_words_not_used, |state, call| {
-    let unused = !table::takes_params(call[0]) && call[c::IGNORE_APP_LIMITED] > 1;
-    if unused && table::is_a_call(call[0]) && !table::gets_record(call[0]) {
+    let unused = !table::takes_params(call[c::NUMBER]) && call[c::IGNORE_APP_LIMITED] > 1;
+    if unused && table::is_a_call(call[c::NUMBER]) && !table::gets_record(call[c::NUMBER]) {
         return plain(1);
     }
     step(state, call)
 });
 makes!(no_call_whatever_is_stored, |state, call| {
-    if table::is_a_call(call[0]) {
+    if table::is_a_call(call[c::NUMBER]) {
         step(state, call)
     } else {
         plain(2)
     }
 });
 makes!(no_call_looks_at_the_cycle, |state, call| {
-    if table::is_a_call(call[0]) || table::cycle_ok(state) {
+    if table::is_a_call(call[c::NUMBER]) || table::cycle_ok(state) {
         step(state, call)
     } else {
         plain(1)
     }
 });
 makes!(no_call_is_done, |state, call| {
-    if table::is_a_call(call[0]) {
+    if table::is_a_call(call[c::NUMBER]) {
         step(state, call)
     } else {
         plain(0)
@@ -259,29 +264,29 @@ exported!(stops_at_no_call, |state, calls, answers| {
 });
 makes!(refused_record_written_again, |state, call| {
     let mut answer = step(state, call);
-    if call[0] == 3 && answer[0] != 0 {
-        answer[2..].copy_from_slice(&words::record(&read_as(call, &RECORD, mend)));
+    if call[c::NUMBER] == calls::ON_CONGESTION_EVENT_START && answer[a::REPLY] != 0 {
+        answer[a::RECORD..].copy_from_slice(&words::record(&read_as(call, &RECORD, mend)));
     }
     answer
 });
 makes!(refused_record_is_zeros, |state, call| {
     let answer = step(state, call);
-    if call[0] == 3 && is_malformed(call, &RECORD) {
-        return plain(answer[0]);
+    if call[c::NUMBER] == calls::ON_CONGESTION_EVENT_START && is_malformed(call, &RECORD) {
+        return plain(answer[a::REPLY]);
     }
     answer
 });
 makes!(malformed_start_keeps_the_state, |state, call| {
     let before = *state;
     let answer = step(state, call);
-    if call[0] == 0 && is_malformed(call, &PARAMS) {
+    if call[c::NUMBER] == calls::START && is_malformed(call, &PARAMS) {
         *state = before;
     }
     answer
 });
 makes!(malformed_start_starts, |state, call| {
     let answer = step(state, call);
-    if call[0] == 0 && is_malformed(call, &PARAMS) {
+    if call[c::NUMBER] == calls::START && is_malformed(call, &PARAMS) {
         step(state, &read_as(call, &PARAMS, mend));
     }
     answer

@@ -1,5 +1,10 @@
 //! Hostile runs of the model.
 
+use guovssalu_sys::table::call as calls;
+use guovssalu_sys::table::CALL_WORDS;
+use guovssalu_sys::table::STATE_WORDS;
+use guovssalu_sys::table::WORD_BYTES;
+
 use crate::after;
 use crate::checks;
 use crate::choose;
@@ -15,6 +20,8 @@ use crate::tally::Tally;
 use crate::trial::Trial;
 use crate::values;
 use crate::words;
+use crate::words::answer as a;
+use crate::words::call as c;
 use crate::words::Call;
 use crate::words::State;
 use crate::words::ANSWER_BYTES;
@@ -56,7 +63,7 @@ impl Model {
             state: Ground::new(LONGEST_STATE),
             calls: Ground::new(LONGEST_CALLS),
             answers: Ground::new(LONGEST_ANSWERS),
-            carried: [0; 50],
+            carried: [0; STATE_WORDS],
             left: 0,
         }
     }
@@ -85,13 +92,13 @@ impl Model {
     /// For every call, and for the first numbers that are none, each word of the state and each word
     /// of the call in turn at each number where something turns, all else being good.
     pub fn each_word(&mut self, trial: &mut Trial) {
-        for number in 0..=46 {
-            for (index, value) in turns(50) {
+        for number in 0..=words::CALLS_END {
+            for (index, value) in turns(STATE_WORDS) {
                 let (mut state, call) = good(&mut trial.dice, number);
                 state[index] = value;
                 self.one(trial, &state, &call);
             }
-            for (index, value) in turns(49).filter(|&(index, _)| index > 0) {
+            for (index, value) in turns(CALL_WORDS).filter(|&(index, _)| index != c::NUMBER) {
                 let (state, mut call) = good(&mut trial.dice, number);
                 call[index] = value;
                 self.one(trial, &state, &call);
@@ -102,7 +109,7 @@ impl Model {
     /// For every call, each word that it uses and that can be malformed, in each way in turn: alone, and
     /// with something else that is refused.
     pub fn each_malformed(&mut self, trial: &mut Trial) {
-        for number in 0..46 {
+        for number in 0..words::CALLS_END {
             for (place, kind) in kinds::used(number) {
                 for (way, beside) in with_each(kinds::ways(kind)) {
                     let (mut state, mut call) = good(&mut trial.dice, number);
@@ -119,7 +126,7 @@ impl Model {
     pub fn each_no_call(&mut self, trial: &mut Trial) {
         for (number, beside) in with_each(choose::NO_CALLS.len()) {
             let (mut state, mut call) = good(&mut trial.dice, choose::NO_CALLS[number]);
-            let before = choose::good_call(&mut trial.dice, &state, 1);
+            let before = choose::good_call(&mut trial.dice, &state, calls::ON_PACKET_SENT);
             let number = choose::number(&mut trial.dice);
             let after = choose::good_call(&mut trial.dice, &state, number);
             beside.put(&mut state, &mut call);
@@ -326,11 +333,12 @@ impl Model {
             words::words(self.state.bytes()),
             words::words(&self.answers.bytes()[..ANSWER_BYTES]),
         );
-        tally.replied(Export::OneCall, &rows, answer[0], || tell(lent));
-        tally.worded(kinds::is_malformed(&call), !table::is_a_call(call[0]));
+        tally.replied(Export::OneCall, &rows, answer[a::REPLY], || tell(lent));
+        let unknown = !table::is_a_call(call[c::NUMBER]);
+        tally.worded(kinds::is_malformed(&call), unknown);
         let due = rows.due();
         if left != after::state(&before, &call, due) {
-            let fault = if due == 0 || call[0] == 0 {
+            let fault = if due == 0 || call[c::NUMBER] == calls::START {
                 Fault::Content
             } else {
                 Fault::Touched
@@ -383,7 +391,7 @@ fn tell(lent: &Lent) -> String {
     let names: Vec<&str> = numbers.iter().map(|&number| words::name(number)).collect();
     let not_zero = |bytes: &[u8]| -> Vec<(usize, u64)> {
         let words = bytes
-            .chunks_exact(8)
+            .chunks_exact(WORD_BYTES)
             .map(|eight| words::words::<1>(eight)[0]);
         words.enumerate().filter(|(_, word)| *word != 0).collect()
     };

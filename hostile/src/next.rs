@@ -1,6 +1,13 @@
 //! The state and the record after an accepted call, written from network_model.rs and probe_bw.rs
 //! of the original, in their order.
 
+use guovssalu_sys::table::argument as arg;
+use guovssalu_sys::table::call as calls;
+use guovssalu_sys::table::phase::CRUISE;
+use guovssalu_sys::table::phase::DOWN;
+use guovssalu_sys::table::phase::REFILL;
+use guovssalu_sys::table::phase::UP;
+
 use crate::reckon;
 use crate::table;
 use crate::words;
@@ -10,39 +17,40 @@ use crate::words::optional;
 use crate::words::state as s;
 use crate::words::yes;
 use crate::words::Call;
+use crate::words::Record;
 use crate::words::State;
 use crate::words::UNSET;
-
-/// The phases that a rule names.
-const UP: u64 = 1;
-const DOWN: u64 = 2;
-const CRUISE: u64 = 3;
-const REFILL: u64 = 4;
 
 /// The state after an accepted call, which is no start.
 pub fn state(before: &State, call: &Call) -> State {
     let mut state = *before;
-    match call[0] {
-        1 => on_packet_sent(&mut state, call),
-        3 => drop(event(&mut state, call)),
-        4 if yes(call[c::END_OF_ROUND_TRIP]) => on_new_round(&mut state),
-        5 if expires(before, call) => {
+    match call[c::NUMBER] {
+        calls::ON_PACKET_SENT => on_packet_sent(&mut state, call),
+        calls::ON_CONGESTION_EVENT_START => drop(event(&mut state, call)),
+        calls::ON_CONGESTION_EVENT_FINISH if yes(call[c::END_OF_ROUND_TRIP]) => {
+            on_new_round(&mut state)
+        }
+        calls::MAYBE_EXPIRE_MIN_RTT if expires(before, call) => {
             state[s::MIN_RTT] = call[c::RECORD_RTT + 1];
             state[s::MIN_RTT_TIMESTAMP] = call[c::EVENT_TIME];
         }
-        7 => has_bandwidth_growth(&mut state, call),
-        8 => restart_round_early(&mut state),
-        9 => check_persistent_queue(&mut state, call),
-        14 => state[s::FULL_BANDWIDTH_REACHED] = 1,
-        15 => state[s::PACING_GAIN] = call[1],
-        16 => state[s::CWND_GAIN] = call[1],
-        17 => state[s::INFLIGHT_HI] = call[1],
-        18 => cap_inflight_lo(&mut state, call[1]),
-        19 => state[s::INFLIGHT_LO] = UNSET,
-        20 => set(&mut state, s::BANDWIDTH_LO, None),
-        21 => advance(&mut state),
-        22 => state[s::MIN_RTT_TIMESTAMP] += call[1],
-        40..=45 => on_cycle(&mut state, call),
+        calls::HAS_BANDWIDTH_GROWTH => has_bandwidth_growth(&mut state, call),
+        calls::RESTART_ROUND_EARLY => restart_round_early(&mut state),
+        calls::CHECK_PERSISTENT_QUEUE => check_persistent_queue(&mut state, call),
+        calls::SET_FULL_BANDWIDTH_REACHED => state[s::FULL_BANDWIDTH_REACHED] = 1,
+        calls::SET_PACING_GAIN => state[s::PACING_GAIN] = call[arg::set_pacing_gain::PACING_GAIN],
+        calls::SET_CWND_GAIN => state[s::CWND_GAIN] = call[arg::set_cwnd_gain::CWND_GAIN],
+        calls::SET_INFLIGHT_HI => {
+            state[s::INFLIGHT_HI] = call[arg::set_inflight_hi::NEW_INFLIGHT_HI]
+        }
+        calls::CAP_INFLIGHT_LO => cap_inflight_lo(&mut state, call[arg::cap_inflight_lo::CAP]),
+        calls::CLEAR_INFLIGHT_LO => state[s::INFLIGHT_LO] = UNSET,
+        calls::CLEAR_BANDWIDTH_LO => set(&mut state, s::BANDWIDTH_LO, None),
+        calls::ADVANCE_MAX_BANDWIDTH_FILTER => advance(&mut state),
+        calls::POSTPONE_MIN_RTT_TIMESTAMP => {
+            state[s::MIN_RTT_TIMESTAMP] += call[arg::postpone_min_rtt_timestamp::DURATION]
+        }
+        number if table::gets_cycle(number) => on_cycle(&mut state, call),
         _ => {}
     }
     if let Some(now) = table::moment(call) {
@@ -52,7 +60,7 @@ pub fn state(before: &State, call: &Call) -> State {
 }
 
 /// The record after an accepted event.
-pub fn record(before: &State, call: &Call) -> [u64; 16] {
+pub fn record(before: &State, call: &Call) -> Record {
     event(&mut before.clone(), call)
 }
 
@@ -63,17 +71,18 @@ fn set(words: &mut [u64], index: usize, number: Option<u64>) {
 }
 
 fn on_packet_sent(state: &mut State, call: &Call) {
-    let (in_flight, bytes) = (call[2], call[4]);
+    let in_flight = call[arg::on_packet_sent::BYTES_IN_FLIGHT];
+    let bytes = call[arg::on_packet_sent::BYTES];
     let least = &mut state[s::MIN_BYTES_IN_FLIGHT_IN_ROUND];
     *least = in_flight.min(*least);
     if in_flight + bytes >= state[s::INFLIGHT_HI] {
         state[s::INFLIGHT_HI_LIMITED_IN_ROUND] = 1;
     }
-    state[s::LAST_SENT_PACKET] = call[3];
+    state[s::LAST_SENT_PACKET] = call[arg::on_packet_sent::PACKET_NUMBER];
 }
 
 /// on_congestion_event_start: changes the state and answers the record.
-fn event(state: &mut State, call: &Call) -> [u64; 16] {
+fn event(state: &mut State, call: &Call) -> Record {
     let mut record = words::record(call);
     let ends = table::ends_a_round(state, call);
     if ends {
@@ -107,7 +116,7 @@ fn event(state: &mut State, call: &Call) -> [u64; 16] {
 }
 
 /// The max filter, the minimum RTT and the latest rates.
-fn take_samples(state: &mut State, record: &mut [u64; 16], call: &Call) {
+fn take_samples(state: &mut State, record: &mut Record, call: &Call) {
     let bandwidth = optional(call, c::SAMPLE_BANDWIDTH);
     if let (Some(sample), true) = (bandwidth, call[c::TOTAL_ACKED] != state[s::TOTAL_ACKED]) {
         set(record, c::RECORD_BANDWIDTH - c::RECORD, Some(sample));
@@ -127,7 +136,7 @@ fn take_samples(state: &mut State, record: &mut [u64; 16], call: &Call) {
 }
 
 /// Bytes acked and lost, inflight after, loss sums, the delivered maximum, the minimum inflight.
-fn add_totals(state: &mut State, record: &mut [u64; 16], call: &Call) {
+fn add_totals(state: &mut State, record: &mut Record, call: &Call) {
     let total = call[c::TOTAL_ACKED];
     let acked = total - state[s::TOTAL_ACKED];
     let lost = call[c::TOTAL_LOST] - state[s::TOTAL_LOST];
@@ -234,13 +243,20 @@ fn advance(state: &mut State) {
 
 /// The phase entries, the exit from Down and the slope.
 fn on_cycle(state: &mut State, call: &Call) {
-    match call[0] {
-        40 => enter_probe_down(state, call),
-        41 => enter_probe_cruise(state, call[1]),
-        42 => enter_probe_refill(state, call[1], call[2]),
-        43 => enter_probe_up(state, call[1], call[2]),
-        44 => exit_probe_down(state),
-        _ => raise_inflight_high_slope(state, call[1]),
+    let given = |at: usize| call[at];
+    match call[c::NUMBER] {
+        calls::ENTER_PROBE_DOWN => enter_probe_down(state, call),
+        calls::ENTER_PROBE_CRUISE => enter_probe_cruise(state, given(arg::enter_probe_cruise::NOW)),
+        calls::ENTER_PROBE_REFILL => {
+            let rounds = given(arg::enter_probe_refill::PROBE_UP_ROUNDS);
+            enter_probe_refill(state, rounds, given(arg::enter_probe_refill::NOW))
+        }
+        calls::ENTER_PROBE_UP => {
+            let cwnd = given(arg::enter_probe_up::CWND);
+            enter_probe_up(state, given(arg::enter_probe_up::NOW), cwnd)
+        }
+        calls::EXIT_PROBE_DOWN => exit_probe_down(state),
+        _ => raise_inflight_high_slope(state, given(arg::raise_inflight_high_slope::CWND)),
     }
 }
 
@@ -252,9 +268,9 @@ fn enter(state: &mut State, phase: u64, now: u64) {
 }
 
 fn enter_probe_down(state: &mut State, call: &Call) {
-    let now = call[3];
-    state[s::LAST_PROBED_TOO_HIGH] = call[1];
-    state[s::LAST_STOPPED_RISKY_PROBE] = call[2];
+    let now = call[arg::enter_probe_down::NOW];
+    state[s::LAST_PROBED_TOO_HIGH] = call[arg::enter_probe_down::PROBED_TOO_HIGH];
+    state[s::LAST_STOPPED_RISKY_PROBE] = call[arg::enter_probe_down::STOPPED_RISKY_PROBE];
     enter(state, DOWN, now);
     state[s::CYCLE_START] = now;
     state[s::ROUNDS_SINCE_PROBE] = 0;

@@ -1,5 +1,7 @@
 //! Hostile calls of the exported slope.
 
+use guovssalu_sys::table::SLOPE_BYTES;
+
 use crate::checks;
 use crate::choose;
 use crate::lent::Ground;
@@ -11,7 +13,6 @@ use crate::trial::Trial;
 use crate::values;
 use crate::words;
 
-const ANSWER_BYTES: usize = 16;
 const LONGEST: usize = 256;
 
 /// The rows of a call: "In the exported slope, rounds over 30 give 1"; a window above 2^40 is an
@@ -20,7 +21,7 @@ pub fn rows(rounds: u64, window: u64, out_len: usize) -> Rows {
     Rows::default()
         .with(1, rounds > table::ROUNDS)
         .with(2, window > table::BYTES)
-        .with(7, out_len < ANSWER_BYTES)
+        .with(7, out_len < SLOPE_BYTES)
 }
 
 /// What an accepted call writes: "growth is 2^rounds; rounds become min(rounds + 1, 30);
@@ -53,7 +54,7 @@ impl Slope {
         } else {
             values::hostile(&mut trial.dice, table::BYTES)
         };
-        let length = choose::length(&mut trial.dice, ANSWER_BYTES, LONGEST);
+        let length = choose::length(&mut trial.dice, SLOPE_BYTES, LONGEST);
         self.call(trial, rounds, window, length);
     }
 
@@ -61,7 +62,7 @@ impl Slope {
     pub fn each(&mut self, trial: &mut Trial) {
         for rounds in values::turns() {
             for window in values::turns() {
-                self.call(trial, rounds, window, ANSWER_BYTES);
+                self.call(trial, rounds, window, SLOPE_BYTES);
             }
         }
         for rounds in 0..=40 {

@@ -6,6 +6,9 @@
 //! above the 32nd, a pair that is neither 1 and a number nor 0 and 0, a count above 3. In an argument
 //! or in the event's record that is row 2, in a parameter row 1.
 
+use guovssalu_sys::table::argument as arg;
+use guovssalu_sys::table::call as calls;
+
 use crate::reckon;
 use crate::words;
 use crate::words::acked;
@@ -65,7 +68,7 @@ impl Rows {
 /// bad argument. That such a call gets the model and tests it, and not the cycle, is a choice
 /// (decision 64).
 pub fn call_rows(state: &State, call: &Call) -> Rows {
-    let number = call[0];
+    let number = call[c::NUMBER];
     let stored =
         (gets_model(number) && !model_ok(state)) || (gets_cycle(number) && !cycle_ok(state));
     let given = is_a_call(number)
@@ -82,7 +85,10 @@ pub fn call_rows(state: &State, call: &Call) -> Rows {
             moment(call).map_or(false, |now| now < state[s::LAST_MOMENT]),
         )
         // "4: the total acked or the total lost is lower than the one stored"
-        .with(4, number == 3 && totals_fall(state, call))
+        .with(
+            4,
+            number == calls::ON_CONGESTION_EVENT_START && totals_fall(state, call),
+        )
         // "5: the call's rule adds 1 to a counter that is 2^64 - 1"
         .with(5, fills_a_counter(state, call))
 }
@@ -100,7 +106,7 @@ pub fn run_rows(state: &[u8], calls: &[u8], answers: usize) -> Rows {
         .with(7, answers < count * words::ANSWER_BYTES)
 }
 
-/// "The numbers 2, 39 and those above 45 are no call's."
+/// "The numbers 2, 39 and those above 45 are no call's." By hand: the table of calls is held to it below.
 pub fn is_a_call(number: u64) -> bool {
     number <= 45 && number != 2 && number != 39
 }
@@ -108,38 +114,70 @@ pub fn is_a_call(number: u64) -> bool {
 /// Every call on the model tests all of it (decision 19); a start has no earlier state, and the
 /// slope gets the cycle alone.
 pub fn gets_model(number: u64) -> bool {
-    number != 0 && number != 45
+    number != calls::START && number != calls::RAISE_INFLIGHT_HIGH_SLOPE
 }
 
 /// The phase entries, the exit from Down and the slope get the cycle, and test it (decision 19).
 pub fn gets_cycle(number: u64) -> bool {
-    (40..=45).contains(&number)
+    matches!(
+        number,
+        calls::ENTER_PROBE_DOWN
+            | calls::ENTER_PROBE_CRUISE
+            | calls::ENTER_PROBE_REFILL
+            | calls::ENTER_PROBE_UP
+            | calls::EXIT_PROBE_DOWN
+            | calls::RAISE_INFLIGHT_HIGH_SLOPE
+    )
 }
 
 /// The calls whose Rust has `params: &Params` (decision 18): start, event start, expiry, inflight
 /// too high, growth, queue, headroom, entry into Down.
 pub fn takes_params(number: u64) -> bool {
-    matches!(number, 0 | 3 | 5 | 6 | 7 | 9 | 13 | 40)
+    matches!(
+        number,
+        calls::START
+            | calls::ON_CONGESTION_EVENT_START
+            | calls::MAYBE_EXPIRE_MIN_RTT
+            | calls::IS_INFLIGHT_TOO_HIGH
+            | calls::HAS_BANDWIDTH_GROWTH
+            | calls::CHECK_PERSISTENT_QUEUE
+            | calls::INFLIGHT_HI_WITH_HEADROOM
+            | calls::ENTER_PROBE_DOWN
+    )
 }
 
 /// "the event's record; only calls 3 to 7 read it"
 pub fn gets_record(number: u64) -> bool {
-    (3..=7).contains(&number)
+    matches!(
+        number,
+        calls::ON_CONGESTION_EVENT_START
+            | calls::ON_CONGESTION_EVENT_FINISH
+            | calls::MAYBE_EXPIRE_MIN_RTT
+            | calls::IS_INFLIGHT_TOO_HIGH
+            | calls::HAS_BANDWIDTH_GROWTH
+    )
 }
 
-/// The moment that a call tests against the last: "sends, events and phase entries share it".
-/// "A later call that gets an event's record doesn't test its moment for 3."
-pub fn moment(call: &Call) -> Option<u64> {
-    match call[0] {
-        1 | 41 | 43 => Some(call[1]),
-        3 => Some(call[c::EVENT_TIME]),
-        40 => Some(call[3]),
-        42 => Some(call[2]),
+/// The word of a call that has the moment it tests against the last: "sends, events and phase entries
+/// share it". "A later call that gets an event's record doesn't test its moment for 3."
+pub fn moment_word(number: u64) -> Option<usize> {
+    match number {
+        calls::ON_PACKET_SENT => Some(arg::on_packet_sent::SENT_TIME),
+        calls::ON_CONGESTION_EVENT_START => Some(c::EVENT_TIME),
+        calls::ENTER_PROBE_DOWN => Some(arg::enter_probe_down::NOW),
+        calls::ENTER_PROBE_CRUISE => Some(arg::enter_probe_cruise::NOW),
+        calls::ENTER_PROBE_REFILL => Some(arg::enter_probe_refill::NOW),
+        calls::ENTER_PROBE_UP => Some(arg::enter_probe_up::NOW),
         _ => None,
     }
 }
 
-/// Whether 50 words encode a state: a flag is 0 or 1, what is unset is 0, an f32 has 32 bits and
+/// That moment.
+pub fn moment(call: &Call) -> Option<u64> {
+    moment_word(call[c::NUMBER]).map(|at| call[at])
+}
+
+/// Whether words encode a state: a flag is 0 or 1, what is unset is 0, an f32 has 32 bits and
 /// one NaN, a phase is one of five.
 pub fn encodes(state: &State) -> bool {
     let flag = |index: usize| flag(state[index]).is_some();
@@ -164,7 +202,7 @@ pub fn encodes(state: &State) -> bool {
     ];
     flags
         .into_iter()
-        .chain(s::PROBE_UP_APP_LIMITED..50)
+        .chain(s::PROBE_UP_APP_LIMITED..state.len())
         .all(flag)
         && optionals.into_iter().all(optional)
         && pattern(s::CWND_GAIN)
@@ -265,20 +303,38 @@ fn params_ok(call: &Call) -> bool {
 /// The arguments of each call: every number handed in is tested, whether the call reads it or not
 /// (decision 17). "The same holds for a gain given as an argument, with refusal 2."
 fn arguments_ok(call: &Call) -> bool {
-    match call[0] {
-        0 => call[1] <= MOMENT && call[2] <= LENGTH,
-        1 => call[1] <= MOMENT && call[2] <= BYTES && call[4] <= BYTES,
-        3 => sample_ok(call),
-        9 | 15 | 16 => gain_ok(call[1]),
-        10 => call[1] <= BANDWIDTH && gain_ok(call[2]),
-        11 => call[1] <= BANDWIDTH,
-        17 | 18 => bytes_or_unset(call[1]),
-        22 => call[1] <= LENGTH,
-        40 => flag_ok(call[1]) && flag_ok(call[2]) && call[3] <= MOMENT,
-        41 => call[1] <= MOMENT,
-        42 => call[1] <= ROUNDS && call[2] <= MOMENT,
-        43 => call[1] <= MOMENT && call[2] <= BYTES,
-        45 => call[1] <= BYTES,
+    match call[c::NUMBER] {
+        calls::START => call[arg::start::NOW] <= MOMENT && call[arg::start::INITIAL_RTT] <= LENGTH,
+        calls::ON_PACKET_SENT => {
+            call[arg::on_packet_sent::SENT_TIME] <= MOMENT
+                && call[arg::on_packet_sent::BYTES_IN_FLIGHT] <= BYTES
+                && call[arg::on_packet_sent::BYTES] <= BYTES
+        }
+        calls::ON_CONGESTION_EVENT_START => sample_ok(call),
+        calls::CHECK_PERSISTENT_QUEUE => gain_ok(call[arg::check_persistent_queue::TARGET_GAIN]),
+        calls::SET_PACING_GAIN => gain_ok(call[arg::set_pacing_gain::PACING_GAIN]),
+        calls::SET_CWND_GAIN => gain_ok(call[arg::set_cwnd_gain::CWND_GAIN]),
+        calls::BDP => call[arg::bdp::BANDWIDTH] <= BANDWIDTH && gain_ok(call[arg::bdp::GAIN]),
+        calls::BDP1 => call[arg::bdp1::BANDWIDTH] <= BANDWIDTH,
+        calls::SET_INFLIGHT_HI => bytes_or_unset(call[arg::set_inflight_hi::NEW_INFLIGHT_HI]),
+        calls::CAP_INFLIGHT_LO => bytes_or_unset(call[arg::cap_inflight_lo::CAP]),
+        calls::POSTPONE_MIN_RTT_TIMESTAMP => {
+            call[arg::postpone_min_rtt_timestamp::DURATION] <= LENGTH
+        }
+        calls::ENTER_PROBE_DOWN => {
+            flag_ok(call[arg::enter_probe_down::PROBED_TOO_HIGH])
+                && flag_ok(call[arg::enter_probe_down::STOPPED_RISKY_PROBE])
+                && call[arg::enter_probe_down::NOW] <= MOMENT
+        }
+        calls::ENTER_PROBE_CRUISE => call[arg::enter_probe_cruise::NOW] <= MOMENT,
+        calls::ENTER_PROBE_REFILL => {
+            call[arg::enter_probe_refill::PROBE_UP_ROUNDS] <= ROUNDS
+                && call[arg::enter_probe_refill::NOW] <= MOMENT
+        }
+        calls::ENTER_PROBE_UP => {
+            call[arg::enter_probe_up::NOW] <= MOMENT && call[arg::enter_probe_up::CWND] <= BYTES
+        }
+        calls::RAISE_INFLIGHT_HIGH_SLOPE => call[arg::raise_inflight_high_slope::CWND] <= BYTES,
         _ => true,
     }
 }
@@ -301,7 +357,7 @@ fn sample_ok(call: &Call) -> bool {
         && acked(call).is_some()
 }
 
-/// The 16 words of an event's record, from the first: "an event's bytes acked and lost .. 2^62".
+/// The words of an event's record, from the first: "an event's bytes acked and lost .. 2^62".
 pub fn record_ok(record: &[u64]) -> bool {
     let at = |index: usize| record[index - c::RECORD];
     at(c::EVENT_TIME) <= MOMENT
@@ -322,7 +378,9 @@ pub fn record_ok(record: &[u64]) -> bool {
 
 /// "a postponed moment would exceed 2^62"
 fn postponed_too_far(state: &State, call: &Call) -> bool {
-    call[0] == 22 && state[s::MIN_RTT_TIMESTAMP].saturating_add(call[1]) > MOMENT
+    let later = |length: u64| state[s::MIN_RTT_TIMESTAMP].saturating_add(length);
+    call[c::NUMBER] == calls::POSTPONE_MIN_RTT_TIMESTAMP
+        && later(call[arg::postpone_min_rtt_timestamp::DURATION]) > MOMENT
 }
 
 /// "the total acked or the total lost is lower than the one stored"
@@ -333,14 +391,18 @@ fn totals_fall(state: &State, call: &Call) -> bool {
 /// Row 5, given only where this very call would add 1 (decision 23).
 fn fills_a_counter(state: &State, call: &Call) -> bool {
     let full = |index: usize| state[index] == u64::MAX;
-    match call[0] {
-        3 => {
+    match call[c::NUMBER] {
+        calls::ON_CONGESTION_EVENT_START => {
             (full(s::ROUND_TRIP_COUNT) && ends_a_round(state, call))
                 // "event count +1 if bytes lost > 0"
                 || (full(s::LOSS_EVENTS_IN_ROUND) && call[c::TOTAL_LOST] > state[s::TOTAL_LOST])
         }
-        7 => full(s::ROUNDS_WITHOUT_GROWTH) && counts_no_growth(state, call),
-        9 => full(s::ROUNDS_WITH_QUEUEING) && counts_a_queue(state, call),
+        calls::HAS_BANDWIDTH_GROWTH => {
+            full(s::ROUNDS_WITHOUT_GROWTH) && counts_no_growth(state, call)
+        }
+        calls::CHECK_PERSISTENT_QUEUE => {
+            full(s::ROUNDS_WITH_QUEUEING) && counts_a_queue(state, call)
+        }
         _ => false,
     }
 }
@@ -380,6 +442,28 @@ pub fn counts_no_growth(state: &State, call: &Call) -> bool {
 pub fn counts_a_queue(state: &State, call: &Call) -> bool {
     let most = max_bandwidth(state);
     let beside = bdp(state, most, 1.0).saturating_add(2 * 1300);
-    let target = bdp(state, most, gain(call[1])).max(beside);
+    let target = bdp(
+        state,
+        most,
+        gain(call[arg::check_persistent_queue::TARGET_GAIN]),
+    )
+    .max(beside);
     state[s::MIN_BYTES_IN_FLIGHT_IN_ROUND] >= target
+}
+
+#[cfg(test)]
+mod tests {
+    use super::*;
+
+    /// What is read here by hand, beside the table that the words and numbers are named by.
+    #[test]
+    fn the_calls_are_those_of_the_table() {
+        for number in (0..1_000).chain([1 << 32, u64::MAX]) {
+            assert_eq!(is_a_call(number), calls::ALL.contains(&number));
+            assert_eq!(gets_record(number), calls::READ_EVENT.contains(&number));
+            assert_eq!(takes_params(number), calls::TAKE_PARAMS.contains(&number));
+        }
+        let sizes = [words::STATE_BYTES, words::CALL_BYTES, words::ANSWER_BYTES];
+        assert_eq!(sizes, [400, 392, 144]);
+    }
 }

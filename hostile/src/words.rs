@@ -1,164 +1,141 @@
 //! The words of states, calls and answers, as docs/LAYOUT.md numbers them.
 
-pub const STATE_BYTES: usize = 400;
-pub const CALL_BYTES: usize = 392;
-pub const ANSWER_BYTES: usize = 144;
+use guovssalu_sys::table;
 
-pub type State = [u64; 50];
-pub type Call = [u64; 49];
-pub type Answer = [u64; 18];
+pub use guovssalu_sys::table::ANSWER_BYTES;
+pub use guovssalu_sys::table::CALL_BYTES;
+pub use guovssalu_sys::table::STATE_BYTES;
+pub use guovssalu_sys::table::UNSET;
 
-/// Bytes or unset: the number that stands for unset.
-pub const UNSET: u64 = u64::MAX;
+pub type State = [u64; table::STATE_WORDS];
+pub type Call = [u64; table::CALL_WORDS];
+pub type Answer = [u64; table::ANSWER_WORDS];
+pub type Record = [u64; table::EVENT_WORDS];
 
-/// The words of a state.
+/// The first number after the last call's.
+pub const CALLS_END: u64 = table::call::ALL[table::call::ALL.len() - 1] + 1;
+
+/// The words of a state; of a pair the first.
 pub mod state {
-    pub const ROUND_TRIP_COUNT: usize = 0;
-    pub const LAST_SENT_PACKET: usize = 1;
-    pub const END_OF_ROUND_TRIP: usize = 2;
-    pub const MAX_BANDWIDTH_0: usize = 4;
-    pub const MAX_BANDWIDTH_1: usize = 5;
-    pub const MIN_RTT: usize = 6;
-    pub const MIN_RTT_TIMESTAMP: usize = 7;
-    pub const BYTES_LOST_IN_ROUND: usize = 8;
-    pub const LOSS_EVENTS_IN_ROUND: usize = 9;
-    pub const MAX_BYTES_DELIVERED_IN_ROUND: usize = 10;
-    pub const MIN_BYTES_IN_FLIGHT_IN_ROUND: usize = 11;
-    pub const INFLIGHT_HI_LIMITED_IN_ROUND: usize = 12;
-    pub const BANDWIDTH_LATEST: usize = 13;
-    pub const INFLIGHT_LATEST: usize = 14;
-    pub const BANDWIDTH_LO: usize = 15;
-    pub const INFLIGHT_LO: usize = 17;
-    pub const INFLIGHT_HI: usize = 18;
-    pub const CWND_GAIN: usize = 19;
-    pub const PACING_GAIN: usize = 20;
-    pub const CWND_LIMITED: usize = 21;
-    pub const FULL_BANDWIDTH_REACHED: usize = 22;
-    pub const FULL_BANDWIDTH_BASELINE: usize = 23;
-    pub const ROUNDS_WITHOUT_GROWTH: usize = 24;
-    pub const ROUNDS_WITH_QUEUEING: usize = 25;
-    pub const IGNORE_APP_LIMITED: usize = 26;
-    pub const SEND_RATE: usize = 27;
-    pub const ACK_RATE: usize = 29;
-    pub const TOTAL_ACKED: usize = 31;
-    pub const TOTAL_LOST: usize = 32;
-    pub const LAST_MOMENT: usize = 33;
-    pub const PHASE: usize = 34;
-    pub const CYCLE_START: usize = 35;
-    pub const PHASE_START: usize = 36;
-    pub const ROUNDS_IN_PHASE: usize = 37;
-    pub const ROUNDS_SINCE_PROBE: usize = 38;
-    pub const PROBE_WAIT: usize = 39;
-    pub const PROBE_UP_ROUNDS: usize = 41;
-    pub const PROBE_UP_BYTES: usize = 42;
-    pub const PROBE_UP_ACKED: usize = 44;
-    pub const PROBE_UP_APP_LIMITED: usize = 45;
-    pub const HAS_ADVANCED_MAX_BW: usize = 46;
-    pub const IS_SAMPLE_FROM_PROBING: usize = 47;
-    pub const LAST_PROBED_TOO_HIGH: usize = 48;
-    pub const LAST_STOPPED_RISKY_PROBE: usize = 49;
+    use guovssalu_sys::table::state;
+
+    pub const ROUND_TRIP_COUNT: usize = state::ROUND_TRIP_COUNT;
+    pub const LAST_SENT_PACKET: usize = state::LAST_SENT_PACKET;
+    pub const END_OF_ROUND_TRIP: usize = state::END_OF_ROUND_TRIP_SET;
+    pub const MAX_BANDWIDTH_0: usize = state::MAX_BANDWIDTH_0;
+    pub const MAX_BANDWIDTH_1: usize = state::MAX_BANDWIDTH_1;
+    pub const MIN_RTT: usize = state::MIN_RTT;
+    pub const MIN_RTT_TIMESTAMP: usize = state::MIN_RTT_TIMESTAMP;
+    pub const BYTES_LOST_IN_ROUND: usize = state::BYTES_LOST_IN_ROUND;
+    pub const LOSS_EVENTS_IN_ROUND: usize = state::LOSS_EVENTS_IN_ROUND;
+    pub const MAX_BYTES_DELIVERED_IN_ROUND: usize = state::MAX_BYTES_DELIVERED_IN_ROUND;
+    pub const MIN_BYTES_IN_FLIGHT_IN_ROUND: usize = state::MIN_BYTES_IN_FLIGHT_IN_ROUND;
+    pub const INFLIGHT_HI_LIMITED_IN_ROUND: usize = state::INFLIGHT_HI_LIMITED_IN_ROUND;
+    pub const BANDWIDTH_LATEST: usize = state::BANDWIDTH_LATEST;
+    pub const INFLIGHT_LATEST: usize = state::INFLIGHT_LATEST;
+    pub const BANDWIDTH_LO: usize = state::BANDWIDTH_LO_SET;
+    pub const INFLIGHT_LO: usize = state::INFLIGHT_LO;
+    pub const INFLIGHT_HI: usize = state::INFLIGHT_HI;
+    pub const CWND_GAIN: usize = state::CWND_GAIN;
+    pub const PACING_GAIN: usize = state::PACING_GAIN;
+    pub const CWND_LIMITED: usize = state::CWND_LIMITED_BEFORE_AGGREGATION_EPOCH;
+    pub const FULL_BANDWIDTH_REACHED: usize = state::FULL_BANDWIDTH_REACHED;
+    pub const FULL_BANDWIDTH_BASELINE: usize = state::FULL_BANDWIDTH_BASELINE;
+    pub const ROUNDS_WITHOUT_GROWTH: usize = state::ROUNDS_WITHOUT_BANDWIDTH_GROWTH;
+    pub const ROUNDS_WITH_QUEUEING: usize = state::ROUNDS_WITH_QUEUEING;
+    pub const IGNORE_APP_LIMITED: usize = state::IGNORE_APP_LIMITED_FOR_NO_BANDWIDTH_GROWTH;
+    pub const SEND_RATE: usize = state::LATEST_SEND_RATE_SET;
+    pub const ACK_RATE: usize = state::LATEST_ACK_RATE_SET;
+    pub const TOTAL_ACKED: usize = state::TOTAL_BYTES_ACKED;
+    pub const TOTAL_LOST: usize = state::TOTAL_BYTES_LOST;
+    pub const LAST_MOMENT: usize = state::LAST_ACCEPTED_MOMENT;
+    pub const PHASE: usize = state::PHASE;
+    pub const CYCLE_START: usize = state::START_TIME;
+    pub const PHASE_START: usize = state::PHASE_START_TIME;
+    pub const ROUNDS_IN_PHASE: usize = state::ROUNDS_IN_PHASE;
+    pub const ROUNDS_SINCE_PROBE: usize = state::ROUNDS_SINCE_PROBE;
+    pub const PROBE_WAIT: usize = state::PROBE_WAIT_TIME_SET;
+    pub const PROBE_UP_ROUNDS: usize = state::PROBE_UP_ROUNDS;
+    pub const PROBE_UP_BYTES: usize = state::PROBE_UP_BYTES_SET;
+    pub const PROBE_UP_ACKED: usize = state::PROBE_UP_ACKED;
+    pub const PROBE_UP_APP_LIMITED: usize = state::PROBE_UP_APP_LIMITED_SINCE_INFLIGHT_HI_LIMITED;
+    pub const HAS_ADVANCED_MAX_BW: usize = state::HAS_ADVANCED_MAX_BW;
+    pub const IS_SAMPLE_FROM_PROBING: usize = state::IS_SAMPLE_FROM_PROBING;
+    pub const LAST_PROBED_TOO_HIGH: usize = state::LAST_CYCLE_PROBED_TOO_HIGH;
+    pub const LAST_STOPPED_RISKY_PROBE: usize = state::LAST_CYCLE_STOPPED_RISKY_PROBE;
 }
 
-/// The words of a call: an event's arguments, the record, the parameters.
+/// The words of a call: its number, its arguments, an event's, the record, the parameters; of a pair the
+/// first.
 pub mod call {
-    pub const SAMPLE_BANDWIDTH: usize = 1;
-    pub const SAMPLE_SEND_RATE: usize = 3;
-    pub const SAMPLE_ACK_RATE: usize = 5;
-    pub const SAMPLE_IS_APP_LIMITED: usize = 7;
-    pub const SAMPLE_RTT: usize = 8;
-    pub const SAMPLE_MAX_INFLIGHT: usize = 10;
-    pub const EXTRA_ACKED: usize = 11;
-    pub const SENT_IS_VALID: usize = 12;
-    pub const SENT_IS_APP_LIMITED: usize = 13;
-    pub const SENT_TOTAL_ACKED: usize = 14;
-    pub const SENT_IN_FLIGHT: usize = 15;
-    pub const TOTAL_ACKED: usize = 16;
-    pub const TOTAL_LOST: usize = 17;
-    pub const ACKED_COUNT: usize = 18;
+    use guovssalu_sys::table;
+    use guovssalu_sys::table::event;
+    use guovssalu_sys::table::params;
+    use guovssalu_sys::table::sample;
 
-    pub const RECORD: usize = 22;
-    pub const EVENT_TIME: usize = 22;
-    pub const PRIOR_CWND: usize = 23;
-    pub const PRIOR_IN_FLIGHT: usize = 24;
-    pub const IN_FLIGHT: usize = 25;
-    pub const BYTES_ACKED: usize = 26;
-    pub const BYTES_LOST: usize = 27;
-    pub const END_OF_ROUND_TRIP: usize = 28;
-    pub const IS_PROBING: usize = 29;
-    pub const RECORD_BANDWIDTH: usize = 30;
-    pub const RECORD_RTT: usize = 32;
-    pub const LAST_IS_VALID: usize = 34;
-    pub const LAST_IS_APP_LIMITED: usize = 35;
-    pub const LAST_TOTAL_ACKED: usize = 36;
-    pub const LAST_IN_FLIGHT: usize = 37;
+    pub const NUMBER: usize = table::NUMBER_IN_CALL;
+    pub const ARGUMENTS: usize = table::ARGUMENTS_IN_CALL;
 
-    pub const PARAMS: usize = 38;
-    pub const BETA: usize = 38;
-    pub const LOSS_THRESHOLD: usize = 39;
-    pub const HEADROOM: usize = 40;
-    pub const FULL_BW_THRESHOLD: usize = 41;
-    pub const STARTUP_CWND_GAIN: usize = 42;
-    pub const STARTUP_PACING_GAIN: usize = 43;
-    pub const STARTUP_FULL_BW_ROUNDS: usize = 44;
-    pub const MAX_STARTUP_QUEUE_ROUNDS: usize = 45;
-    pub const PROBE_RTT_PERIOD: usize = 46;
-    pub const PROBE_BASE_DURATION: usize = 47;
-    pub const IGNORE_APP_LIMITED: usize = 48;
+    pub const SAMPLE_BANDWIDTH: usize = sample::SAMPLE_MAX_BANDWIDTH_SET;
+    pub const SAMPLE_SEND_RATE: usize = sample::SAMPLE_MAX_SEND_RATE_SET;
+    pub const SAMPLE_ACK_RATE: usize = sample::SAMPLE_MAX_ACK_RATE_SET;
+    pub const SAMPLE_IS_APP_LIMITED: usize = sample::SAMPLE_IS_APP_LIMITED;
+    pub const SAMPLE_RTT: usize = sample::SAMPLE_RTT_SET;
+    pub const SAMPLE_MAX_INFLIGHT: usize = sample::SAMPLE_MAX_INFLIGHT;
+    pub const EXTRA_ACKED: usize = sample::EXTRA_ACKED;
+    pub const SENT_IS_VALID: usize = sample::LAST_PACKET_SEND_STATE_IS_VALID;
+    pub const SENT_IS_APP_LIMITED: usize = sample::LAST_PACKET_SEND_STATE_IS_APP_LIMITED;
+    pub const SENT_TOTAL_ACKED: usize = sample::LAST_PACKET_SEND_STATE_TOTAL_BYTES_ACKED;
+    pub const SENT_IN_FLIGHT: usize = sample::LAST_PACKET_SEND_STATE_BYTES_IN_FLIGHT;
+    pub const TOTAL_ACKED: usize = sample::TOTAL_BYTES_ACKED;
+    pub const TOTAL_LOST: usize = sample::TOTAL_BYTES_LOST;
+    pub const ACKED_COUNT: usize = sample::ACKED_COUNT;
+    pub const ACKED: usize = sample::ACKED_PACKETS;
+
+    pub const RECORD: usize = table::EVENT_IN_CALL;
+    pub const EVENT_TIME: usize = RECORD + event::EVENT_TIME;
+    pub const PRIOR_CWND: usize = RECORD + event::PRIOR_CWND;
+    pub const PRIOR_IN_FLIGHT: usize = RECORD + event::PRIOR_BYTES_IN_FLIGHT;
+    pub const IN_FLIGHT: usize = RECORD + event::BYTES_IN_FLIGHT;
+    pub const BYTES_ACKED: usize = RECORD + event::BYTES_ACKED;
+    pub const BYTES_LOST: usize = RECORD + event::BYTES_LOST;
+    pub const END_OF_ROUND_TRIP: usize = RECORD + event::END_OF_ROUND_TRIP;
+    pub const IS_PROBING: usize = RECORD + event::IS_PROBING_FOR_BANDWIDTH;
+    pub const RECORD_BANDWIDTH: usize = RECORD + event::SAMPLE_MAX_BANDWIDTH_SET;
+    pub const RECORD_RTT: usize = RECORD + event::SAMPLE_MIN_RTT_SET;
+    pub const LAST_IS_VALID: usize = RECORD + event::LAST_PACKET_SEND_STATE_IS_VALID;
+    pub const LAST_IS_APP_LIMITED: usize = RECORD + event::LAST_PACKET_SEND_STATE_IS_APP_LIMITED;
+    pub const LAST_TOTAL_ACKED: usize = RECORD + event::LAST_PACKET_SEND_STATE_TOTAL_BYTES_ACKED;
+    pub const LAST_IN_FLIGHT: usize = RECORD + event::LAST_PACKET_SEND_STATE_BYTES_IN_FLIGHT;
+
+    pub const PARAMS: usize = table::PARAMS_IN_CALL;
+    pub const BETA: usize = PARAMS + params::BETA;
+    pub const LOSS_THRESHOLD: usize = PARAMS + params::LOSS_THRESHOLD;
+    pub const HEADROOM: usize = PARAMS + params::INFLIGHT_HI_HEADROOM;
+    pub const FULL_BW_THRESHOLD: usize = PARAMS + params::FULL_BW_THRESHOLD;
+    pub const STARTUP_CWND_GAIN: usize = PARAMS + params::STARTUP_CWND_GAIN;
+    pub const STARTUP_PACING_GAIN: usize = PARAMS + params::STARTUP_PACING_GAIN;
+    pub const STARTUP_FULL_BW_ROUNDS: usize = PARAMS + params::STARTUP_FULL_BW_ROUNDS;
+    pub const MAX_STARTUP_QUEUE_ROUNDS: usize = PARAMS + params::MAX_STARTUP_QUEUE_ROUNDS;
+    pub const PROBE_RTT_PERIOD: usize = PARAMS + params::PROBE_RTT_PERIOD;
+    pub const PROBE_BASE_DURATION: usize = PARAMS + params::PROBE_BW_PROBE_BASE_DURATION;
+    pub const IGNORE_APP_LIMITED: usize =
+        PARAMS + params::IGNORE_APP_LIMITED_FOR_NO_BANDWIDTH_GROWTH;
 }
 
-/// The names of the calls, by their numbers.
-const NAMES: [&str; 46] = [
-    "start",
-    "on_packet_sent",
-    "no call",
-    "on_congestion_event_start",
-    "on_congestion_event_finish",
-    "maybe_expire_min_rtt",
-    "is_inflight_too_high",
-    "has_bandwidth_growth",
-    "restart_round_early",
-    "check_persistent_queue",
-    "bdp",
-    "bdp1",
-    "bdp0",
-    "inflight_hi_with_headroom",
-    "set_full_bandwidth_reached",
-    "set_pacing_gain",
-    "set_cwnd_gain",
-    "set_inflight_hi",
-    "cap_inflight_lo",
-    "clear_inflight_lo",
-    "clear_bandwidth_lo",
-    "advance_max_bandwidth_filter",
-    "postpone_min_rtt_timestamp",
-    "bandwidth_estimate",
-    "min_rtt",
-    "min_rtt_timestamp",
-    "max_bandwidth",
-    "max_bytes_delivered_in_round",
-    "total_bytes_acked",
-    "total_bytes_lost",
-    "full_bandwidth_reached",
-    "pacing_gain",
-    "cwnd_gain",
-    "inflight_hi",
-    "inflight_hi_default",
-    "inflight_lo",
-    "loss_events_in_round",
-    "rounds_with_queueing",
-    "queueing_threshold_extra_bytes",
-    "no call",
-    "enter_probe_down",
-    "enter_probe_cruise",
-    "enter_probe_refill",
-    "enter_probe_up",
-    "exit_probe_down",
-    "raise_inflight_high_slope",
-];
+/// The words of an answer.
+pub mod answer {
+    use guovssalu_sys::table;
+
+    pub const REPLY: usize = table::REPLY_IN_ANSWER;
+    pub const VALUE: usize = table::VALUE_IN_ANSWER;
+    pub const RECORD: usize = table::EVENT_IN_ANSWER;
+}
 
 /// The name of a call.
 pub fn name(number: u64) -> &'static str {
-    NAMES.get(number as usize).copied().unwrap_or("no call")
+    let place = table::call::ALL.iter().position(|&call| call == number);
+    place.map_or("no call", |place| table::call::NAMES[place])
 }
 
 /// Words as bytes, the lowest byte first.
@@ -169,8 +146,8 @@ pub fn bytes(words: &[u64]) -> Vec<u8> {
 /// So many words from bytes, which are as long.
 pub fn words<const N: usize>(bytes: &[u8]) -> [u64; N] {
     let mut words = [0; N];
-    for (word, bytes) in words.iter_mut().zip(bytes.chunks_exact(8)) {
-        let mut eight = [0; 8];
+    for (word, bytes) in words.iter_mut().zip(bytes.chunks_exact(table::WORD_BYTES)) {
+        let mut eight = [0; table::WORD_BYTES];
         eight.copy_from_slice(bytes);
         *word = u64::from_le_bytes(eight);
     }
@@ -206,7 +183,7 @@ pub fn pair(words: &[u64], index: usize) -> Option<Option<u64>> {
 
 /// The numbers acked, of which there is room for three; a larger count is malformed.
 pub fn acked(call: &Call) -> Option<&[u64]> {
-    let room = &call[call::ACKED_COUNT + 1..call::RECORD];
+    let room = &call[call::ACKED..call::RECORD];
     match call[call::ACKED_COUNT] {
         count @ 0..=3 => Some(&room[..count as usize]),
         _ => None,
@@ -214,8 +191,8 @@ pub fn acked(call: &Call) -> Option<&[u64]> {
 }
 
 /// The record as it is handed in, whatever its words are.
-pub fn record(call: &Call) -> [u64; 16] {
-    let mut record = [0; 16];
+pub fn record(call: &Call) -> Record {
+    let mut record = [0; table::EVENT_WORDS];
     record.copy_from_slice(&call[call::RECORD..call::PARAMS]);
     record
 }
