@@ -11,10 +11,20 @@ from words import PATH, ROOT, WORD_BYTES
 
 # ---- where to look
 
-# Source in which `match call { 12 => model.bdp0(), .. }` chooses a call by its number; together they have every call but
-# those that are told apart before, by `call == 1`, in the last list.
-CHOICES = ["crates/calls/src/ask.rt", "crates/calls/src/change.rt", "crates/calls/src/enter.rt", "crates/calls/src/judge.rt"]
-APART = {"crates/exports/src/model_run.rt": {"send": "on_packet_sent", "start": "on_congestion_event_start", "end": "on_congestion_event_finish"}, "crates/turns/src/turn.rt": {"started": "start"}}
+# Source that chooses a call by its number, `match call { 12 => model.bdp0(), .. }` or `if call == 1 { m = send(..`; what
+# it calls has the call's name, or one of these instead. Together the files have every call.
+CHOICES = {
+    "crates/calls/src/ask.rt": {},
+    "crates/calls/src/change.rt": {},
+    "crates/calls/src/enter.rt": {},
+    "crates/calls/src/judge.rt": {},
+    "crates/turns/src/turn.rt": {"started": "start"},
+    "crates/exports/src/model_run.rt": {
+        "send": "on_packet_sent",
+        "start": "on_congestion_event_start",
+        "end": "on_congestion_event_finish",
+    },
+}
 # Definitions in which `cond (eqb call 12) (..)` does, and the column of [definitions] by which a row is known. A file may
 # have a part of the calls; together those of one column have all of them.
 ROWS = {
@@ -136,38 +146,37 @@ def functions(path):
 # ---- calls by number
 
 
-def arms(path):
-    """The arms of `match call { .. }`: number and what is called."""
+def choices(path):
+    """The choices by a call's number: number, and what is called."""
     text = code(path)
     for found in re.finditer(r"\bmatch call \{", text):
         for arm in split(closed(text, found.end() - 1), ","):
             number, _, called = arm.partition("=>")
             if number.strip().isdigit():
                 yield int(number), called.strip()
+    for found in re.finditer(r"\bif call == (\d+) \{", text):
+        yield int(found.group(1)), closed(text, found.end() - 1).strip()
 
 
-def check_choices(table, paths, apart):
-    """Each arm calls the function that has the call's name."""
+def check_choices(table, paths):
+    """Each choice calls the function of its call."""
     numbers = {row["name"]: int(row["number"]) for row in table.rows("calls")}
     seen = set()
-    for path in paths:
-        for number, called in arms(path):
-            names = [name for name in re.findall(r"\w+", called) if name in numbers]
-            if [numbers[name] for name in names] != [number]:
-                due = ", ".join(f"{numbers[name]} {name}" for name in names) or "no call"
-                yield f"{line_of(path, str(number) + ' => ' + called)}: {number} => {called.split('(')[0]}(..) stands there, and should be {due}"
+    for path, instead in paths.items():
+        known = {**numbers, **{name: numbers[call] for name, call in instead.items()}}
+        for number, called in choices(path):
+            names = [name for name in re.findall(r"\b(\w+)\(", called) if name in known]
+            if [known[name] for name in names] != [number]:
+                due = ", ".join(f"{known[name]} {instead.get(name, name)}" for name in names) or "a call's function"
+                stands = " ".join(called.split())[:50]
+                yield f"{line_of(path, called)}: {number} for {stands!r} stands there, and should be {due}"
             seen.add(number)
-    for path, told in apart.items():
-        for number, called in re.findall(r"\bif call == (\d+) \{\s*(?:return |\w+ = )?(\w+)\(", code(path)):
-            due = numbers.get(told.get(called))
-            if due != int(number):
-                yield f"{line_of(path, f'call == {number} ')}: call {number} stands there for {called}, and should be {due}"
-            seen.add(int(number))
+    beside = f"{list(paths)[0]}, or a file beside it"
     for name, number in numbers.items():
         if number not in seen:
-            yield f"{paths[0]}: no row for {number} {name} stands there or in the files beside it"
+            yield f"{beside}: nothing stands there for {number}, and {name} should"
     for number in sorted(seen - set(numbers.values())):
-        yield f"{paths[0]}: {number} stands there or in the files beside it, and is no call's"
+        yield f"{beside}: {number} stands there, and is no call's"
 
 
 def number_rows(path):
@@ -346,7 +355,7 @@ def files(patterns):
 
 def faults(table):
     """A line for each difference."""
-    out = list(check_choices(table, CHOICES, APART))
+    out = list(check_choices(table, CHOICES))
     for column, paths in ROWS.items():
         out += check_rows(table, column, paths)
     for reader in READERS:
