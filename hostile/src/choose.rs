@@ -169,7 +169,8 @@ pub fn spoil_call(dice: &mut Dice, call: &mut Call, spoilt: &mut Spoilt) {
         };
         spoilt.call.push(index);
         if index <= arguments.len() {
-            kinds::spoil(dice, &mut call[1..], arguments, index - 1, false);
+            let at = index - c::ARGUMENTS;
+            kinds::spoil(dice, &mut call[c::ARGUMENTS..], arguments, at, false);
         } else if index >= c::RECORD {
             kinds::spoil(
                 dice,

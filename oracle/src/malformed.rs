@@ -10,6 +10,7 @@ use guovssalu_sys::table::call;
 use guovssalu_sys::table::event;
 use guovssalu_sys::table::params;
 use guovssalu_sys::table::sample;
+use guovssalu_sys::table::ARGUMENTS_IN_CALL;
 use guovssalu_sys::table::EVENT_IN_CALL;
 use guovssalu_sys::table::NUMBER_IN_CALL;
 use guovssalu_sys::table::PARAMS_IN_CALL;
@@ -152,7 +153,8 @@ impl Mixed {
         };
         let record = &world.state[CARRIED..];
         let parameters = world.start.parameters();
-        let mut words = frame::call(number, &numbers[1..], record, &parameters);
+        let arguments = &numbers[ARGUMENTS_IN_CALL..];
+        let mut words = frame::call(number, arguments, record, &parameters);
         if self.random.one_in(6) {
             words[NUMBER_IN_CALL] = self.random.pick(&NO_CALLS);
         } else {
@@ -162,7 +164,8 @@ impl Mixed {
         // Something else that is refused, or another malformed word, or
         // something that the call doesn't use.
         if self.random.one_in(4) {
-            let at = 1 + self.random.below(words.len() as u64 - 1) as usize;
+            let after = words.len() - ARGUMENTS_IN_CALL;
+            let at = ARGUMENTS_IN_CALL + self.random.below(after as u64) as usize;
             words[at] = self.random.pick(&[0, 2, 1 << 32, (1 << 62) + 1, u64::MAX]);
         }
         words

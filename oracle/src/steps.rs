@@ -207,7 +207,8 @@ impl Steps {
             let call = self.calls.make(number, &state);
             let mut numbers = call.numbers();
             for _ in 0..1 + self.random.below(4) / 3 {
-                let at = 1 + self.random.below(numbers.len() as u64 - 1) as usize;
+                let given = numbers.len() - ARGUMENTS_IN_CALL;
+                let at = ARGUMENTS_IN_CALL + self.random.below(given as u64) as usize;
                 numbers[at] = match (number, at, self.random.one_in(2)) {
                     (call::ON_CONGESTION_EVENT_START, sample::TOTAL_BYTES_ACKED, true) => {
                         state[TOTAL_ACKED].saturating_sub(1)
