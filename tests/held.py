@@ -1,7 +1,8 @@
 """Holds the Rattle source and its definitions to docs/calls.txt: the numbers of calls, the places and forms of words,
 the sizes, the replies. tests/table.py calls `faults`; the lists below say where to look.
 
-Each check takes paths and gives lines: file, what stands there, what should."""
+Each check takes paths and gives lines: file, what stands there, what should. Of the words it is reading that is held:
+that what was written is read back as it was is proved (crates/encoding/specs/RoundTrip.antt)."""
 
 import glob
 import os
@@ -353,8 +354,19 @@ def files(patterns):
     return sorted(os.path.relpath(path, ROOT) for path in found if path.endswith((".rt", ".antt")))
 
 
+def named():
+    """Every path of the lists above."""
+    yield from CHOICES
+    yield from (path for paths in ROWS.values() for path in paths)
+    yield from (path for path, *_ in READERS + FORMS)
+    yield from NOT_COUNTED + REPLIES
+
+
 def faults(table):
     """A line for each difference."""
+    missing = sorted({path for path in named() if not os.path.exists(os.path.join(ROOT, path))})
+    if missing:
+        return [f"{path}: no such file stands there, and tests/held.py names it" for path in missing]
     out = list(check_choices(table, CHOICES))
     for column, paths in ROWS.items():
         out += check_rows(table, column, paths)

@@ -14,11 +14,13 @@ import re
 import sys
 
 import held
-from words import PATH, ROOT, TABLE, WORD_BYTES, Fault, Names, constant
+from words import PATH, ROOT, TABLE, WORD_BYTES, Fault, constant
 
 PAGE = "docs/LAYOUT.md"
 HEADER = "include/guovssalu.h"
 RUST = "rust/guovssalu-sys/src/table.rs"
+# Has numbers of calls that are not the model's.
+FRAMES = "oracle/src/frame.rs"
 # Around a part that is written: its first line with the part's name, and its last.
 MARKS = {
     PAGE: ("<!-- {} of docs/calls.txt -->", "<!-- end -->"),
@@ -46,10 +48,8 @@ PARTS = {
 
 
 def grid(columns, rows):
-    lines = [columns, ["---"] * len(columns)] + [[str(cell) for cell in row] for row in rows]
-    return ["| " + " | ".join(cells).replace("| --- |", "|---|") + " |" for cells in lines[:1]] + [
-        "|" + "|".join(lines[1]) + "|"
-    ] + ["| " + " | ".join(cells) + " |" for cells in lines[2:]]
+    line = lambda cells: "| " + " | ".join(str(cell) for cell in cells) + " |"
+    return [line(columns), "|" + "---|" * len(columns), *map(line, rows)]
 
 
 def span(first, words):
@@ -99,11 +99,11 @@ def calls_with(column, value=None):
 
 
 def page_sizes():
-    model, state, answer = SIZE["MODEL_WORDS"], SIZE["STATE_WORDS"], "the reply's number, the answer, the event's record"
+    cycle, state = SIZE["CYCLE_IN_STATE"], SIZE["STATE_WORDS"]
     what = {
-        "state": f"the model, words 0 to {model - 1}, and the cycle, {model} to {state - 1}",
+        "state": f"the model, words 0 to {cycle - 1}, and the cycle, {cycle} to {state - 1}",
         "call": "the call's number, its arguments, the event's record, the parameters",
-        "answer": answer,
+        "answer": "the reply's number, the answer, the event's record",
     }
     rows = [(name, SIZE[name.upper() + "_WORDS"], SIZE[name.upper() + "_BYTES"], said) for name, said in what.items()]
     return grid(["array", "words", "bytes", "what"], rows)
@@ -397,9 +397,10 @@ def rust_sizes():
         said = "The most numbers of acked packets in a call." if name == "MOST_ACKED" else f"{unit.capitalize()} of {PARTS[part.lower()]}."
         lines += rust_const("", name, "usize", number, said)
     for name, number, _ in TABLE.place.items():
-        part, whole = name.split("_IN_")
-        article = "an" if whole == "ANSWER" else "a"
-        lines += rust_const("", name, "usize", number, f"The word of {article} {whole.lower()} with which its {part.lower()} begins.")
+        part, whole = name.lower().split("_in_")
+        said = {"event": "the event's record", "params": "the parameters", "cycle": "the cycle"}.get(part, f"its {part}")
+        article = "an" if whole == "answer" else "a"
+        lines += rust_const("", name, "usize", number, f"The first word of {said} in {article} {whole}.")
     return lines
 
 
@@ -407,7 +408,7 @@ def rust_text():
     unset = TABLE.rows("values")[0]
     parts = [
         ["//! The calls, their words and their sizes: written from docs/calls.txt by tests/table.py, and not edited."],
-        rust_const("", unset["name"], "u64", "u64::MAX", unset["what"].capitalize() + "."),
+        rust_const("", unset["name"], "u64", f"{int(unset['value']):_}", unset["what"].capitalize() + "."),
         rust_const("", "WORD_BYTES", "usize", WORD_BYTES, "Bytes of a word."),
         rust_sizes(),
         rust_calls(),
@@ -478,11 +479,20 @@ def doubled():
     return [f"{HEADER}: two things are called {name}" for name in sorted(set(names)) if names.count(name) > 1]
 
 
+def taken():
+    """Calls that have a number which the frames of the comparison have for something else."""
+    own = {int(number): name for name, number in re.findall(r"^pub const (\w+): u64 = (\d+);", in_file(FRAMES), re.M)}
+    for row in TABLE.rows("calls"):
+        name = own.get(int(row["number"]))
+        if name:
+            yield f"{FRAMES}: {name} is {row['number']} there, which is {row['name']}'s, and should be a number of no call"
+
+
 def main():
     writes = sys.argv[1:] == ["--write"]
     if sys.argv[1:] and not writes:
         sys.exit(__doc__)
-    faults, written = doubled(), 0
+    faults = [*doubled(), *taken()]
     for path, stands, should in due():
         if writes and stands != should:
             os.makedirs(os.path.dirname(os.path.join(ROOT, path)), exist_ok=True)

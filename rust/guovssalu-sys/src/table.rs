@@ -1,7 +1,7 @@
 //! The calls, their words and their sizes: written from docs/calls.txt by tests/table.py, and not edited.
 
 /// An unset number of bytes, 2^64 - 1.
-pub const UNSET: u64 = u64::MAX;
+pub const UNSET: u64 = 18_446_744_073_709_551_615;
 
 /// Bytes of a word.
 pub const WORD_BYTES: usize = 8;
@@ -52,21 +52,21 @@ pub const SLOPE_WORDS: usize = 2;
 pub const SLOPE_BYTES: usize = 16;
 /// The most numbers of acked packets in a call.
 pub const MOST_ACKED: usize = 3;
-/// The word of a call with which its number begins.
+/// The first word of its number in a call.
 pub const NUMBER_IN_CALL: usize = 0;
-/// The word of a call with which its arguments begins.
+/// The first word of its arguments in a call.
 pub const ARGUMENTS_IN_CALL: usize = 1;
-/// The word of a call with which its event begins.
+/// The first word of the event's record in a call.
 pub const EVENT_IN_CALL: usize = 22;
-/// The word of a call with which its params begins.
+/// The first word of the parameters in a call.
 pub const PARAMS_IN_CALL: usize = 38;
-/// The word of an answer with which its reply begins.
+/// The first word of its reply in an answer.
 pub const REPLY_IN_ANSWER: usize = 0;
-/// The word of an answer with which its value begins.
+/// The first word of its value in an answer.
 pub const VALUE_IN_ANSWER: usize = 1;
-/// The word of an answer with which its event begins.
+/// The first word of the event's record in an answer.
 pub const EVENT_IN_ANSWER: usize = 2;
-/// The word of a state with which its cycle begins.
+/// The first word of the cycle in a state.
 pub const CYCLE_IN_STATE: usize = 34;
 
 /// The numbers of the calls: a call's first word.

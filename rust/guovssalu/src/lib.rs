@@ -8,7 +8,8 @@
 //! of its choice. Nothing allocates and nothing is kept between calls.
 //!
 //! What is proved is what the archive does with the bytes it is lent. This crate, which writes and
-//! reads those bytes, is tested.
+//! reads those bytes, is tested. The numbers of calls, the places of words and the sizes are in
+//! [`table`], for those who write the bytes of a [`run`] themselves.
 //!
 //! # A loss
 //!
