@@ -196,6 +196,8 @@ def check_rows(table, column, paths):
     known = {numbers[row["call"]]: row[column] for row in table.rows("definitions")}
     names = {number: name for name, number in numbers.items()}
     seen = set()
+    for name in (name for name, number in numbers.items() if number not in known):
+        yield f"{PATH}: [definitions]: no row of {name} stands there, and each call should have one"
     for path in paths:
         for number, chosen in number_rows(path):
             due = known.get(number)
