@@ -1,14 +1,14 @@
 // One line of a list, asked of the port.
-use filters::Bandwidth;
-use filters::Duration;
 use filters::MaxBandwidthFilter;
 use filters::MinRttFilter;
-use filters::Moment;
-use filters::Reply;
 use filters::RoundTripCounter;
 use filters::WindowedFilter;
 use filters::round_trip_counter::RoundEnd;
 use filters::windowed_filter::Held;
+use units::Bandwidth;
+use units::Duration;
+use units::Moment;
+use units::Reply;
 use words::float_bits::f32_bits;
 use words::float_bits::f32_of;
 use words::float_bits::f64_bits;

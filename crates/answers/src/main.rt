@@ -3,16 +3,16 @@ mod asked;
 mod list;
 
 use asked::Asked;
-use filters::Duration;
 use filters::MaxBandwidthFilter;
 use filters::MinRttFilter;
-use filters::Moment;
 use filters::RoundTripCounter;
 use filters::WindowedFilter;
 use libc::STDOUT_FILENO;
 use list::change_last;
 use list::read_file;
 use list::read_line;
+use units::Duration;
+use units::Moment;
 
 pub struct Tally {
     pub answers: u64,

@@ -10,25 +10,27 @@ use lib.Ieee.Exact.{HasValue}
 use borrow.Author.Tests.{leb-true}
 use Rattle.numbers.specs.Scaling.{complement, partsOf}
 use Rattle.numbers.proofs.ScaleLaws.{scale-f64-law}
-use Rattle.filters.specs.declared.bandwidth.Bandwidth.{Bandwidth}
-use Rattle.filters.specs.declared.time.Duration.{Duration}
-use Rattle.filters.specs.declared.time.Moment.{Moment}
-use Rattle.filters.specs.Bandwidth.{largerOf, timesF32}
+use Rattle.units.specs.declared.bandwidth.Bandwidth.{Bandwidth}
+use Rattle.units.specs.declared.time.Duration.{Duration}
+use Rattle.units.specs.declared.time.Moment.{Moment}
+use Rattle.units.specs.Bandwidth.{largerOf, timesF32}
 use Rattle.filters.specs.MaxBandwidthFilter.{maxGet}
-use Rattle.model.specs.declared.network_model.NetworkModel.{NetworkModel}
-use Rattle.model.specs.declared.params.Params.{Params}
-use Rattle.model.specs.declared.state.Lower.{Lower}
-use Rattle.model.specs.declared.state.MaybeBandwidth.{MaybeBandwidth}
-use Rattle.model.specs.declared.state.MaybeBandwidth.the-variants.{Unset, Set}
-use Rattle.model.specs.Answers.{settled, noLength, noMoment}
-use Rattle.model.specs.Bounds.{bandwidthOk, maybeOk, bytesOrUnsetOk, modelTests}
-use Rattle.model.specs.Calls.{one, startNumber, startModel, modelNew, withRounds, withRound, withLower, withGrowth, withMoment, restartNext, capNext, clearInflightNext, clearBandwidthNext}
-use Rattle.model.specs.State.{lowerCapped}
-use Rattle.model.proofs.Rows.{and-left, all-at}
-use Rattle.events.specs.declared.record.Record.{Record}
-use Rattle.events.specs.declared.record.Sample.{Sample}
+use Rattle.state.specs.declared.network_model.NetworkModel.{NetworkModel}
+use Rattle.state.specs.declared.params.Params.{Params}
+use Rattle.state.specs.declared.parts.Lower.{Lower}
+use Rattle.state.specs.declared.parts.MaybeBandwidth.{MaybeBandwidth}
+use Rattle.state.specs.declared.parts.MaybeBandwidth.the-variants.{Unset, Set}
+use Rattle.state.specs.Answers.{settled, noLength, noMoment}
+use Rattle.state.specs.Bounds.{bandwidthOk, maybeOk, bytesOrUnsetOk}
+use Rattle.state.specs.NetworkModel.{modelTests}
+use Rattle.state.specs.NetworkModel.{one, startNumber, startModel, modelNew, withRounds, withRound, withLower, withGrowth, withMoment, restartNext, capNext, clearInflightNext, clearBandwidthNext}
+use Rattle.state.specs.Parts.{lowerCapped}
+use Rattle.state.proofs.Rows.{and-left, all-at}
+use Rattle.state.specs.declared.congestion_event.Record.{Record}
+use Rattle.state.specs.declared.congestion_event.Sample.{Sample}
 use Rattle.events.specs.Event as E
-use Rattle.phases.specs.declared.cycle.Cycle.{Cycle}
+use Rattle.state.specs.CongestionEvent as H
+use Rattle.state.specs.declared.cycle.Cycle.{Cycle}
 use Rattle.phases.specs.Phases.{restartedAt, cruiseModel, refillModel, leftModel}
 use Rattle.laws.proofs.Events.{event-model, event-sample, most-kept, most-max}
 use Rattle.drift.specs.Calls.{Call, event, cap, clearInflight, clearBandwidth, cruise, refill, other, State, numberOf, nextOf, run, started}
@@ -79,7 +81,7 @@ module _ (beta : Float) (parts : ℕ) (value : HasValue (complement beta) false 
 
   event-kept : (m : NetworkModel) (p : Params) (e : Record) (s : Sample) (acked : List ℕ) (x : Exact) → p .beta ≡ beta → E.eventNumber m p e s acked ≡ 0 → Kept (m .lower .bandwidth) x
       → Kept (E.modelNext m p e s acked .lower .bandwidth) (exactly parts (cond (isReduced m e s acked) (reduces (maxGet (E.mostNext m s) .0) (E.latestRaised (m .latest) s .bandwidth .0)) stays) x)
-  unfolding modelTests E.sampleTests E.modelNext E.modelOf E.lowerNext E.lowerAfter E.lowerReduced E.recordNext E.recordOf E.mostNext isReduced exactly
+  unfolding modelTests H.sampleTests E.modelNext E.modelOf E.lowerNext E.lowerAfter E.lowerReduced E.recordNext E.recordOf E.mostNext isReduced exactly
   event-kept m p e s acked x same done h = go (E.acts (after .ended) (after .probing) (E.roundNext m after s .lost))
     where
       after : Record
@@ -89,7 +91,7 @@ module _ (beta : Float) (parts : ℕ) (value : HasValue (complement beta) false 
       lo-ok = and-left (maybeOk (m .lower .bandwidth)) (bytesOrUnsetOk (m .lower .inflight)) (all-at (modelTests m) 4 (event-model m p e s acked done))
 
       most-ok : bandwidthOk (maxGet (E.mostNext m s)) ≡ true
-      most-ok = most-max (E.mostNext m s) (most-kept (m .most) (s .bandwidth) (E.isChanged m s) (s .limited) (all-at (modelTests m) 0 (event-model m p e s acked done)) (all-at (E.sampleTests s) 0 (event-sample m p e s acked done)))
+      most-ok = most-max (E.mostNext m s) (most-kept (m .most) (s .bandwidth) (E.isChanged m s) (s .limited) (all-at (modelTests m) 0 (event-model m p e s acked done)) (all-at (H.sampleTests s) 0 (event-sample m p e s acked done)))
 
       go : (t : Bool) →
           Kept (cond t (E.lowerReduced (m .lower) (maxGet (E.mostNext m s)) (E.latestRaised (m .latest) s) (e .window) (complement (p .beta))) (m .lower) .bandwidth)

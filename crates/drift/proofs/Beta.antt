@@ -3,8 +3,8 @@ use lib.Ieee.{Float, binary32, ofBits, le}
 use denote.Floats.{passes}
 use Rattle.numbers.specs.Scaling.{complement, Parts}
 use Rattle.numbers.proofs.Complement.{complement-law}
-use Rattle.model.specs.Bounds.{within}
-use Rattle.model.proofs.Rows.{and-left, and-right}
+use Rattle.state.specs.Bounds.{within}
+use Rattle.state.proofs.Rows.{and-left, and-right}
 use Rattle.drift.specs.Drift.{IsBeta}
 
 pub every-beta : (beta : Float) → IsBeta beta → Parts (complement beta)

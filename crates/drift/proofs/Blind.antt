@@ -1,6 +1,6 @@
 -- The turns of the exact run do not depend on the lower bounds that are stored. Assumes nothing.
 use mathlib.Core.Path.{refl}
-use Rattle.model.specs.Calls.{withLower}
+use Rattle.state.specs.NetworkModel.{withLower}
 use Rattle.events.specs.Event.{recordNext, recordOf, roundNext, mostNext}
 use Rattle.drift.specs.Calls.{event, cap, clearInflight, clearBandwidth, cruise, refill, other}
 use Rattle.drift.specs.Exact.{isReduced, inflightTurn, bandwidthTurn, Blind}

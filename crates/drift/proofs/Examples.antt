@@ -6,16 +6,21 @@ use lib.Dec.{lit<}
 use lib.Ieee as Ieee
 use Rattle.numbers.specs.Scaling.{scaled, scaledF64}
 use Rattle.numbers.specs.FloatToInt.{roundAway}
-use Rattle.filters.specs.Bandwidth.{timesF32}
+use Rattle.units.specs.Bandwidth.{timesF32}
 use Rattle.filters.specs.MaxBandwidthFilter.{maxGet, maxUpdate}
 use Rattle.filters.specs.RoundTripCounter.{roundsSent, endsRound, roundsFull, roundsEnded, roundsAcked}
-use Rattle.model.specs.Answers.{settled}
-use Rattle.model.specs.Bounds.{all, within, paramsOk, roundOk, modelTests, rowOf}
-use Rattle.model.specs.Calls.{withRounds, withRound, withLower, withMoment, modelNew, startNumber, startModel, storedNumber, givenNumber, sentNumber, sentNext, capNext, clearInflightNext, clearBandwidthNext, withGrowth, growthRestarted, restartNext}
-use Rattle.model.specs.State.{roundSent, lowerCapped}
-use Rattle.events.specs.Event.{recordTests, sampleTests, stateAfter, deliveredBy, roundAfter, latestRaised, lowerReduced, lowerAfter, latestAfter, recordOf, recordNext, mostNext, roundNext, lowerNext, modelOf, modelNext, isFull, eventNumber}
-use Rattle.events.specs.Judge.{recordNumber, finishNext}
-use Rattle.phases.specs.Cycle.{cycleNew, stayFrom, freshNumber, freshCycle, cycleTests}
+use Rattle.state.specs.Answers.{settled}
+use Rattle.state.specs.Bounds.{all, within, rowOf}
+use Rattle.state.specs.Params.{paramsOk}
+use Rattle.state.specs.Parts.{roundOk}
+use Rattle.state.specs.NetworkModel.{modelTests}
+use Rattle.state.specs.NetworkModel.{withRounds, withRound, withLower, withMoment, modelNew, startNumber, startModel, storedNumber, givenNumber, capNext, clearInflightNext, clearBandwidthNext, withGrowth, growthRestarted, restartNext}
+use Rattle.changes.specs.Changes.{sentNumber, sentNext}
+use Rattle.state.specs.Parts.{roundSent, lowerCapped}
+use Rattle.state.specs.CongestionEvent.{recordTests, sampleTests}
+use Rattle.events.specs.Event.{stateAfter, deliveredBy, roundAfter, latestRaised, lowerReduced, lowerAfter, latestAfter, recordOf, recordNext, mostNext, roundNext, lowerNext, modelOf, modelNext, isFull, eventNumber}
+use Rattle.events.specs.Event.{recordNumber, finishNext}
+use Rattle.state.specs.Cycle.{cycleNew, stayFrom, freshNumber, freshCycle, cycleTests}
 use Rattle.phases.specs.Phases.{entryNumber, restartedAt, exitModel, leftModel, leftCycle, cycleIn, cruiseModel, cruiseCycle, refillModel, refilled, refillCycle}
 use Rattle.drift.specs.Calls.{otherNumber, numberOf, otherNext, nextOf, after, run, started}
 use Rattle.drift.specs.Exact.{isReduced, inflightTurn, bandwidthTurn, exactly, exactRun}

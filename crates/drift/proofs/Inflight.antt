@@ -11,20 +11,20 @@ use lib.Ieee.Exact.{HasValue}
 use borrow.Author.Tests.{eq-eqb, ne-eqb}
 use Rattle.numbers.specs.Scaling.{scaled, complement, partsOf}
 use Rattle.numbers.proofs.ScaleLaws.{scale-law}
-use Rattle.filters.specs.declared.time.Duration.{Duration}
-use Rattle.filters.specs.declared.time.Moment.{Moment}
+use Rattle.units.specs.declared.time.Duration.{Duration}
+use Rattle.units.specs.declared.time.Moment.{Moment}
 use Rattle.filters.specs.MaxBandwidthFilter.{maxGet}
-use Rattle.model.specs.declared.network_model.NetworkModel.{NetworkModel}
-use Rattle.model.specs.declared.params.Params.{Params}
-use Rattle.model.specs.declared.state.Latest.{Latest}
-use Rattle.model.specs.declared.state.Lower.{Lower}
-use Rattle.model.specs.Answers.{settled, noLength, noMoment}
-use Rattle.model.specs.Calls.{one, startNumber, startModel, modelNew, withRounds, withRound, withLower, withGrowth, withMoment, restartNext, capNext, clearInflightNext, clearBandwidthNext}
-use Rattle.model.specs.State.{lowerCapped}
-use Rattle.events.specs.declared.record.Record.{Record}
-use Rattle.events.specs.declared.record.Sample.{Sample}
+use Rattle.state.specs.declared.network_model.NetworkModel.{NetworkModel}
+use Rattle.state.specs.declared.params.Params.{Params}
+use Rattle.state.specs.declared.parts.Latest.{Latest}
+use Rattle.state.specs.declared.parts.Lower.{Lower}
+use Rattle.state.specs.Answers.{settled, noLength, noMoment}
+use Rattle.state.specs.NetworkModel.{one, startNumber, startModel, modelNew, withRounds, withRound, withLower, withGrowth, withMoment, restartNext, capNext, clearInflightNext, clearBandwidthNext}
+use Rattle.state.specs.Parts.{lowerCapped}
+use Rattle.state.specs.declared.congestion_event.Record.{Record}
+use Rattle.state.specs.declared.congestion_event.Sample.{Sample}
 use Rattle.events.specs.Event as E
-use Rattle.phases.specs.declared.cycle.Cycle.{Cycle}
+use Rattle.state.specs.declared.cycle.Cycle.{Cycle}
 use Rattle.phases.specs.Phases.{restartedAt, cruiseModel, refillModel, leftModel}
 use Rattle.drift.specs.Calls.{Call, event, cap, clearInflight, clearBandwidth, cruise, refill, other, State, nextOf, after, run, started}
 use Rattle.drift.specs.Exact.{stays, clears, caps, reduces, Exact, unset, over, isReduced, inflightTurn, exactly, exactRun}

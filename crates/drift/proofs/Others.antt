@@ -1,11 +1,13 @@
 -- The calls that name no lower bound leave the lower bounds and the latest samples. Assumes nothing.
 use mathlib.Core.Bool.{Bool, true, false, cond}
 use mathlib.Core.Path.{_≡_, refl}
-use Rattle.model.specs.declared.network_model.NetworkModel.{NetworkModel}
-use Rattle.model.specs.State.{roundNew}
-use Rattle.model.specs.Calls.{withMost, withRounds, withRound, withLeast, withHigh, withGains, withGrowth, withMoment, sentNext, restartNext, reachedNext, pacingNext, cwndNext, advanceNext, postponeNext}
-use Rattle.events.specs.Judge.{finishNext, expireNext, growthNext, queueNext}
-use Rattle.phases.specs.declared.cycle.Cycle.{Cycle}
+use Rattle.state.specs.declared.network_model.NetworkModel.{NetworkModel}
+use Rattle.state.specs.Parts.{roundNew}
+use Rattle.state.specs.NetworkModel.{withMost, withRounds, withRound, withLeast, withHigh, withGains, withGrowth, withMoment, restartNext, advanceNext}
+use Rattle.changes.specs.Changes.{sentNext, reachedNext, pacingNext, cwndNext, postponeNext}
+use Rattle.events.specs.Event.{finishNext}
+use Rattle.judge.specs.Judge.{expireNext, growthNext, queueNext}
+use Rattle.state.specs.declared.cycle.Cycle.{Cycle}
 use Rattle.phases.specs.Phases.{restartedAt, exitModel, isDown, leftModel}
 use Rattle.drift.specs.Calls.{Other, sent, finish, expire, growth, queue, restart, reached, pacing, cwnd, high, advance, postpone, down, up, exit, slope, State, otherNext}
 

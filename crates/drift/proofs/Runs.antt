@@ -5,7 +5,7 @@ use mathlib.Core.List.{List, [], _∷_}
 use mathlib.Core.Path.{_≡_, refl}
 use lib.Dec.{eqb}
 use borrow.Author.Tests.{eqb-true}
-use Rattle.model.specs.Answers.{settled}
+use Rattle.state.specs.Answers.{settled}
 use Rattle.drift.specs.Calls.{Call, State, numberOf, nextOf, after, run}
 use Rattle.drift.specs.Exact.{Turn, stays, Exact, exactly, exactRun}
 use Rattle.drift.specs.Drift.{Along}

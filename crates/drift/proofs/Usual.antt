@@ -5,7 +5,7 @@ use mathlib.Core.Path.{_≡_, refl, subst}
 use native.Mathlib.Omega.{arith}
 use lib.Ieee.{ofBits, sub, le, fits}
 use Rattle.numbers.specs.Scaling.{complement, partsOf}
-use Rattle.model.specs.Bounds.{within}
+use Rattle.state.specs.Bounds.{within}
 use Rattle.drift.specs.Calls.{Call, State, run, started}
 use Rattle.drift.specs.Exact.{Turn, Exact, unset, over, inflightTurn, bandwidthTurn, exactRun}
 use Rattle.drift.specs.Drift.{IsBeta, Low, none, at, inflightLow, bandwidthLow, Nearer, Follows, usualBeta, usualParts, Under, UsualInflightDrift, UsualBandwidthDrift}

@@ -4,18 +4,19 @@ use Prim.Native.Nat.{ℕ}
 use mathlib.Core.Bool.{Bool, false}
 use mathlib.Core.List.{List, [], _∷_}
 use lib.Ieee.{Float}
-use Rattle.filters.specs.declared.time.Duration.{Duration}
-use Rattle.filters.specs.declared.time.Moment.{Moment}
-use Rattle.model.specs.declared.network_model.NetworkModel.{NetworkModel}
-use Rattle.model.specs.declared.params.Params.{Params}
-use Rattle.model.specs.Answers.{settled}
-use Rattle.model.specs.Bounds.{bytesOrUnsetOk, gainOk}
-use Rattle.model.specs.Calls as M
-use Rattle.events.specs.declared.record.Record.{Record}
-use Rattle.events.specs.declared.record.Sample.{Sample}
+use Rattle.units.specs.declared.time.Duration.{Duration}
+use Rattle.units.specs.declared.time.Moment.{Moment}
+use Rattle.state.specs.declared.network_model.NetworkModel.{NetworkModel}
+use Rattle.state.specs.declared.params.Params.{Params}
+use Rattle.state.specs.Answers.{settled}
+use Rattle.state.specs.Bounds.{bytesOrUnsetOk, gainOk}
+use Rattle.state.specs.NetworkModel as M
+use Rattle.changes.specs.Changes as N
+use Rattle.state.specs.declared.congestion_event.Record.{Record}
+use Rattle.state.specs.declared.congestion_event.Sample.{Sample}
 use Rattle.events.specs.Event as E
-use Rattle.events.specs.Judge as J
-use Rattle.phases.specs.declared.cycle.Cycle.{Cycle}
+use Rattle.judge.specs.Judge as J
+use Rattle.state.specs.declared.cycle.Cycle.{Cycle}
 use Rattle.phases.specs.Phases as P
 
 -- ---- every call that can change the model or the cycle, with its arguments: all of the public functions that test
@@ -56,8 +57,8 @@ onModel s m = record { model = m; cycle = s .cycle }
 
 -- ---- the number of a call's reply
 unfoldable pub otherNumber : Other → State → ℕ
-otherNumber (sent now inflight packet bytes) s = M.sentNumber (s .model) now inflight bytes
-otherNumber (finish e) s = J.recordNumber (s .model) e
+otherNumber (sent now inflight packet bytes) s = N.sentNumber (s .model) now inflight bytes
+otherNumber (finish e) s = E.recordNumber (s .model) e
 otherNumber (expire p e) s = J.judgedNumber (s .model) p e false
 otherNumber (growth p e) s = J.judgedNumber (s .model) p e (J.growthFull (s .model) p e)
 otherNumber (queue p gain) s = J.queueNumber (s .model) p gain
@@ -67,7 +68,7 @@ otherNumber (pacing gain) s = M.givenNumber (s .model) (gainOk gain)
 otherNumber (cwnd gain) s = M.givenNumber (s .model) (gainOk gain)
 otherNumber (high bytes) s = M.givenNumber (s .model) (bytesOrUnsetOk bytes)
 otherNumber advance s = M.storedNumber (s .model)
-otherNumber (postpone d) s = M.postponeNumber (s .model) d
+otherNumber (postpone d) s = N.postponeNumber (s .model) d
 otherNumber (down p hi risky now) s = P.downNumber (s .model) (s .cycle) p now
 otherNumber (up now window) s = P.upNumber (s .model) (s .cycle) now window
 otherNumber exit s = P.exitNumber (s .model) (s .cycle)
@@ -84,18 +85,18 @@ numberOf (other c) s = otherNumber c s
 
 -- ---- the state that it leaves where that number is 0
 unfoldable pub otherNext : Other → State → State
-otherNext (sent now inflight packet bytes) s = onModel s (M.sentNext (s .model) now inflight packet bytes)
-otherNext (finish e) s = onModel s (J.finishNext (s .model) e)
+otherNext (sent now inflight packet bytes) s = onModel s (N.sentNext (s .model) now inflight packet bytes)
+otherNext (finish e) s = onModel s (E.finishNext (s .model) e)
 otherNext (expire p e) s = onModel s (J.expireNext (s .model) p e)
 otherNext (growth p e) s = onModel s (J.growthNext (s .model) p e)
 otherNext (queue p gain) s = onModel s (J.queueNext (s .model) p gain)
 otherNext restart s = onModel s (M.restartNext (s .model))
-otherNext reached s = onModel s (M.reachedNext (s .model))
-otherNext (pacing gain) s = onModel s (M.pacingNext (s .model) gain)
-otherNext (cwnd gain) s = onModel s (M.cwndNext (s .model) gain)
+otherNext reached s = onModel s (N.reachedNext (s .model))
+otherNext (pacing gain) s = onModel s (N.pacingNext (s .model) gain)
+otherNext (cwnd gain) s = onModel s (N.cwndNext (s .model) gain)
 otherNext (high bytes) s = onModel s (M.withHigh (s .model) bytes)
 otherNext advance s = onModel s (M.advanceNext (s .model))
-otherNext (postpone d) s = onModel s (M.postponeNext (s .model) d)
+otherNext (postpone d) s = onModel s (N.postponeNext (s .model) d)
 otherNext (down p hi risky now) s =
     record { model = P.restartedAt (s .model) now; cycle = P.downCycle (s .cycle) p hi risky now }
 otherNext (up now window) s = record { model = P.restartedAt (s .model) now; cycle = P.upCycle (s .cycle) now window }

@@ -30,15 +30,15 @@ use lib.Dec.{T, eqb}
 use lib.Ieee.{Float, binary32, ofBits, fits}
 use lib.Ieee.Exact.{HasValue}
 use Rattle.numbers.specs.Scaling.{complement, partsOf}
-use Rattle.filters.specs.declared.time.Duration.{Duration}
-use Rattle.filters.specs.declared.time.Moment.{Moment}
-use Rattle.model.specs.declared.params.Params.{Params}
-use Rattle.model.specs.declared.state.MaybeBandwidth.{MaybeBandwidth}
-use Rattle.model.specs.declared.state.MaybeBandwidth.the-variants.{Unset, Set}
-use Rattle.model.specs.Bounds.{betaOk}
-use Rattle.events.specs.declared.record.Record.{Record}
-use Rattle.events.specs.declared.record.Sample.{Sample}
-use Rattle.phases.specs.declared.cycle.Cycle.{Cycle}
+use Rattle.units.specs.declared.time.Duration.{Duration}
+use Rattle.units.specs.declared.time.Moment.{Moment}
+use Rattle.state.specs.declared.params.Params.{Params}
+use Rattle.state.specs.declared.parts.MaybeBandwidth.{MaybeBandwidth}
+use Rattle.state.specs.declared.parts.MaybeBandwidth.the-variants.{Unset, Set}
+use Rattle.state.specs.Params.{betaOk}
+use Rattle.state.specs.declared.congestion_event.Record.{Record}
+use Rattle.state.specs.declared.congestion_event.Sample.{Sample}
+use Rattle.state.specs.declared.cycle.Cycle.{Cycle}
 use Rattle.drift.specs.Calls as Calls
 use Rattle.drift.specs.Calls.{Call, State, numberOf, after, run, started}
 use Rattle.drift.specs.Exact.{Turn, Exact, unset, over, inflightTurn, bandwidthTurn, exactRun}

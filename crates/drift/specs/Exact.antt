@@ -5,12 +5,12 @@ use mathlib.Core.Bool.{Bool, cond}
 use mathlib.Core.List.{List, [], _∷_}
 use mathlib.Core.Path.{_≡_}
 use Rattle.filters.specs.MaxBandwidthFilter.{maxGet}
-use Rattle.model.specs.Answers.{settled}
-use Rattle.model.specs.declared.network_model.NetworkModel.{NetworkModel}
-use Rattle.model.specs.declared.state.Lower.{Lower}
-use Rattle.model.specs.Calls.{withLower}
-use Rattle.events.specs.declared.record.Record.{Record}
-use Rattle.events.specs.declared.record.Sample.{Sample}
+use Rattle.state.specs.Answers.{settled}
+use Rattle.state.specs.declared.network_model.NetworkModel.{NetworkModel}
+use Rattle.state.specs.declared.parts.Lower.{Lower}
+use Rattle.state.specs.NetworkModel.{withLower}
+use Rattle.state.specs.declared.congestion_event.Record.{Record}
+use Rattle.state.specs.declared.congestion_event.Sample.{Sample}
 use Rattle.events.specs.Event.{recordNext, roundNext, mostNext, latestRaised, acts}
 use Rattle.drift.specs.Calls as Calls
 use Rattle.drift.specs.Calls.{Call, State, numberOf, after}

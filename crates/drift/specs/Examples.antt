@@ -3,14 +3,14 @@ use Prim.Native.Nat.{ℕ, zero, suc, _+_, _*_, _^_}
 use mathlib.Core.Bool.{Bool, true, false, cond, _&&_}
 use mathlib.Core.List.{List, [], _∷_, _++_}
 use lib.Dec.{eqb, ltb}
-use Rattle.model.specs.declared.params.Params.{Params}
-use Rattle.model.specs.Calls.{one}
-use Rattle.model.specs.declared.state.MaybeBandwidth.the-variants.{Unset, Set}
-use Rattle.filters.specs.declared.time.Moment.{Moment}
-use Rattle.events.specs.declared.record.MaybeLength.the-variants.{Missing}
-use Rattle.events.specs.declared.record.Record.{Record}
-use Rattle.events.specs.declared.record.Sample.{Sample}
-use Rattle.phases.specs.Cycle.{freshCycle}
+use Rattle.state.specs.declared.params.Params.{Params}
+use Rattle.state.specs.NetworkModel.{one}
+use Rattle.state.specs.declared.parts.MaybeBandwidth.the-variants.{Unset, Set}
+use Rattle.units.specs.declared.time.Moment.{Moment}
+use Rattle.state.specs.declared.congestion_event.MaybeLength.the-variants.{Missing}
+use Rattle.state.specs.declared.congestion_event.Record.{Record}
+use Rattle.state.specs.declared.congestion_event.Sample.{Sample}
+use Rattle.state.specs.Cycle.{freshCycle}
 use Rattle.drift.specs.Calls.{Call, event, cap, clearInflight, cruise, refill, other, sent, finish, State, run, started}
 use Rattle.drift.specs.Exact.{Exact, unset, over, inflightTurn, bandwidthTurn, exactRun}
 use Rattle.drift.specs.Drift.{Low, none, at, inflightLow, bandwidthLow, usualBeta, usualParts}

@@ -9,12 +9,13 @@ use denote.Ref.{now}
 use lib.Ieee.{Float}
 use lib.Ieee.Exact.{HasValue}
 use Rattle.numbers.specs.Scaling.{complement, partsOf}
-use Rattle.filters.specs.declared.time.Duration.{Duration}
-use Rattle.filters.specs.declared.time.Moment.{Moment}
-use Rattle.model.specs.declared.params.Params.{Params}
-use Rattle.model.proofs.network_model.NetworkModel as model
+use Rattle.units.specs.declared.time.Duration.{Duration}
+use Rattle.units.specs.declared.time.Moment.{Moment}
+use Rattle.state.specs.declared.params.Params.{Params}
+use Rattle.state.proofs.network_model.NetworkModel as model
+use Rattle.changes.proofs.changes as changes
 use Rattle.events.proofs.event as events
-use Rattle.events.proofs.judge as judge
+use Rattle.judge.proofs.judge as judge
 use Rattle.phases.proofs.phases as phases
 use Rattle.drift.specs.Calls as Calls
 use Rattle.drift.specs.Calls.{Call, Other, State}
@@ -35,10 +36,10 @@ Leaves learnt args left t = Returned learnt (λ κ a x. (a ≡ args κ) × (t �
 -- ---- a call by the public function of its name: the state s becomes t
 abbrev pub MadeOther : Other → State → State → Type 0
 MadeOther (Calls.sent time inflight packet bytes) s t =
-    Leaves model.on_packet_sent.Reads.Learnt (λ κ. (s .model, (time, (inflight, (packet, (bytes, tt))))))
+    Leaves changes.on_packet_sent.Reads.Learnt (λ κ. (s .model, (time, (inflight, (packet, (bytes, tt))))))
     (λ x. record { model = x .model; cycle = s .cycle }) t
 MadeOther (Calls.finish e) s t =
-    Leaves judge.on_congestion_event_finish.Reads.Learnt (λ κ. (s .model, (e, tt)))
+    Leaves events.on_congestion_event_finish.Reads.Learnt (λ κ. (s .model, (e, tt)))
     (λ x. record { model = x .model; cycle = s .cycle }) t
 MadeOther (Calls.expire p e) s t =
     Leaves judge.maybe_expire_min_rtt.Reads.Learnt (λ κ. (s .model, (p, (e, tt))))
@@ -50,25 +51,25 @@ MadeOther (Calls.queue p gain) s t =
     Leaves judge.check_persistent_queue.Reads.Learnt (λ κ. (s .model, (p, (gain, tt))))
     (λ x. record { model = x .model; cycle = s .cycle }) t
 MadeOther Calls.restart s t =
-    Leaves model.restart_round_early.Reads.Learnt (λ κ. (s .model, tt))
+    Leaves changes.restart_round_early.Reads.Learnt (λ κ. (s .model, tt))
     (λ x. record { model = x .model; cycle = s .cycle }) t
 MadeOther Calls.reached s t =
-    Leaves model.set_full_bandwidth_reached.Reads.Learnt (λ κ. (s .model, tt))
+    Leaves changes.set_full_bandwidth_reached.Reads.Learnt (λ κ. (s .model, tt))
     (λ x. record { model = x .model; cycle = s .cycle }) t
 MadeOther (Calls.pacing gain) s t =
-    Leaves model.set_pacing_gain.Reads.Learnt (λ κ. (s .model, (gain, tt)))
+    Leaves changes.set_pacing_gain.Reads.Learnt (λ κ. (s .model, (gain, tt)))
     (λ x. record { model = x .model; cycle = s .cycle }) t
 MadeOther (Calls.cwnd gain) s t =
-    Leaves model.set_cwnd_gain.Reads.Learnt (λ κ. (s .model, (gain, tt)))
+    Leaves changes.set_cwnd_gain.Reads.Learnt (λ κ. (s .model, (gain, tt)))
     (λ x. record { model = x .model; cycle = s .cycle }) t
 MadeOther (Calls.high bytes) s t =
-    Leaves model.set_inflight_hi.Reads.Learnt (λ κ. (s .model, (bytes, tt)))
+    Leaves changes.set_inflight_hi.Reads.Learnt (λ κ. (s .model, (bytes, tt)))
     (λ x. record { model = x .model; cycle = s .cycle }) t
 MadeOther Calls.advance s t =
-    Leaves model.advance_max_bandwidth_filter.Reads.Learnt (λ κ. (s .model, tt))
+    Leaves changes.advance_max_bandwidth_filter.Reads.Learnt (λ κ. (s .model, tt))
     (λ x. record { model = x .model; cycle = s .cycle }) t
 MadeOther (Calls.postpone d) s t =
-    Leaves model.postpone_min_rtt_timestamp.Reads.Learnt (λ κ. (s .model, (d, tt)))
+    Leaves changes.postpone_min_rtt_timestamp.Reads.Learnt (λ κ. (s .model, (d, tt)))
     (λ x. record { model = x .model; cycle = s .cycle }) t
 MadeOther (Calls.down p hi risky time) s t =
     Leaves phases.enter_probe_down.Reads.Learnt (λ κ. (s .model, (s .cycle, (p, (hi, (risky, (time, tt)))))))
@@ -94,13 +95,13 @@ Made (Calls.event p e y acked) s t =
     × (now (a .1 .1 .1 .1 .0) ≡ acked)
     × (t ≡ record { model = x .model; cycle = s .cycle }))
 Made (Calls.cap bytes) s t =
-    Leaves model.cap_inflight_lo.Reads.Learnt (λ κ. (s .model, (bytes, tt)))
+    Leaves changes.cap_inflight_lo.Reads.Learnt (λ κ. (s .model, (bytes, tt)))
     (λ x. record { model = x .model; cycle = s .cycle }) t
 Made Calls.clearInflight s t =
-    Leaves model.clear_inflight_lo.Reads.Learnt (λ κ. (s .model, tt))
+    Leaves changes.clear_inflight_lo.Reads.Learnt (λ κ. (s .model, tt))
     (λ x. record { model = x .model; cycle = s .cycle }) t
 Made Calls.clearBandwidth s t =
-    Leaves model.clear_bandwidth_lo.Reads.Learnt (λ κ. (s .model, tt))
+    Leaves changes.clear_bandwidth_lo.Reads.Learnt (λ κ. (s .model, tt))
     (λ x. record { model = x .model; cycle = s .cycle }) t
 Made (Calls.cruise time) s t =
     Leaves phases.enter_probe_cruise.Reads.Learnt (λ κ. (s .model, (s .cycle, (time, tt))))

@@ -1,4 +1,3 @@
--- Laws and theorems of the events.
-pub mod Laws
+-- Laws, and theorems about the contracts.
 pub mod Room
 pub mod Determined

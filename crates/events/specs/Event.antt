@@ -1,78 +1,38 @@
 -- One event, in order: document 01, "One event, in order"; network_model.rs, on_congestion_event_start and adapt_lower_bounds in BwLoMode::Default. m is the model before the event, e its record as
 -- handed in, s what the sampler says to it, and `acked` the packet numbers acked.
 use Prim.Native.Nat.{ℕ, min, max, _+_, _-_, _^_}
-use mathlib.Core.Bool.{Bool, true, false, cond, not, _&&_, _||_}
-use mathlib.Core.List.{List, [], _∷_}
+use mathlib.Core.Bool.{Bool, false, cond, not, _&&_, _||_}
+use mathlib.Core.List.{List}
 use lib.Dec.{ltb, leb, eqb}
 use lib.Ieee.{Float}
-use Rattle.filters.specs.declared.bandwidth.Bandwidth.{Bandwidth}
+use Rattle.units.specs.declared.bandwidth.Bandwidth.{Bandwidth}
 use Rattle.filters.specs.declared.max_bandwidth_filter.MaxBandwidthFilter.{MaxBandwidthFilter}
 use Rattle.filters.specs.declared.min_rtt_filter.MinRttFilter.{MinRttFilter}
 use Rattle.filters.specs.declared.round_trip_counter.RoundTripCounter.{RoundTripCounter}
-use Rattle.filters.specs.declared.time.Duration.{Duration}
-use Rattle.filters.specs.declared.time.Moment.{Moment}
-use Rattle.filters.specs.Bandwidth.{largerOf, timesF32}
+use Rattle.units.specs.declared.time.Moment.{Moment}
+use Rattle.units.specs.Bandwidth.{largerOf, timesF32}
 use Rattle.filters.specs.MaxBandwidthFilter.{maxGet, maxUpdate}
 use Rattle.filters.specs.MinRttFilter.{minUpdate}
 use Rattle.filters.specs.RoundTripCounter.{roundsAcked, roundsEnded, roundsFull}
-use Rattle.filters.specs.Time.{isBefore}
+use Rattle.units.specs.Time.{isBefore}
 use Rattle.numbers.specs.Scaling.{scaled, complement}
-use Rattle.model.specs.declared.network_model.NetworkModel.{NetworkModel}
-use Rattle.model.specs.declared.params.Params.{Params}
-use Rattle.model.specs.declared.state.Latest.{Latest}
-use Rattle.model.specs.declared.state.Lower.{Lower}
-use Rattle.model.specs.declared.state.MaybeBandwidth.{MaybeBandwidth}
-use Rattle.model.specs.declared.state.MaybeBandwidth.the-variants.{Unset, Set}
-use Rattle.model.specs.declared.state.Rates.{Rates}
-use Rattle.model.specs.declared.state.Round.{Round}
-use Rattle.model.specs.declared.state.Totals.{Totals}
-use Rattle.model.specs.Bounds.{all, rowOf, modelOk, paramsOk, bytesOk, totalOk, momentOk, lengthOk, maybeOk, totalsOk}
-use Rattle.events.specs.declared.record.MaybeLength.{MaybeLength}
-use Rattle.events.specs.declared.record.MaybeLength.the-variants.{Missing, Length}
-use Rattle.events.specs.declared.record.Record.{Record}
-use Rattle.events.specs.declared.record.Sample.{Sample}
-use Rattle.events.specs.declared.record.SendState.{SendState}
-
--- ---- the bounds of what is handed in: all numbers are tested, those of a send state that is not valid too
-abbrev pub maybeLengthOk : MaybeLength → Bool
-maybeLengthOk Missing = true
-maybeLengthOk (Length d) = lengthOk d
-
-abbrev pub stateOk : SendState → Bool
-stateOk t = totalOk (t .acked) && bytesOk (t .inflight)
-
-unfoldable pub recordTests : Record → List Bool
-recordTests e =
-    momentOk (e .time)
-    ∷ bytesOk (e .window)
-    ∷ bytesOk (e .prior)
-    ∷ bytesOk (e .inflight)
-    ∷ totalOk (e .acked)
-    ∷ totalOk (e .lost)
-    ∷ maybeOk (e .bandwidth)
-    ∷ maybeLengthOk (e .rtt)
-    ∷ stateOk (e .state)
-    ∷ []
-
-abbrev pub recordOk : Record → Bool
-recordOk e = all (recordTests e)
-
-unfoldable pub sampleTests : Sample → List Bool
-sampleTests s =
-    maybeOk (s .bandwidth)
-    ∷ maybeOk (s .send)
-    ∷ maybeOk (s .ack)
-    ∷ maybeLengthOk (s .rtt)
-    ∷ bytesOk (s .inflight)
-    ∷ bytesOk (s .extra)
-    ∷ stateOk (s .state)
-    ∷ totalsOk (s .totals)
-    ∷ []
-
-abbrev pub sampleOk : Sample → Bool
-sampleOk s = all (sampleTests s)
-
--- ---- the steps
+use Rattle.state.specs.declared.network_model.NetworkModel.{NetworkModel}
+use Rattle.state.specs.declared.params.Params.{Params}
+use Rattle.state.specs.declared.parts.Latest.{Latest}
+use Rattle.state.specs.declared.parts.Lower.{Lower}
+use Rattle.state.specs.declared.parts.MaybeBandwidth.{MaybeBandwidth}
+use Rattle.state.specs.declared.parts.MaybeBandwidth.the-variants.{Unset, Set}
+use Rattle.state.specs.declared.parts.Round.{Round}
+use Rattle.state.specs.Bounds.{rowOf}
+use Rattle.state.specs.NetworkModel.{modelOk, withRound}
+use Rattle.state.specs.Params.{paramsOk}
+use Rattle.state.specs.declared.congestion_event.MaybeLength.{MaybeLength}
+use Rattle.state.specs.declared.congestion_event.MaybeLength.the-variants.{Missing, Length}
+use Rattle.state.specs.declared.congestion_event.Record.{Record}
+use Rattle.state.specs.declared.congestion_event.Sample.{Sample}
+use Rattle.state.specs.declared.congestion_event.SendState.{SendState}
+use Rattle.state.specs.CongestionEvent.{recordOk, sampleOk}
+use Rattle.state.specs.Parts.{roundNew}
 
 -- "bytes acked and lost"
 abbrev pub bytesAcked : NetworkModel → Sample → ℕ
@@ -225,3 +185,11 @@ isFull m s acked = roundsFull (m .rounds) acked || (ltb 0 (bytesLost m s) && eqb
 
 unfoldable pub eventNumber : NetworkModel → Params → Record → Sample → List ℕ → ℕ
 eventNumber m p e s acked = rowOf (not (modelOk m && paramsOk p)) (not (recordOk e && sampleOk s)) (isBefore (e .time) (m .moment)) (isLower m s) (isFull m s acked)
+
+-- a call with a record, and one with the parameters too
+unfoldable pub recordNumber : NetworkModel → Record → ℕ
+recordNumber m e = rowOf (not (modelOk m)) (not (recordOk e)) false false false
+
+-- ---- on_congestion_event_finish: "The finish call clears the round's sums if the round ended"
+unfoldable pub finishNext : NetworkModel → Record → NetworkModel
+finishNext m e = cond (e .ended) (withRound m roundNew) m

@@ -1,4 +1,3 @@
--- What an event is, and what the calls that carry one must answer.
+-- What an event must leave.
 pub mod Event
-pub mod Judge
 pub mod Examples

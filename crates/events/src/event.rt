@@ -1,35 +1,36 @@
-// One event: its steps in document 01's order, and the call.
+// One event: its start, by steps in document 01's order, and its finish.
 ghost use mathlib.Core.Path.{_≡_};
 ghost use mathlib.Core.Bool.{true, false};
-ghost use Prim.Native.Nat.{ℕ, _+_, _-_, _^_, _<_};
+ghost use Prim.Native.Nat.{_+_, _-_, _^_, _<_};
 ghost use lib.Dec.{ltb, eqb};
-ghost use Rattle.filters.specs.Reply.{number};
-ghost use Rattle.filters.specs.RoundTripCounter.{roundsFull};
-ghost use Rattle.model.specs.Answers.{settled};
-ghost use Rattle.model.specs.Bounds.{modelOk};
-ghost use Rattle.events.specs.Event.{bytesAcked, bytesLost, limitedAfter, stateAfter, isChanged, mostAfter, bandwidthAfter, leastAfter, rttAfter, deliveredBy, roundAfter, raisedBandwidth, latestRaised, acts, seedOf, startOf, newestOf, lowerReduced, lowerAfter, latestAfter, recordOf, recordNext, mostNext, roundNext, lowerNext, modelOf, modelNext, isLower, isFull, eventNumber};
-use crate::record::MaybeLength;
-use crate::record::Record;
-use crate::record::Sample;
-use crate::record::SendState;
-use filters::Bandwidth;
+ghost use Rattle.units.specs.Reply.{number};
+ghost use Rattle.state.specs.Answers.{settled};
+ghost use Rattle.state.specs.NetworkModel.{modelOk};
+ghost use Rattle.events.specs.Event.{limitedAfter, stateAfter, isChanged, mostAfter, bandwidthAfter, leastAfter, rttAfter, deliveredBy, roundAfter, raisedBandwidth, latestRaised, seedOf, startOf, newestOf, lowerReduced, lowerAfter, latestAfter, recordOf, recordNext, mostNext, roundNext, lowerNext, modelOf, modelNext, isLower, isFull, eventNumber, recordNumber, finishNext};
 use filters::MaxBandwidthFilter;
 use filters::MinRttFilter;
-use filters::Moment;
-use filters::Reply;
 use filters::RoundTripCounter;
-use model::NetworkModel;
-use model::Params;
-use model::bounds::UNSET;
-use model::bounds::refusal;
-use model::state::Latest;
-use model::state::Lower;
-use model::state::MaybeBandwidth;
-use model::state::Rates;
-use model::state::Round;
 use numbers::larger;
 use numbers::less;
 use numbers::smaller;
+use state::NetworkModel;
+use state::Params;
+use state::bounds::UNSET;
+use state::bounds::refusal;
+use state::congestion_event::MaybeLength;
+use state::congestion_event::Record;
+use state::congestion_event::Sample;
+use state::congestion_event::SendState;
+use state::network_model::Changed;
+use state::parts::Latest;
+use state::parts::Lower;
+use state::parts::MaybeBandwidth;
+use state::parts::Rates;
+use state::parts::Round;
+use units::Bandwidth;
+use units::Moment;
+use units::Reply;
+use units::counter::FULL;
 
 pub struct Event {
     pub reply: Reply,
@@ -377,7 +378,7 @@ fn is_full(model: NetworkModel, sample: Sample, acked: &[u64]) -> bool
     let answer = rounds.on_packets_acked(acked);
     let reply = answer.reply;
     let lost = less(sample.totals.lost, model.totals.lost);
-    !reply.is_done() | ((0 < lost) & (model.round.losses == UNSET))
+    !reply.is_done() | ((0 < lost) & (model.round.losses == FULL))
 }
 
 fn event_reply(
@@ -446,4 +447,33 @@ pub fn start_tested(
         model: next,
         record,
     }
+}
+
+fn record_reply(model: NetworkModel, fine: bool, event: Record) -> Reply
+    requires { ⌜ fine ≡ modelOk model ⌝ }
+    ensures { λ r. ⌜ number r ≡ recordNumber model event ⌝ }
+{
+    refusal(!fine, !event.ok(), false, false, false)
+}
+
+// The event is over: the round's sums begin anew if it ended the round.
+pub fn on_congestion_event_finish(model: NetworkModel, event: Record) -> Changed
+    ensures reply { λ r. ⌜ number (r .reply) ≡ recordNumber model event ⌝ }
+    ensures model { λ r. ⌜ r .model ≡ settled (recordNumber model event) (finishNext model event) model ⌝ }
+{
+    finish_tested(model, model.ok(), event)
+}
+
+// The same, where it is known whether the model is within its bounds.
+pub fn finish_tested(model: NetworkModel, fine: bool, event: Record) -> Changed
+    requires { ⌜ fine ≡ modelOk model ⌝ }
+    ensures reply { λ r. ⌜ number (r .reply) ≡ recordNumber model event ⌝ }
+    ensures model { λ r. ⌜ r .model ≡ settled (recordNumber model event) (finishNext model event) model ⌝ }
+{
+    let reply = record_reply(model, fine, event);
+    let mut next = model;
+    if reply.is_done() & event.ended {
+        next.round = Round::new();
+    }
+    Changed { reply, model: next }
 }

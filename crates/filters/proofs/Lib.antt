@@ -1,2 +1,2 @@
--- Theorems about the contracts and the definitions.
+-- Laws, and theorems about the contracts.
 pub mod Determined

@@ -1,9 +1,8 @@
--- document 01, "Marked examples": 9 and 10, after those about the conversions. The list goes on in the crates above, where all of it has one proof.
+-- document 01, "Marked examples": 9 and 10, about the filters.
 use Prim.Native.Nat.{ℕ}
 use mathlib.Core.Bool.{Bool, true, false, _&&_}
-use mathlib.Core.List.{List, [], _∷_, _++_}
+use mathlib.Core.List.{List, [], _∷_}
 use lib.Dec.{eqb}
-use Rattle.numbers.specs.Examples.{conversions}
 use Rattle.filters.specs.declared.max_bandwidth_filter.MaxBandwidthFilter.{MaxBandwidthFilter}
 use Rattle.filters.specs.declared.windowed_filter.Held.{Held}
 use Rattle.filters.specs.declared.windowed_filter.Held.the-variants.{Empty, Full}
@@ -44,6 +43,3 @@ filterExamples =
     ∷ same (slots (maxAdvance (filter 9 0))) (9 ∷ 0 ∷ [])
     ∷ same (slots (maxAdvance (filter 9 4))) (4 ∷ 0 ∷ [])
     ∷ []
-
-unfoldable pub examples : List Bool
-examples = conversions ++ filterExamples

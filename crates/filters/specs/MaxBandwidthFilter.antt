@@ -1,9 +1,9 @@
 -- The max bandwidth filter: document 01, "Filters and rounds"; network_model.rs, MaxBandwidthFilter.
 use mathlib.Core.Bool.{cond}
 use lib.Dec.{eqb}
-use Rattle.filters.specs.declared.bandwidth.Bandwidth.{Bandwidth}
+use Rattle.units.specs.declared.bandwidth.Bandwidth.{Bandwidth}
 use Rattle.filters.specs.declared.max_bandwidth_filter.MaxBandwidthFilter.{MaxBandwidthFilter}
-use Rattle.filters.specs.Bandwidth.{largerOf}
+use Rattle.units.specs.Bandwidth.{largerOf}
 
 -- both slots are zero: network_model.rs, BBRv2NetworkModel::new
 abbrev pub maxNew : MaxBandwidthFilter

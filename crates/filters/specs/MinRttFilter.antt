@@ -2,8 +2,8 @@
 use mathlib.Core.Bool.{cond}
 use lib.Dec.{ltb}
 use Rattle.filters.specs.declared.min_rtt_filter.MinRttFilter.{MinRttFilter}
-use Rattle.filters.specs.declared.time.Duration.{Duration}
-use Rattle.filters.specs.declared.time.Moment.{Moment}
+use Rattle.units.specs.declared.time.Duration.{Duration}
+use Rattle.units.specs.declared.time.Moment.{Moment}
 
 -- a round trip with its moment: BBRv2NetworkModel::new, and force_update
 abbrev pub minForce : Duration → Moment → MinRttFilter

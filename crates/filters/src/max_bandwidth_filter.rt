@@ -1,5 +1,5 @@
 // The largest bandwidth of two spans of rounds.
-use crate::bandwidth::Bandwidth;
+use units::Bandwidth;
 ghost use mathlib.Core.Path.{_≡_};
 ghost use Rattle.filters.specs.MaxBandwidthFilter.{maxNew, maxGet, maxUpdate, maxAdvance};
 

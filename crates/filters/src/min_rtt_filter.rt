@@ -1,6 +1,6 @@
 // The smallest round trip seen, with its moment.
-use crate::time::Duration;
-use crate::time::Moment;
+use units::Duration;
+use units::Moment;
 ghost use mathlib.Core.Path.{_≡_};
 ghost use Rattle.filters.specs.MinRttFilter.{minForce, minUpdate};
 

@@ -1,8 +1,8 @@
 // Round trips, counted by packet numbers.
-use crate::reply::Reply;
-use crate::saturating;
+use units::Reply;
+use units::counter::FULL;
 ghost use mathlib.Core.Path.{_≡_};
-ghost use Rattle.filters.specs.Reply.{number};
+ghost use Rattle.units.specs.Reply.{number};
 ghost use Rattle.filters.specs.RoundTripCounter.{roundsNew, roundsSent, roundsRestart, isPast, endsRound, roundsNumber, roundsAcked, roundsEnded};
 
 // The last packet number of the present round, once it is set.
@@ -61,7 +61,7 @@ impl RoundTripCounter {
                 ended: false,
             };
         }
-        if self.count == saturating::MOST {
+        if self.count == FULL {
             return Acked {
                 reply: Reply::FullCounter,
                 counter: self,

@@ -1,7 +1,7 @@
 // The largest sample of a window of time, with two estimates to follow it.
-use crate::reply::Reply;
+use units::Reply;
 ghost use mathlib.Core.Path.{_≡_};
-ghost use Rattle.filters.specs.Reply.{number};
+ghost use Rattle.units.specs.Reply.{number};
 ghost use Rattle.filters.specs.WindowedFilter.{allThree, isOlder, lingers, isAfter, isReplaced, raised, shifted, renewed, aged, updated, windowedNew, windowedReset, bestOf, secondOf, thirdOf, windowedNumber, windowedUpdate};
 
 pub struct Sample {

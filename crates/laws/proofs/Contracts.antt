@@ -10,14 +10,14 @@ use denote.Floats.{passes}
 use denote.Laws.{Is}
 use denote.Struct.Declared.{row}
 use mir.Val.{Val}
-use Rattle.model.specs.declared.params.Params.{Params}
-use Rattle.model.specs.Answers.{settled}
-use Rattle.model.specs.Bounds.{modelOk}
-use Rattle.model.specs.Calls.{startModel}
-use Rattle.events.specs.Event.{recordOk}
-use Rattle.phases.specs.Cycle.{cycleOk, freshCycle}
-use Rattle.model.proofs.Rows.{and-both}
-use Rattle.model.proofs.params.Params as params
+use Rattle.state.specs.declared.params.Params.{Params}
+use Rattle.state.specs.Answers.{settled}
+use Rattle.state.specs.NetworkModel.{modelOk}
+use Rattle.state.specs.NetworkModel.{startModel}
+use Rattle.state.specs.CongestionEvent.{recordOk}
+use Rattle.state.specs.Cycle.{cycleOk, freshCycle}
+use Rattle.state.proofs.Rows.{and-both}
+use Rattle.state.proofs.params.Params as params
 use Rattle.laws.specs.Laws.{both, EveryCall}
 use Rattle.laws.proofs.Model as M
 use Rattle.laws.proofs.Events as N

@@ -10,33 +10,37 @@ use borrow.Author.Tests.{leb-true, le-leb, ltb-false, not-false}
 use Rattle.numbers.specs.Scaling.{scaled, scaledF64, complement, partsOf, Parts}
 use Rattle.numbers.proofs.ScaleLaws.{scale-bound, scale-f64-law}
 use Rattle.numbers.proofs.Complement.{complement-law}
-use Rattle.filters.specs.declared.bandwidth.Bandwidth.{Bandwidth}
+use Rattle.units.specs.declared.bandwidth.Bandwidth.{Bandwidth}
 use Rattle.filters.specs.declared.max_bandwidth_filter.MaxBandwidthFilter.{MaxBandwidthFilter}
 use Rattle.filters.specs.declared.min_rtt_filter.MinRttFilter.{MinRttFilter}
-use Rattle.filters.specs.declared.time.Moment.{Moment}
-use Rattle.filters.specs.Bandwidth.{largerOf, timesF32}
+use Rattle.units.specs.declared.time.Moment.{Moment}
+use Rattle.units.specs.Bandwidth.{largerOf, timesF32}
 use Rattle.filters.specs.MaxBandwidthFilter.{maxGet, maxUpdate}
 use Rattle.filters.specs.MinRttFilter.{minUpdate}
-use Rattle.model.specs.declared.network_model.NetworkModel.{NetworkModel}
-use Rattle.model.specs.declared.params.Params.{Params}
-use Rattle.model.specs.declared.state.Latest.{Latest}
-use Rattle.model.specs.declared.state.Lower.{Lower}
-use Rattle.model.specs.declared.state.MaybeBandwidth.{MaybeBandwidth}
-use Rattle.model.specs.declared.state.MaybeBandwidth.the-variants.{Unset, Set}
-use Rattle.model.specs.declared.state.Round.{Round}
-use Rattle.model.specs.declared.state.Totals.{Totals}
-use Rattle.model.specs.Bounds.{within, betaOk, bytesOk, bytesOrUnsetOk, totalOk, momentOk, lengthOk, bandwidthOk, maybeOk, mostOk, leastOk, roundOk, latestOk, lowerOk, totalsOk, modelTests, modelOk, paramsOk, gainOk}
-use Rattle.model.specs.Calls.{withRound, withLeast, withGrowth}
-use Rattle.model.specs.State.{roundNew}
+use Rattle.state.specs.declared.network_model.NetworkModel.{NetworkModel}
+use Rattle.state.specs.declared.params.Params.{Params}
+use Rattle.state.specs.declared.parts.Latest.{Latest}
+use Rattle.state.specs.declared.parts.Lower.{Lower}
+use Rattle.state.specs.declared.parts.MaybeBandwidth.{MaybeBandwidth}
+use Rattle.state.specs.declared.parts.MaybeBandwidth.the-variants.{Unset, Set}
+use Rattle.state.specs.declared.parts.Round.{Round}
+use Rattle.state.specs.declared.parts.Totals.{Totals}
+use Rattle.state.specs.Bounds.{within, bytesOk, bytesOrUnsetOk, totalOk, momentOk, lengthOk, bandwidthOk, maybeOk, gainOk}
+use Rattle.state.specs.Params.{betaOk, paramsOk}
+use Rattle.state.specs.Parts.{mostOk, leastOk, roundOk, latestOk, lowerOk, totalsOk}
+use Rattle.state.specs.NetworkModel.{modelTests, modelOk}
+use Rattle.state.specs.NetworkModel.{withRound, withLeast, withGrowth}
+use Rattle.state.specs.Parts.{roundNew}
 use Rattle.laws.proofs.Model.{round-new-ok}
-use Rattle.model.proofs.Rows.{none, row-stored, row-argument, and-left, and-right, and-both, or-left, or-right, all-at, all-put}
-use Rattle.events.specs.declared.record.MaybeLength.{MaybeLength}
-use Rattle.events.specs.declared.record.MaybeLength.the-variants.{Missing, Length}
-use Rattle.events.specs.declared.record.Record.{Record}
-use Rattle.events.specs.declared.record.Sample.{Sample}
-use Rattle.events.specs.declared.record.SendState.{SendState}
+use Rattle.state.proofs.Rows.{none, row-stored, row-argument, and-left, and-right, and-both, or-left, or-right, all-at, all-put}
+use Rattle.state.specs.declared.congestion_event.MaybeLength.{MaybeLength}
+use Rattle.state.specs.declared.congestion_event.MaybeLength.the-variants.{Missing, Length}
+use Rattle.state.specs.declared.congestion_event.Record.{Record}
+use Rattle.state.specs.declared.congestion_event.Sample.{Sample}
+use Rattle.state.specs.declared.congestion_event.SendState.{SendState}
 use Rattle.events.specs.Event as E
-use Rattle.events.specs.Judge as J
+use Rattle.state.specs.CongestionEvent as H
+use Rattle.judge.specs.Judge as J
 
 -- a test holds of both arms
 arms : {A : Type 0} (ok : A → Bool) (t : Bool) (x y : A) → ok x ≡ true → ok y ≡ true → ok (cond t x y) ≡ true
@@ -54,7 +58,7 @@ most-kept f (Set b) c l h k =
     arms mostOk (c && (not l || ltb (maxGet f .0) (b .0))) (maxUpdate f b) f
     (and-both (bandwidthOk (f .slot0)) (leb (max (f .slot1 .0) (b .0)) (2 ^ 40)) (and-left (bandwidthOk (f .slot0)) (bandwidthOk (f .slot1)) h) (larger-ok (f .slot1 .0) (b .0) (2 ^ 40) (and-right (bandwidthOk (f .slot0)) (bandwidthOk (f .slot1)) h) k)) h
 
-least-kept : (f : MinRttFilter) (r : MaybeLength) (now : Moment) → leastOk f ≡ true → E.maybeLengthOk r ≡ true → momentOk now ≡ true → leastOk (E.leastAfter f r now) ≡ true
+least-kept : (f : MinRttFilter) (r : MaybeLength) (now : Moment) → leastOk f ≡ true → H.maybeLengthOk r ≡ true → momentOk now ≡ true → leastOk (E.leastAfter f r now) ≡ true
 unfolding minUpdate
 least-kept f Missing now h k t = h
 least-kept f (Length d) now h k t = arms leastOk (ltb (d .0) (f .rtt .0)) (record { rtt = d; timestamp = now }) f (and-both (lengthOk d) (momentOk now) k t) h
@@ -205,13 +209,13 @@ module _ (m : NetworkModel) (p : Params) (e : Record) (s : Sample) (acked : List
   unfolding E.eventNumber
   event-params = and-right (modelOk m) (paramsOk p) (not-false (modelOk m && paramsOk p) (none _ _ _ _ _ N .stored-fine))
 
-  event-record : E.recordOk e ≡ true
+  event-record : H.recordOk e ≡ true
   unfolding E.eventNumber
-  event-record = and-left (E.recordOk e) (E.sampleOk s) (not-false (E.recordOk e && E.sampleOk s) (none _ _ _ _ _ N .argument-fine))
+  event-record = and-left (H.recordOk e) (H.sampleOk s) (not-false (H.recordOk e && H.sampleOk s) (none _ _ _ _ _ N .argument-fine))
 
-  pub event-sample : E.sampleOk s ≡ true
+  pub event-sample : H.sampleOk s ≡ true
   unfolding E.eventNumber
-  event-sample = and-right (E.recordOk e) (E.sampleOk s) (not-false (E.recordOk e && E.sampleOk s) (none _ _ _ _ _ N .argument-fine))
+  event-sample = and-right (H.recordOk e) (H.sampleOk s) (not-false (H.recordOk e && H.sampleOk s) (none _ _ _ _ _ N .argument-fine))
 
   acked-up : m .totals .acked ≤ s .totals .acked
   unfolding E.eventNumber
@@ -225,85 +229,85 @@ module _ (m : NetworkModel) (p : Params) (e : Record) (s : Sample) (acked : List
   after = E.recordNext m e s acked
 
   inflight-ok : bytesOk (e .prior - E.bytesAcked m s - E.bytesLost m s) ≡ true
-  unfolding E.recordTests
-  inflight-ok = less-ok (e .prior - E.bytesAcked m s) (E.bytesLost m s) (2 ^ 40) (less-ok (e .prior) (E.bytesAcked m s) (2 ^ 40) (all-at (E.recordTests e) 2 event-record))
+  unfolding H.recordTests
+  inflight-ok = less-ok (e .prior - E.bytesAcked m s) (E.bytesLost m s) (2 ^ 40) (less-ok (e .prior) (E.bytesAcked m s) (2 ^ 40) (all-at (H.recordTests e) 2 event-record))
 
-  pub event-record-kept : E.recordOk (E.recordNext m e s acked) ≡ true
-  unfolding E.recordTests E.sampleTests E.recordNext E.recordOf E.stateAfter
+  pub event-record-kept : H.recordOk (E.recordNext m e s acked) ≡ true
+  unfolding H.recordTests H.sampleTests E.recordNext E.recordOf E.stateAfter
   event-record-kept =
-      let totals : totalsOk (s .totals) ≡ true = all-at (E.sampleTests s) 7 event-sample in
+      let totals : totalsOk (s .totals) ≡ true = all-at (H.sampleTests s) 7 event-sample in
       simp (
-        all-at (E.recordTests e) 0 event-record,
-        all-at (E.recordTests e) 1 event-record,
-        all-at (E.recordTests e) 2 event-record,
+        all-at (H.recordTests e) 0 event-record,
+        all-at (H.recordTests e) 1 event-record,
+        all-at (H.recordTests e) 2 event-record,
         inflight-ok,
         less-ok (s .totals .acked) (m .totals .acked) (2 ^ 62) (and-left (totalOk (s .totals .acked)) (totalOk (s .totals .lost)) totals),
         less-ok (s .totals .lost) (m .totals .lost) (2 ^ 62) (and-right (totalOk (s .totals .acked)) (totalOk (s .totals .lost)) totals),
-        bandwidth (s .bandwidth) (all-at (E.sampleTests s) 0 event-sample),
-        rtt (s .rtt) (all-at (E.sampleTests s) 3 event-sample),
-        arms E.stateOk (s .state .valid) (s .state) (e .state) (all-at (E.sampleTests s) 6 event-sample) (all-at (E.recordTests e) 8 event-record),
+        bandwidth (s .bandwidth) (all-at (H.sampleTests s) 0 event-sample),
+        rtt (s .rtt) (all-at (H.sampleTests s) 3 event-sample),
+        arms H.stateOk (s .state .valid) (s .state) (e .state) (all-at (H.sampleTests s) 6 event-sample) (all-at (H.recordTests e) 8 event-record),
       )
     where
       bandwidth : (x : MaybeBandwidth) → maybeOk x ≡ true → maybeOk (E.bandwidthAfter (e .bandwidth) x (E.isChanged m s)) ≡ true
-      bandwidth Unset h = all-at (E.recordTests e) 6 event-record
-      bandwidth (Set b) h = arms maybeOk (E.isChanged m s) (Set b) (e .bandwidth) h (all-at (E.recordTests e) 6 event-record)
+      bandwidth Unset h = all-at (H.recordTests e) 6 event-record
+      bandwidth (Set b) h = arms maybeOk (E.isChanged m s) (Set b) (e .bandwidth) h (all-at (H.recordTests e) 6 event-record)
 
-      rtt : (x : MaybeLength) → E.maybeLengthOk x ≡ true → E.maybeLengthOk (E.rttAfter (e .rtt) x) ≡ true
-      rtt Missing h = all-at (E.recordTests e) 7 event-record
+      rtt : (x : MaybeLength) → H.maybeLengthOk x ≡ true → H.maybeLengthOk (E.rttAfter (e .rtt) x) ≡ true
+      rtt Missing h = all-at (H.recordTests e) 7 event-record
       rtt (Length d) h = h
 
   pub event-model-kept : T (fits binary32 (p .beta)) → modelOk (E.modelNext m p e s acked) ≡ true
-  unfolding modelTests E.recordTests E.sampleTests E.modelNext E.modelOf E.recordNext E.recordOf E.mostNext E.roundNext E.lowerNext
+  unfolding modelTests H.recordTests H.sampleTests E.modelNext E.modelOf E.recordNext E.recordOf E.mostNext E.roundNext E.lowerNext
   event-model-kept fit =
-      let bandwidth = all-at (E.sampleTests s) 0 event-sample in
-      let inflight = all-at (E.sampleTests s) 4 event-sample in
-      let totals = all-at (E.sampleTests s) 7 event-sample in
+      let bandwidth = all-at (H.sampleTests s) 0 event-sample in
+      let inflight = all-at (H.sampleTests s) 4 event-sample in
+      let totals = all-at (H.sampleTests s) 7 event-sample in
       let most = most-kept (m .most) (s .bandwidth) (E.isChanged m s) (s .limited) (all-at (modelTests m) 0 event-model) bandwidth in
       let raised = raised-kept (m .latest) s (all-at (modelTests m) 3 event-model) bandwidth inflight in
       simp (
         most,
-        least-kept (m .least) (s .rtt) (e .time) (all-at (modelTests m) 1 event-model) (all-at (E.sampleTests s) 3 event-sample) (all-at (E.recordTests e) 0 event-record),
+        least-kept (m .least) (s .rtt) (e .time) (all-at (modelTests m) 1 event-model) (all-at (H.sampleTests s) 3 event-sample) (all-at (H.recordTests e) 0 event-record),
         round-kept (m .round) (m .totals) (s .totals) (E.deliveredBy (after .state) (E.bytesAcked m s) (s .totals .acked)) (e .prior - E.bytesAcked m s - E.bytesLost m s) (all-at (modelTests m) 2 event-model) totals acked-up lost-up (delivered-le (after .state) (E.bytesAcked m s) (s .totals .acked)) inflight-ok,
         latest-kept (E.latestRaised (m .latest) s) (after .ended) s raised bandwidth inflight,
-        lower-kept (m .lower) (E.acts (after .ended) (after .probing) (E.roundNext m after s .lost)) (maxGet (E.mostNext m s)) (E.latestRaised (m .latest) s) (e .window) (p .beta) (beta-parts p fit event-params) (all-at (modelTests m) 4 event-model) (most-max (E.mostNext m s) most) raised (all-at (E.recordTests e) 1 event-record),
+        lower-kept (m .lower) (E.acts (after .ended) (after .probing) (E.roundNext m after s .lost)) (maxGet (E.mostNext m s)) (E.latestRaised (m .latest) s) (e .window) (p .beta) (beta-parts p fit event-params) (all-at (modelTests m) 4 event-model) (most-max (E.mostNext m s) most) raised (all-at (H.recordTests e) 1 event-record),
         all-at (modelTests m) 5 event-model,
         all-at (modelTests m) 6 event-model,
         all-at (modelTests m) 7 event-model,
-        and-both (maybeOk (s .send)) (maybeOk (s .ack)) (all-at (E.sampleTests s) 1 event-sample) (all-at (E.sampleTests s) 2 event-sample),
+        and-both (maybeOk (s .send)) (maybeOk (s .ack)) (all-at (H.sampleTests s) 1 event-sample) (all-at (H.sampleTests s) 2 event-sample),
         totals,
-        all-at (E.recordTests e) 0 event-record,
+        all-at (H.recordTests e) 0 event-record,
       )
 
 -- ---- the calls that judge the round
-judged : (m : NetworkModel) (p : Params) (e : Record) (full : Bool) → J.judgedNumber m p e full ≡ 0 → (modelOk m ≡ true) × (E.recordOk e ≡ true)
+judged : (m : NetworkModel) (p : Params) (e : Record) (full : Bool) → J.judgedNumber m p e full ≡ 0 → (modelOk m ≡ true) × (H.recordOk e ≡ true)
 unfolding J.judgedNumber
 judged m p e full h =
-    (and-left (modelOk m) (paramsOk p) (row-stored (modelOk m && paramsOk p) (not (E.recordOk e)) false false full h), row-argument (not (modelOk m && paramsOk p)) (E.recordOk e) false false full h)
+    (and-left (modelOk m) (paramsOk p) (row-stored (modelOk m && paramsOk p) (not (H.recordOk e)) false false full h), row-argument (not (modelOk m && paramsOk p)) (H.recordOk e) false false full h)
 
-pub finish-kept : (m : NetworkModel) (e : Record) → J.recordNumber m e ≡ 0 → modelOk (J.finishNext m e) ≡ true
-unfolding modelTests J.recordNumber J.finishNext withRound
+pub finish-kept : (m : NetworkModel) (e : Record) → E.recordNumber m e ≡ 0 → modelOk (E.finishNext m e) ≡ true
+unfolding modelTests E.recordNumber E.finishNext withRound
 finish-kept m e done = go (e .ended)
   where
     h : modelOk m ≡ true
-    h = row-stored (modelOk m) (not (E.recordOk e)) false false false done
+    h = row-stored (modelOk m) (not (H.recordOk e)) false false false done
 
     go : (t : Bool) → modelOk (cond t (withRound m roundNew) m) ≡ true
     go true = all-put (modelTests m) 2 (roundOk roundNew (m .totals)) h (round-new-ok (m .totals))
     go false = h
 
 pub expire-kept : (m : NetworkModel) (p : Params) (e : Record) → J.judgedNumber m p e false ≡ 0 → modelOk (J.expireNext m p e) ≡ true
-unfolding modelTests E.recordTests J.expireNext withLeast
-expire-kept m p e done = all-put (modelTests m) 1 (leastOk (J.leastExpired (e .rtt) (e .time) (m .least) (p .period))) h (go (e .rtt) (all-at (E.recordTests e) 7 k))
+unfolding modelTests H.recordTests J.expireNext withLeast
+expire-kept m p e done = all-put (modelTests m) 1 (leastOk (J.leastExpired (e .rtt) (e .time) (m .least) (p .period))) h (go (e .rtt) (all-at (H.recordTests e) 7 k))
   where
     h : modelOk m ≡ true
     h = judged m p e false done .0
 
-    k : E.recordOk e ≡ true
+    k : H.recordOk e ≡ true
     k = judged m p e false done .1
 
-    go : (x : MaybeLength) → E.maybeLengthOk x ≡ true → leastOk (J.leastExpired x (e .time) (m .least) (p .period)) ≡ true
+    go : (x : MaybeLength) → H.maybeLengthOk x ≡ true → leastOk (J.leastExpired x (e .time) (m .least) (p .period)) ≡ true
     go Missing l = all-at (modelTests m) 1 h
-    go (Length d) l = arms leastOk (J.isDue (e .time) (m .least) (p .period)) (record { rtt = d; timestamp = e .time }) (m .least) (and-both (lengthOk d) (momentOk (e .time)) l (all-at (E.recordTests e) 0 k)) (all-at (modelTests m) 1 h)
+    go (Length d) l = arms leastOk (J.isDue (e .time) (m .least) (p .period)) (record { rtt = d; timestamp = e .time }) (m .least) (and-both (lengthOk d) (momentOk (e .time)) l (all-at (H.recordTests e) 0 k)) (all-at (modelTests m) 1 h)
 
 pub growth-kept : (m : NetworkModel) (p : Params) (e : Record) → J.judgedNumber m p e (J.growthFull m p e) ≡ 0 → modelOk (J.growthNext m p e) ≡ true
 unfolding modelTests J.growthNext withGrowth J.growthAfter J.growthFlat

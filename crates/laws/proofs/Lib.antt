@@ -5,3 +5,4 @@ pub mod Tested
 pub mod Phases
 pub mod Contracts
 pub mod Replies
+pub mod Examples

@@ -9,18 +9,22 @@ use native.Mathlib.Omega.{arith}
 use borrow.Author.Tests.{leb-true, leb-false, le-leb}
 use Rattle.filters.specs.declared.max_bandwidth_filter.MaxBandwidthFilter.{MaxBandwidthFilter}
 use lib.Ieee.{Float}
-use Rattle.filters.specs.declared.time.Duration.{Duration}
-use Rattle.filters.specs.declared.time.Moment.{Moment}
+use Rattle.units.specs.declared.time.Duration.{Duration}
+use Rattle.units.specs.declared.time.Moment.{Moment}
 use Rattle.filters.specs.MaxBandwidthFilter.{maxAdvance}
-use Rattle.filters.specs.Time.{isBefore}
-use Rattle.model.specs.declared.network_model.NetworkModel.{NetworkModel}
-use Rattle.model.specs.declared.state.Lower.{Lower}
-use Rattle.model.specs.declared.state.Totals.{Totals}
-use Rattle.model.specs.Bounds.{bytesOk, bytesOrUnsetOk, totalOk, lengthOk, betaOk, fractionOk, thresholdOk, gainOk, bandwidthOk, maybeOk, mostOk, roundOk, lowerOk, momentOk, modelTests, modelOk, paramsOk}
-use Rattle.model.specs.declared.params.Params.{Params}
-use Rattle.model.specs.Calls.{withMost, withRounds, withRound, withLower, withGrowth, withMoment, withHigh, withGains, withLeast, growthRestarted, modelNew, startNumber, storedNumber, givenNumber, sentNumber, sentNext, reachedNext, pacingNext, cwndNext, postponed, postponeNumber, postponeNext, restartNext, capNext, clearInflightNext, clearBandwidthNext, advanceNext}
-use Rattle.model.specs.State.{roundNew, roundSent, lowerCapped}
-use Rattle.model.proofs.Rows.{and-left, and-right, and-both, all-at, all-put, row-stored, row-argument}
+use Rattle.units.specs.Time.{isBefore}
+use Rattle.state.specs.declared.network_model.NetworkModel.{NetworkModel}
+use Rattle.state.specs.declared.parts.Lower.{Lower}
+use Rattle.state.specs.declared.parts.Totals.{Totals}
+use Rattle.state.specs.Bounds.{bytesOk, bytesOrUnsetOk, totalOk, lengthOk, fractionOk, gainOk, bandwidthOk, maybeOk, momentOk}
+use Rattle.state.specs.Params.{betaOk, thresholdOk, paramsOk}
+use Rattle.state.specs.Parts.{mostOk, roundOk, lowerOk}
+use Rattle.state.specs.NetworkModel.{modelTests, modelOk}
+use Rattle.state.specs.declared.params.Params.{Params}
+use Rattle.state.specs.NetworkModel.{withMost, withRounds, withRound, withLower, withGrowth, withMoment, withHigh, withGains, withLeast, growthRestarted, modelNew, startNumber, storedNumber, givenNumber, restartNext, capNext, clearInflightNext, clearBandwidthNext, advanceNext}
+use Rattle.changes.specs.Changes.{sentNumber, sentNext, reachedNext, pacingNext, cwndNext, postponed, postponeNumber, postponeNext}
+use Rattle.state.specs.Parts.{roundNew, roundSent, lowerCapped}
+use Rattle.state.proofs.Rows.{and-left, and-right, and-both, all-at, all-put, row-stored, row-argument}
 
 -- ---- the parts
 pub round-new-ok : (t : Totals) → roundOk roundNew t ≡ true

@@ -6,20 +6,23 @@ use native.Mathlib.Nat.{div-le-self}
 use native.Mathlib.Omega.{arith}
 use lib.ListN.{set}
 use borrow.Author.Tests.{leb-true, le-leb}
-use Rattle.filters.specs.declared.time.Moment.{Moment}
-use Rattle.model.specs.declared.network_model.NetworkModel.{NetworkModel}
-use Rattle.model.specs.declared.params.Params.{Params}
-use Rattle.model.specs.Bounds.{modelOk, paramsOk, momentOk, bytesOk}
-use Rattle.model.specs.Calls.{restartNext, clearInflightNext, clearBandwidthNext, advanceNext}
-use Rattle.phases.specs.declared.cycle.Cycle.{Cycle}
-use Rattle.phases.specs.declared.cycle.CyclePhase.{CyclePhase}
-use Rattle.phases.specs.declared.cycle.CyclePhase.the-variants.{Up, Cruise, Refill}
-use Rattle.phases.specs.declared.cycle.MaybeLength.the-variants.{Length}
-use Rattle.phases.specs.Cycle.{waitOk, roundsOk, cycleTests, cycleOk, cycleNew, freshNumber, stayFrom, nextRounds, upBytes, slopeRaised}
+use Rattle.units.specs.declared.time.Moment.{Moment}
+use Rattle.state.specs.declared.network_model.NetworkModel.{NetworkModel}
+use Rattle.state.specs.declared.params.Params.{Params}
+use Rattle.state.specs.NetworkModel.{modelOk}
+use Rattle.state.specs.Params.{paramsOk}
+use Rattle.state.specs.Bounds.{momentOk, bytesOk}
+use Rattle.state.specs.NetworkModel.{restartNext, clearInflightNext, clearBandwidthNext, advanceNext}
+use Rattle.state.specs.declared.cycle.Cycle.{Cycle}
+use Rattle.state.specs.declared.cycle.CyclePhase.{CyclePhase}
+use Rattle.state.specs.declared.cycle.CyclePhase.the-variants.{Up, Cruise, Refill}
+use Rattle.state.specs.declared.cycle.MaybeLength.the-variants.{Length}
+use Rattle.state.specs.Cycle.{waitOk, roundsOk, cycleTests, cycleOk, cycleNew, freshNumber, stayFrom}
+use Rattle.phases.specs.Slope.{nextRounds, upBytes, slopeRaised}
 use Rattle.phases.specs.Phases.{restartedAt, isDown, exitNumber, exitModel, exitCycle, leftModel, leftCycle, slopeNumber, slopeCycle, downNumber, downCycle, cycleIn, cappedByHigh, cruiseNumber, cruiseModel, cruiseCycle, refillNumber, refillModel, refilled, refillCycle, upNumber, upCycle}
 use Rattle.phases.proofs.Accepted as accepted
 use Rattle.laws.proofs.Model.{high-ok, moment-kept, restart-kept, cap-kept, clear-inflight-kept, clear-bandwidth-kept, advance-kept}
-use Rattle.model.proofs.Rows.{all-put, row-argument}
+use Rattle.state.proofs.Rows.{all-put, row-argument}
 
 -- ---- the steps of the model keep its bounds
 pub restarted-kept : (m : NetworkModel) (now : Moment) → modelOk m ≡ true → momentOk now ≡ true → modelOk (restartedAt m now) ≡ true

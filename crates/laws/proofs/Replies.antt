@@ -4,17 +4,19 @@ use mathlib.Core.Bool.{Bool, true, false, cond, not, _&&_}
 use mathlib.Core.Path.{_≡_, refl, sym, subst, _∙_}
 use borrow.Author.Tests.{eq-eqb, ne-eqb}
 use denote.Ref.{now}
-use Rattle.filters.specs.declared.reply.Reply.{Reply}
-use Rattle.filters.specs.Reply.{number}
+use Rattle.units.specs.declared.reply.Reply.{Reply}
+use Rattle.units.specs.Reply.{number}
 use Rattle.filters.specs.RoundTripCounter.{endsRound, roundsFull, roundsNumber, roundsEnded, roundsAcked}
 use Rattle.filters.specs.WindowedFilter.{isAfter, windowedNumber, windowedUpdate}
-use Rattle.model.specs.Answers.{settled}
-use Rattle.model.specs.Bounds.{rowOf}
-use Rattle.model.specs.Calls.{startNumber, startModel, storedNumber, givenNumber, sentNumber, postponeNumber, headroomNumber}
-use Rattle.model.proofs.Rows.{None}
+use Rattle.state.specs.Answers.{settled}
+use Rattle.state.specs.Bounds.{rowOf}
+use Rattle.state.specs.NetworkModel.{startNumber, startModel, storedNumber, givenNumber, headroomNumber}
+use Rattle.changes.specs.Changes.{sentNumber, postponeNumber}
+use Rattle.state.proofs.Rows.{None}
 use Rattle.events.specs.Event.{isFull, eventNumber}
-use Rattle.events.specs.Judge.{recordNumber, judgedNumber, growthFull, queueNumber}
-use Rattle.phases.specs.Cycle.{freshNumber, freshCycle}
+use Rattle.events.specs.Event.{recordNumber}
+use Rattle.judge.specs.Judge.{judgedNumber, growthFull, queueNumber}
+use Rattle.state.specs.Cycle.{freshNumber, freshCycle}
 use Rattle.phases.specs.Phases.{entryNumber, exitNumber, slopeNumber}
 use Rattle.laws.specs.Replies.{rows, Exactly, Answered, isMost, EveryAnswer, EveryChange, EveryEvent, EveryPhase, EveryFilter, EveryReply}
 use Rattle.laws.proofs.Contracts.{settled-both}

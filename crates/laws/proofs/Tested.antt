@@ -6,18 +6,20 @@ use mathlib.Core.Path.{_≡_, refl, sym, _∙_}
 use lib.Dec.{T, eqb}
 use lib.Ieee.{binary32, fits}
 use borrow.Author.Tests.{eqb-true}
-use Rattle.filters.specs.declared.time.Moment.{Moment}
-use Rattle.filters.specs.Time.{isBefore}
-use Rattle.model.specs.declared.network_model.NetworkModel.{NetworkModel}
-use Rattle.model.specs.declared.params.Params.{Params}
-use Rattle.model.specs.Answers.{settled}
-use Rattle.model.specs.Bounds.{bytesOk, momentOk, modelOk}
-use Rattle.model.specs.Calls.{sentNumber, sentNext}
-use Rattle.model.proofs.Rows.{row-stored}
-use Rattle.events.specs.declared.record.Record.{Record}
-use Rattle.events.specs.declared.record.Sample.{Sample}
-use Rattle.events.specs.Event.{recordOk, eventNumber, modelNext}
-use Rattle.events.specs.Judge.{recordNumber, finishNext}
+use Rattle.units.specs.declared.time.Moment.{Moment}
+use Rattle.units.specs.Time.{isBefore}
+use Rattle.state.specs.declared.network_model.NetworkModel.{NetworkModel}
+use Rattle.state.specs.declared.params.Params.{Params}
+use Rattle.state.specs.Answers.{settled}
+use Rattle.state.specs.Bounds.{bytesOk, momentOk}
+use Rattle.state.specs.NetworkModel.{modelOk}
+use Rattle.changes.specs.Changes.{sentNumber, sentNext}
+use Rattle.state.proofs.Rows.{row-stored}
+use Rattle.state.specs.declared.congestion_event.Record.{Record}
+use Rattle.state.specs.declared.congestion_event.Sample.{Sample}
+use Rattle.state.specs.CongestionEvent.{recordOk}
+use Rattle.events.specs.Event.{eventNumber, modelNext}
+use Rattle.events.specs.Event.{recordNumber, finishNext}
 use Rattle.laws.proofs.Model.{sent-kept}
 use Rattle.laws.proofs.Events.{event-model, event-model-kept, finish-kept}
 

@@ -6,25 +6,26 @@ use mathlib.Core.List.{List}
 use mathlib.Core.Path.{_≡_}
 use contract.Lifetimes.{Lfts}
 use borrow.Fn.Kinds.{PK, Dens, GoodsP}
-use Rattle.filters.specs.declared.reply.Reply.{Reply}
-use Rattle.filters.specs.Reply.{number}
-use Rattle.model.specs.declared.network_model.NetworkModel.{NetworkModel}
-use Rattle.model.specs.declared.network_model.Changed.{Changed}
-use Rattle.model.specs.Answers.{noLength, noMoment}
-use Rattle.model.specs.Bounds.{modelOk}
-use Rattle.model.specs.Calls.{modelNew, one}
-use Rattle.events.specs.declared.record.Record.{Record}
+use Rattle.units.specs.declared.reply.Reply.{Reply}
+use Rattle.units.specs.Reply.{number}
+use Rattle.state.specs.declared.network_model.NetworkModel.{NetworkModel}
+use Rattle.state.specs.declared.network_model.Changed.{Changed}
+use Rattle.state.specs.Answers.{noLength, noMoment}
+use Rattle.state.specs.NetworkModel.{modelOk}
+use Rattle.state.specs.NetworkModel.{modelNew, one}
+use Rattle.state.specs.declared.congestion_event.Record.{Record}
 use Rattle.events.specs.declared.event.Event.{Event}
-use Rattle.events.specs.declared.judge.Decided.{Decided}
-use Rattle.events.specs.Event.{recordOk}
-use Rattle.phases.specs.declared.cycle.Cycle.{Cycle}
-use Rattle.phases.specs.declared.cycle.Turned.{Turned}
+use Rattle.judge.specs.declared.judge.Decided.{Decided}
+use Rattle.state.specs.CongestionEvent.{recordOk}
+use Rattle.state.specs.declared.cycle.Cycle.{Cycle}
+use Rattle.state.specs.declared.cycle.Turned.{Turned}
 use Rattle.phases.specs.declared.phases.Entered.{Entered}
-use Rattle.phases.specs.Cycle.{cycleOk, cycleNew}
-use Rattle.model.proofs.network_model.NetworkModel as model
+use Rattle.state.specs.Cycle.{cycleOk, cycleNew}
+use Rattle.state.proofs.network_model.NetworkModel as model
+use Rattle.changes.proofs.changes as changes
 use Rattle.events.proofs.event as event
-use Rattle.events.proofs.judge as judge
-use Rattle.phases.proofs.cycle.Cycle as cycle
+use Rattle.judge.proofs.judge as judge
+use Rattle.state.proofs.cycle.Cycle as cycle
 use Rattle.phases.proofs.phases as phases
 
 -- A refused call leaves what it was given; a call that is done leaves what is within its bounds. `left` picks from a reply what the call leaves, `given` from the arguments what it was given.
@@ -57,18 +58,18 @@ CycleKeeps ps learnt given = Keeps ps learnt (λ x. x .reply) (λ x. x .cycle) g
 pub record EveryCall : Type 0 where
   -- a refused start leaves document 01's fresh model
   pub start : ModelKeeps model.new.Kinds.ps model.new.Reads.Learnt (λ κs a. modelNew one one false noLength noMoment)
-  pub sent : ModelKeeps model.on_packet_sent.Kinds.ps model.on_packet_sent.Reads.Learnt (λ κs a. a .0)
-  pub restart : ModelKeeps model.restart_round_early.Kinds.ps model.restart_round_early.Reads.Learnt (λ κs a. a .0)
-  pub reached : ModelKeeps model.set_full_bandwidth_reached.Kinds.ps model.set_full_bandwidth_reached.Reads.Learnt (λ κs a. a .0)
-  pub pacing : ModelKeeps model.set_pacing_gain.Kinds.ps model.set_pacing_gain.Reads.Learnt (λ κs a. a .0)
-  pub cwnd : ModelKeeps model.set_cwnd_gain.Kinds.ps model.set_cwnd_gain.Reads.Learnt (λ κs a. a .0)
-  pub high : ModelKeeps model.set_inflight_hi.Kinds.ps model.set_inflight_hi.Reads.Learnt (λ κs a. a .0)
-  pub cap : ModelKeeps model.cap_inflight_lo.Kinds.ps model.cap_inflight_lo.Reads.Learnt (λ κs a. a .0)
-  pub clearInflight : ModelKeeps model.clear_inflight_lo.Kinds.ps model.clear_inflight_lo.Reads.Learnt (λ κs a. a .0)
-  pub clearBandwidth : ModelKeeps model.clear_bandwidth_lo.Kinds.ps model.clear_bandwidth_lo.Reads.Learnt (λ κs a. a .0)
-  pub advance : ModelKeeps model.advance_max_bandwidth_filter.Kinds.ps model.advance_max_bandwidth_filter.Reads.Learnt (λ κs a. a .0)
-  pub postpone : ModelKeeps model.postpone_min_rtt_timestamp.Kinds.ps model.postpone_min_rtt_timestamp.Reads.Learnt (λ κs a. a .0)
-  pub finish : ModelKeeps judge.on_congestion_event_finish.Kinds.ps judge.on_congestion_event_finish.Reads.Learnt (λ κs a. a .0)
+  pub sent : ModelKeeps changes.on_packet_sent.Kinds.ps changes.on_packet_sent.Reads.Learnt (λ κs a. a .0)
+  pub restart : ModelKeeps changes.restart_round_early.Kinds.ps changes.restart_round_early.Reads.Learnt (λ κs a. a .0)
+  pub reached : ModelKeeps changes.set_full_bandwidth_reached.Kinds.ps changes.set_full_bandwidth_reached.Reads.Learnt (λ κs a. a .0)
+  pub pacing : ModelKeeps changes.set_pacing_gain.Kinds.ps changes.set_pacing_gain.Reads.Learnt (λ κs a. a .0)
+  pub cwnd : ModelKeeps changes.set_cwnd_gain.Kinds.ps changes.set_cwnd_gain.Reads.Learnt (λ κs a. a .0)
+  pub high : ModelKeeps changes.set_inflight_hi.Kinds.ps changes.set_inflight_hi.Reads.Learnt (λ κs a. a .0)
+  pub cap : ModelKeeps changes.cap_inflight_lo.Kinds.ps changes.cap_inflight_lo.Reads.Learnt (λ κs a. a .0)
+  pub clearInflight : ModelKeeps changes.clear_inflight_lo.Kinds.ps changes.clear_inflight_lo.Reads.Learnt (λ κs a. a .0)
+  pub clearBandwidth : ModelKeeps changes.clear_bandwidth_lo.Kinds.ps changes.clear_bandwidth_lo.Reads.Learnt (λ κs a. a .0)
+  pub advance : ModelKeeps changes.advance_max_bandwidth_filter.Kinds.ps changes.advance_max_bandwidth_filter.Reads.Learnt (λ κs a. a .0)
+  pub postpone : ModelKeeps changes.postpone_min_rtt_timestamp.Kinds.ps changes.postpone_min_rtt_timestamp.Reads.Learnt (λ κs a. a .0)
+  pub finish : ModelKeeps event.on_congestion_event_finish.Kinds.ps event.on_congestion_event_finish.Reads.Learnt (λ κs a. a .0)
   pub queue : ModelKeeps judge.check_persistent_queue.Kinds.ps judge.check_persistent_queue.Reads.Learnt (λ κs a. a .0)
   pub expire : DecidedKeeps judge.maybe_expire_min_rtt.Kinds.ps judge.maybe_expire_min_rtt.Reads.Learnt (λ κs a. a .0)
   pub growth : DecidedKeeps judge.has_bandwidth_growth.Kinds.ps judge.has_bandwidth_growth.Reads.Learnt (λ κs a. a .0)

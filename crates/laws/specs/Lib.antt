@@ -1,3 +1,4 @@
 -- The laws of all calls, as statements.
+pub mod Examples
 pub mod Laws
 pub mod Replies

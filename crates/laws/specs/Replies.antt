@@ -20,35 +20,43 @@ use mathlib.Core.Path.{_≡_}
 use lib.Dec.{ltb, eqb}
 use lib.Ieee.{Float}
 use denote.Ref.{now}
-use Rattle.filters.specs.declared.bandwidth.Bandwidth.{Bandwidth}
-use Rattle.filters.specs.declared.reply.Reply.{Reply}
+use Rattle.units.specs.declared.bandwidth.Bandwidth.{Bandwidth}
+use Rattle.units.specs.declared.reply.Reply.{Reply}
 use Rattle.filters.specs.declared.round_trip_counter.RoundTripCounter.{RoundTripCounter}
-use Rattle.filters.specs.declared.time.Duration.{Duration}
-use Rattle.filters.specs.declared.time.Moment.{Moment}
+use Rattle.units.specs.declared.time.Duration.{Duration}
+use Rattle.units.specs.declared.time.Moment.{Moment}
 use Rattle.filters.specs.declared.windowed_filter.WindowedFilter.{WindowedFilter}
 use Rattle.filters.specs.MaxBandwidthFilter.{maxGet}
-use Rattle.filters.specs.Reply.{number}
+use Rattle.units.specs.Reply.{number}
 use Rattle.filters.specs.RoundTripCounter.{endsRound, roundsAcked, roundsEnded}
-use Rattle.filters.specs.Time.{isBefore}
+use Rattle.units.specs.Time.{isBefore}
 use Rattle.filters.specs.WindowedFilter.{isAfter, windowedUpdate}
-use Rattle.model.specs.declared.network_model.NetworkModel.{NetworkModel}
-use Rattle.model.specs.declared.params.Params.{Params}
-use Rattle.model.specs.Answers.{noBandwidth, noLength, noMoment, noGain}
-use Rattle.model.specs.Bounds.{modelOk, paramsOk, bytesOk, bytesOrUnsetOk, bandwidthOk, lengthOk, momentOk, gainOk}
-use Rattle.model.specs.Calls.{one, modelNew, sentNext, restartNext, reachedNext, pacingNext, cwndNext, withHigh, capNext, clearInflightNext, clearBandwidthNext, advanceNext, postponed, postponeNext, bdpOf, estimateOf, headroomOf}
-use Rattle.events.specs.declared.record.Record.{Record}
-use Rattle.events.specs.declared.record.Sample.{Sample}
-use Rattle.events.specs.Event.{recordOk, sampleOk, bytesLost, modelNext, recordNext}
-use Rattle.events.specs.Judge.{finishNext, isExpired, expireNext, isTooHigh, hasGrown, countsFlat, growthNext, isQueueing, queueNext}
-use Rattle.phases.specs.declared.cycle.Cycle.{Cycle}
-use Rattle.phases.specs.Cycle.{cycleOk, roundsOk, cycleNew}
+use Rattle.state.specs.declared.network_model.NetworkModel.{NetworkModel}
+use Rattle.state.specs.declared.params.Params.{Params}
+use Rattle.state.specs.Answers.{noBandwidth, noLength, noMoment, noGain}
+use Rattle.state.specs.NetworkModel.{modelOk}
+use Rattle.state.specs.Params.{paramsOk}
+use Rattle.state.specs.Bounds.{bytesOk, bytesOrUnsetOk, bandwidthOk, lengthOk, momentOk, gainOk}
+use Rattle.state.specs.NetworkModel.{one, modelNew, restartNext, withHigh, capNext, clearInflightNext, clearBandwidthNext, advanceNext, bdpOf}
+use Rattle.changes.specs.Changes.{sentNext, reachedNext, pacingNext, cwndNext, postponed, postponeNext}
+use Rattle.reads.specs.Reads.{estimateOf, headroomOf}
+use Rattle.state.specs.declared.congestion_event.Record.{Record}
+use Rattle.state.specs.declared.congestion_event.Sample.{Sample}
+use Rattle.state.specs.CongestionEvent.{recordOk, sampleOk}
+use Rattle.events.specs.Event.{bytesLost, modelNext, recordNext}
+use Rattle.events.specs.Event.{finishNext}
+use Rattle.judge.specs.Judge.{isExpired, expireNext, isTooHigh, hasGrown, countsFlat, growthNext, isQueueing, queueNext}
+use Rattle.state.specs.declared.cycle.Cycle.{Cycle}
+use Rattle.state.specs.Cycle.{cycleOk, roundsOk, cycleNew}
 use Rattle.phases.specs.Phases.{restartedAt, downCycle, cruiseModel, cruiseCycle, refillModel, refillCycle, upCycle, exitModel, exitCycle, slopeCycle}
 use Rattle.filters.proofs.round_trip_counter.RoundTripCounter as rounds
 use Rattle.filters.proofs.windowed_filter.WindowedFilter as windowed
-use Rattle.model.proofs.network_model.NetworkModel as model
+use Rattle.state.proofs.network_model.NetworkModel as model
+use Rattle.reads.proofs.reads as reads
+use Rattle.changes.proofs.changes as changes
 use Rattle.events.proofs.event as event
-use Rattle.events.proofs.judge as judge
-use Rattle.phases.proofs.cycle.Cycle as cycle
+use Rattle.judge.proofs.judge as judge
+use Rattle.state.proofs.cycle.Cycle as cycle
 use Rattle.phases.proofs.phases as phases
 
 -- ---- the table: for one call, which of its rows hold. A row that is `false` is none of this call's
@@ -158,69 +166,69 @@ slopeRows c window = rows (not (cycleOk c)) (not (bytesOk window)) false false f
 -- ---- calls that only answer
 pub record EveryAnswer : Type 0 where
   pub bdp : (m : NetworkModel) (b : Bandwidth) (gain : Float) →
-      Every model.bdp.Reads.Learnt (λ κ. (m, (b, (gain, tt))))
+      Every reads.bdp.Reads.Learnt (λ κ. (m, (b, (gain, tt))))
       (λ x. Answered (x .reply) (givenRows m (bandwidthOk b && gainOk gain)) (x .value) (bdpOf m b gain) 0)
   pub bdp1 : (m : NetworkModel) (b : Bandwidth) →
-      Every model.bdp1.Reads.Learnt (λ κ. (m, (b, tt)))
+      Every reads.bdp1.Reads.Learnt (λ κ. (m, (b, tt)))
       (λ x. Answered (x .reply) (givenRows m (bandwidthOk b)) (x .value) (bdpOf m b one) 0)
   pub bdp0 : (m : NetworkModel) →
-      Every model.bdp0.Reads.Learnt (λ κ. (m, tt))
+      Every reads.bdp0.Reads.Learnt (λ κ. (m, tt))
       (λ x. Answered (x .reply) (storedRows m) (x .value) (bdpOf m (maxGet (m .most)) one) 0)
   pub inflightHiWithHeadroom : (m : NetworkModel) (p : Params) →
-      Every model.inflight_hi_with_headroom.Reads.Learnt (λ κ. (m, (p, tt)))
+      Every reads.inflight_hi_with_headroom.Reads.Learnt (λ κ. (m, (p, tt)))
       (λ x. Answered (x .reply) (judgedRows m p true false) (x .value) (headroomOf (m .high) (p .headroom)) 0)
   pub isInflightTooHigh : (m : NetworkModel) (p : Params) (e : Record) (limit : ℕ) →
       Every judge.is_inflight_too_high.Reads.Learnt (λ κ. (m, (p, (e, (limit, tt)))))
       (λ x. Answered (x .reply) (judgedRows m p (recordOk e) false) (x .yes)
       (isTooHigh (m .round) (e .state) limit (p .loss)) false)
   pub bandwidthEstimate : (m : NetworkModel) →
-      Every model.bandwidth_estimate.Reads.Learnt (λ κ. (m, tt))
+      Every reads.bandwidth_estimate.Reads.Learnt (λ κ. (m, tt))
       (λ x. Answered (x .reply) (storedRows m) (x .bandwidth)
       (estimateOf (m .lower .bandwidth) (maxGet (m .most))) noBandwidth)
   pub maxBandwidth : (m : NetworkModel) →
-      Every model.max_bandwidth.Reads.Learnt (λ κ. (m, tt))
+      Every reads.max_bandwidth.Reads.Learnt (λ κ. (m, tt))
       (λ x. Answered (x .reply) (storedRows m) (x .bandwidth) (maxGet (m .most)) noBandwidth)
   pub minRtt : (m : NetworkModel) →
-      Every model.min_rtt.Reads.Learnt (λ κ. (m, tt))
+      Every reads.min_rtt.Reads.Learnt (λ κ. (m, tt))
       (λ x. Answered (x .reply) (storedRows m) (x .length) (m .least .rtt) noLength)
   pub minRttTimestamp : (m : NetworkModel) →
-      Every model.min_rtt_timestamp.Reads.Learnt (λ κ. (m, tt))
+      Every reads.min_rtt_timestamp.Reads.Learnt (λ κ. (m, tt))
       (λ x. Answered (x .reply) (storedRows m) (x .moment) (m .least .timestamp) noMoment)
   pub fullBandwidthReached : (m : NetworkModel) →
-      Every model.full_bandwidth_reached.Reads.Learnt (λ κ. (m, tt))
+      Every reads.full_bandwidth_reached.Reads.Learnt (λ κ. (m, tt))
       (λ x. Answered (x .reply) (storedRows m) (x .yes) (m .growth .reached) false)
   pub pacingGain : (m : NetworkModel) →
-      Every model.pacing_gain.Reads.Learnt (λ κ. (m, tt))
+      Every reads.pacing_gain.Reads.Learnt (λ κ. (m, tt))
       (λ x. Answered (x .reply) (storedRows m) (x .gain) (m .gains .pacing) noGain)
   pub cwndGain : (m : NetworkModel) →
-      Every model.cwnd_gain.Reads.Learnt (λ κ. (m, tt))
+      Every reads.cwnd_gain.Reads.Learnt (λ κ. (m, tt))
       (λ x. Answered (x .reply) (storedRows m) (x .gain) (m .gains .cwnd) noGain)
   pub maxBytesDeliveredInRound : (m : NetworkModel) →
-      Every model.max_bytes_delivered_in_round.Reads.Learnt (λ κ. (m, tt))
+      Every reads.max_bytes_delivered_in_round.Reads.Learnt (λ κ. (m, tt))
       (λ x. Answered (x .reply) (storedRows m) (x .value) (m .round .delivered) 0)
   pub totalBytesAcked : (m : NetworkModel) →
-      Every model.total_bytes_acked.Reads.Learnt (λ κ. (m, tt))
+      Every reads.total_bytes_acked.Reads.Learnt (λ κ. (m, tt))
       (λ x. Answered (x .reply) (storedRows m) (x .value) (m .totals .acked) 0)
   pub totalBytesLost : (m : NetworkModel) →
-      Every model.total_bytes_lost.Reads.Learnt (λ κ. (m, tt))
+      Every reads.total_bytes_lost.Reads.Learnt (λ κ. (m, tt))
       (λ x. Answered (x .reply) (storedRows m) (x .value) (m .totals .lost) 0)
   pub inflightHi : (m : NetworkModel) →
-      Every model.inflight_hi.Reads.Learnt (λ κ. (m, tt))
+      Every reads.inflight_hi.Reads.Learnt (λ κ. (m, tt))
       (λ x. Answered (x .reply) (storedRows m) (x .value) (m .high) 0)
   pub inflightLo : (m : NetworkModel) →
-      Every model.inflight_lo.Reads.Learnt (λ κ. (m, tt))
+      Every reads.inflight_lo.Reads.Learnt (λ κ. (m, tt))
       (λ x. Answered (x .reply) (storedRows m) (x .value) (m .lower .inflight) 0)
   pub lossEventsInRound : (m : NetworkModel) →
-      Every model.loss_events_in_round.Reads.Learnt (λ κ. (m, tt))
+      Every reads.loss_events_in_round.Reads.Learnt (λ κ. (m, tt))
       (λ x. Answered (x .reply) (storedRows m) (x .value) (m .round .losses) 0)
   pub roundsWithQueueing : (m : NetworkModel) →
-      Every model.rounds_with_queueing.Reads.Learnt (λ κ. (m, tt))
+      Every reads.rounds_with_queueing.Reads.Learnt (λ κ. (m, tt))
       (λ x. Answered (x .reply) (storedRows m) (x .value) (m .growth .queueing) 0)
   pub inflightHiDefault : (m : NetworkModel) →
-      Every model.inflight_hi_default.Reads.Learnt (λ κ. (m, tt))
+      Every reads.inflight_hi_default.Reads.Learnt (λ κ. (m, tt))
       (λ x. Answered (x .reply) (storedRows m) (x .value) (2 ^ 64 - 1) 0)
   pub queueingThresholdExtraBytes : (m : NetworkModel) →
-      Every model.queueing_threshold_extra_bytes.Reads.Learnt (λ κ. (m, tt))
+      Every reads.queueing_threshold_extra_bytes.Reads.Learnt (λ κ. (m, tt))
       (λ x. Answered (x .reply) (storedRows m) (x .value) (2 * 1300) 0)
 
 -- ---- calls that leave a model
@@ -232,38 +240,38 @@ pub record EveryChange : Type 0 where
       (λ x. Answered (x .reply) (startRows p rtt t) (x .model)
       (modelNew (p .cwnd) (p .pacing) (p .ignore) rtt t) (modelNew one one false noLength noMoment))
   pub sent : (m : NetworkModel) (t : Moment) (inflight packet bytes : ℕ) →
-      Every model.on_packet_sent.Reads.Learnt (λ κ. (m, (t, (inflight, (packet, (bytes, tt))))))
+      Every changes.on_packet_sent.Reads.Learnt (λ κ. (m, (t, (inflight, (packet, (bytes, tt))))))
       (λ x. Answered (x .reply) (sentRows m t inflight bytes) (x .model) (sentNext m t inflight packet bytes) m)
   pub restart : (m : NetworkModel) →
-      Every model.restart_round_early.Reads.Learnt (λ κ. (m, tt))
+      Every changes.restart_round_early.Reads.Learnt (λ κ. (m, tt))
       (λ x. Answered (x .reply) (storedRows m) (x .model) (restartNext m) m)
   pub reached : (m : NetworkModel) →
-      Every model.set_full_bandwidth_reached.Reads.Learnt (λ κ. (m, tt))
+      Every changes.set_full_bandwidth_reached.Reads.Learnt (λ κ. (m, tt))
       (λ x. Answered (x .reply) (storedRows m) (x .model) (reachedNext m) m)
   pub pacing : (m : NetworkModel) (gain : Float) →
-      Every model.set_pacing_gain.Reads.Learnt (λ κ. (m, (gain, tt)))
+      Every changes.set_pacing_gain.Reads.Learnt (λ κ. (m, (gain, tt)))
       (λ x. Answered (x .reply) (givenRows m (gainOk gain)) (x .model) (pacingNext m gain) m)
   pub cwnd : (m : NetworkModel) (gain : Float) →
-      Every model.set_cwnd_gain.Reads.Learnt (λ κ. (m, (gain, tt)))
+      Every changes.set_cwnd_gain.Reads.Learnt (λ κ. (m, (gain, tt)))
       (λ x. Answered (x .reply) (givenRows m (gainOk gain)) (x .model) (cwndNext m gain) m)
   pub high : (m : NetworkModel) (bytes : ℕ) →
-      Every model.set_inflight_hi.Reads.Learnt (λ κ. (m, (bytes, tt)))
+      Every changes.set_inflight_hi.Reads.Learnt (λ κ. (m, (bytes, tt)))
       (λ x. Answered (x .reply) (givenRows m (bytesOrUnsetOk bytes)) (x .model) (withHigh m bytes) m)
   pub cap : (m : NetworkModel) (bytes : ℕ) →
-      Every model.cap_inflight_lo.Reads.Learnt (λ κ. (m, (bytes, tt)))
+      Every changes.cap_inflight_lo.Reads.Learnt (λ κ. (m, (bytes, tt)))
       (λ x. Answered (x .reply) (givenRows m (bytesOrUnsetOk bytes)) (x .model) (capNext m bytes) m)
   pub clearInflight : (m : NetworkModel) →
-      Every model.clear_inflight_lo.Reads.Learnt (λ κ. (m, tt))
+      Every changes.clear_inflight_lo.Reads.Learnt (λ κ. (m, tt))
       (λ x. Answered (x .reply) (storedRows m) (x .model) (clearInflightNext m) m)
   pub clearBandwidth : (m : NetworkModel) →
-      Every model.clear_bandwidth_lo.Reads.Learnt (λ κ. (m, tt))
+      Every changes.clear_bandwidth_lo.Reads.Learnt (λ κ. (m, tt))
       (λ x. Answered (x .reply) (storedRows m) (x .model) (clearBandwidthNext m) m)
   pub advance : (m : NetworkModel) →
-      Every model.advance_max_bandwidth_filter.Reads.Learnt (λ κ. (m, tt))
+      Every changes.advance_max_bandwidth_filter.Reads.Learnt (λ κ. (m, tt))
       (λ x. Answered (x .reply) (storedRows m) (x .model) (advanceNext m) m)
   -- "a postponed moment would exceed 2^62" is row 2's
   pub postpone : (m : NetworkModel) (d : Duration) →
-      Every model.postpone_min_rtt_timestamp.Reads.Learnt (λ κ. (m, (d, tt)))
+      Every changes.postpone_min_rtt_timestamp.Reads.Learnt (λ κ. (m, (d, tt)))
       (λ x. Answered (x .reply) (givenRows m (lengthOk d && momentOk (postponed m d))) (x .model) (postponeNext m d) m)
 
 -- ---- calls that carry an event, or count rounds. "A later call that gets an event's record doesn't test its moment
@@ -280,7 +288,7 @@ pub record EveryEvent : Type 0 where
       Answered {A = NetworkModel × Record} (x .reply) (eventRows m p e y acked) (x .model, x .record)
       (modelNext m p e y acked, recordNext m e y acked) (m, e))
   pub finish : (m : NetworkModel) (e : Record) →
-      Every judge.on_congestion_event_finish.Reads.Learnt (λ κ. (m, (e, tt)))
+      Every event.on_congestion_event_finish.Reads.Learnt (λ κ. (m, (e, tt)))
       (λ x. Answered (x .reply) (givenRows m (recordOk e)) (x .model) (finishNext m e) m)
   pub expire : (m : NetworkModel) (p : Params) (e : Record) →
       Every judge.maybe_expire_min_rtt.Reads.Learnt (λ κ. (m, (p, (e, tt))))

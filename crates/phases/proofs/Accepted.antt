@@ -2,15 +2,17 @@
 use Prim.Native.Nat.{ℕ}
 use mathlib.Core.Bool.{Bool, true, false, not, _&&_}
 use mathlib.Core.Path.{_≡_}
-use Rattle.filters.specs.declared.time.Moment.{Moment}
-use Rattle.filters.specs.Time.{isBefore}
-use Rattle.model.specs.declared.network_model.NetworkModel.{NetworkModel}
-use Rattle.model.specs.declared.params.Params.{Params}
-use Rattle.model.specs.Bounds.{modelOk, paramsOk, betaOk, fractionOk, thresholdOk, gainOk, lengthOk, momentOk, bytesOk}
-use Rattle.phases.specs.declared.cycle.Cycle.{Cycle}
-use Rattle.phases.specs.Cycle.{cycleOk}
+use Rattle.units.specs.declared.time.Moment.{Moment}
+use Rattle.units.specs.Time.{isBefore}
+use Rattle.state.specs.declared.network_model.NetworkModel.{NetworkModel}
+use Rattle.state.specs.declared.params.Params.{Params}
+use Rattle.state.specs.NetworkModel.{modelOk}
+use Rattle.state.specs.Params.{paramsOk, betaOk, thresholdOk}
+use Rattle.state.specs.Bounds.{fractionOk, gainOk, lengthOk, momentOk, bytesOk}
+use Rattle.state.specs.declared.cycle.Cycle.{Cycle}
+use Rattle.state.specs.Cycle.{cycleOk}
 use Rattle.phases.specs.Phases.{entryNumber, downNumber, exitNumber, slopeNumber}
-use Rattle.model.proofs.Rows.{and-left, and-right, row-stored, row-argument}
+use Rattle.state.proofs.Rows.{and-left, and-right, row-stored, row-argument}
 
 module _ (m : NetworkModel) (c : Cycle) (params argument : Bool) (now : Moment) (done : entryNumber m c params argument now ≡ 0) where
   stored : (modelOk m && cycleOk c && params) ≡ true

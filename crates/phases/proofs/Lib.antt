@@ -1,4 +1,3 @@
--- Theorems about the contracts and the definitions.
+-- Laws, and theorems about the contracts.
 pub mod Accepted
 pub mod Determined
-pub mod Examples

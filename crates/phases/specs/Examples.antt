@@ -1,14 +1,12 @@
--- document 01, "Marked examples": 11, and all twelve as one list.
+-- document 01, "Marked examples": 11, about the slope.
 use Prim.Native.Nat.{ℕ}
 use mathlib.Core.Bool.{Bool, false, _&&_}
-use mathlib.Core.List.{List, [], _∷_, _++_}
+use mathlib.Core.List.{List, [], _∷_}
 use lib.Dec.{eqb}
-use Rattle.filters.specs.Examples.{examples}
-use Rattle.events.specs.Examples.{eventExamples}
-use Rattle.phases.specs.declared.cycle.MaybeBytes.{MaybeBytes}
-use Rattle.phases.specs.declared.cycle.MaybeBytes.the-variants.{NoBytes, Bytes}
-use Rattle.phases.specs.declared.cycle.Slope.{Slope}
-use Rattle.phases.specs.Cycle.{slopeRaised}
+use Rattle.state.specs.declared.cycle.MaybeBytes.{MaybeBytes}
+use Rattle.state.specs.declared.cycle.MaybeBytes.the-variants.{NoBytes, Bytes}
+use Rattle.state.specs.declared.cycle.Slope.{Slope}
+use Rattle.phases.specs.Slope.{slopeRaised}
 
 abbrev pub bytesAre : MaybeBytes → ℕ → Bool
 bytesAre NoBytes n = false
@@ -28,6 +26,3 @@ slopeExamples =
     ∷ gives (raisedFrom 1) 13_000 2
     ∷ gives (raisedFrom 30) 1_300 30
     ∷ []
-
-unfoldable pub markedExamples : List Bool
-markedExamples = examples ++ (eventExamples ++ slopeExamples)

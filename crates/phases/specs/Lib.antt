@@ -1,4 +1,4 @@
--- The cycle, its bounds, and what each call on model and cycle must answer.
-pub mod Cycle
+-- What the phase entries must leave.
 pub mod Examples
 pub mod Phases
+pub mod Slope

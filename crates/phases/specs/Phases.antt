@@ -2,18 +2,21 @@
 -- and the cycle that it leaves.
 use Prim.Native.Nat.{ℕ, _+_}
 use mathlib.Core.Bool.{Bool, true, false, cond, not, _&&_}
-use Rattle.filters.specs.declared.time.Moment.{Moment}
-use Rattle.filters.specs.Time.{isBefore}
-use Rattle.model.specs.declared.network_model.NetworkModel.{NetworkModel}
-use Rattle.model.specs.declared.params.Params.{Params}
-use Rattle.model.specs.Bounds.{rowOf, modelOk, paramsOk, bytesOk, momentOk}
-use Rattle.model.specs.Calls.{withMoment, restartNext, capNext, clearInflightNext, clearBandwidthNext, advanceNext}
-use Rattle.phases.specs.declared.cycle.Cycle.{Cycle}
-use Rattle.phases.specs.declared.cycle.CyclePhase.{CyclePhase}
-use Rattle.phases.specs.declared.cycle.CyclePhase.the-variants.{NotStarted, Up, Down, Cruise, Refill}
-use Rattle.phases.specs.declared.cycle.MaybeBytes.the-variants.{NoBytes}
-use Rattle.phases.specs.declared.cycle.MaybeLength.the-variants.{Length}
-use Rattle.phases.specs.Cycle.{cycleOk, roundsOk, stayFrom, slopeRaised}
+use Rattle.units.specs.declared.time.Moment.{Moment}
+use Rattle.units.specs.Time.{isBefore}
+use Rattle.state.specs.declared.network_model.NetworkModel.{NetworkModel}
+use Rattle.state.specs.declared.params.Params.{Params}
+use Rattle.state.specs.Bounds.{rowOf, bytesOk, momentOk}
+use Rattle.state.specs.NetworkModel.{modelOk}
+use Rattle.state.specs.Params.{paramsOk}
+use Rattle.state.specs.NetworkModel.{withMoment, restartNext, capNext, clearInflightNext, clearBandwidthNext, advanceNext}
+use Rattle.state.specs.declared.cycle.Cycle.{Cycle}
+use Rattle.state.specs.declared.cycle.CyclePhase.{CyclePhase}
+use Rattle.state.specs.declared.cycle.CyclePhase.the-variants.{NotStarted, Up, Down, Cruise, Refill}
+use Rattle.state.specs.declared.cycle.MaybeBytes.the-variants.{NoBytes}
+use Rattle.state.specs.declared.cycle.MaybeLength.the-variants.{Length}
+use Rattle.state.specs.Cycle.{cycleOk, roundsOk, stayFrom}
+use Rattle.phases.specs.Slope.{slopeRaised}
 
 -- ---- the refusal of an entry: the table's rows 1 to 3, with whether the parameters and the other arguments are within their bounds
 unfoldable pub entryNumber : NetworkModel → Cycle → (params argument : Bool) → Moment → ℕ

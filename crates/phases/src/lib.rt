@@ -1,6 +1,3 @@
-// The phases of probing for bandwidth: the cycle, and the calls on model and cycle side by side.
-pub mod cycle;
+// The phases of probing for bandwidth: the calls on model and cycle side by side.
 pub mod phases;
-
-pub use cycle::Cycle;
-pub use cycle::CyclePhase;
+pub mod slope;

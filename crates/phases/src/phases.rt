@@ -1,28 +1,29 @@
 // The calls on model and cycle side by side: the phase entries, the exit from Down, the slope.
 ghost use mathlib.Core.Path.{_≡_};
 ghost use mathlib.Core.Bool.{true};
-ghost use Rattle.filters.specs.Reply.{number};
-ghost use Rattle.model.specs.Answers.{settled};
-ghost use Rattle.model.specs.Bounds.{lengthOk};
-ghost use Rattle.model.specs.Calls.{withMoment};
+ghost use Rattle.units.specs.Reply.{number};
+ghost use Rattle.state.specs.Answers.{settled};
+ghost use Rattle.state.specs.Bounds.{lengthOk};
+ghost use Rattle.state.specs.NetworkModel.{withMoment};
 ghost use Rattle.phases.specs.Phases.{entryNumber, exitNumber, exitModel, exitCycle, isDown, leftModel, leftCycle, slopeNumber, slopeCycle, restartedAt, downNumber, downCycle, cycleIn, cappedByHigh, cruiseNumber, cruiseModel, cruiseCycle, refillNumber, refillModel, refilled, refillCycle, upNumber, upCycle};
-use crate::Cycle;
-use crate::CyclePhase;
-use crate::cycle::Last;
-use crate::cycle::MaybeBytes;
-use crate::cycle::MaybeLength;
-use crate::cycle::Slope;
-use crate::cycle::Stay;
-use crate::cycle::Turned;
-use crate::cycle::Wait;
-use filters::Duration;
-use filters::Moment;
-use filters::Reply;
-use model::NetworkModel;
-use model::Params;
-use model::bounds::bytes_ok;
-use model::bounds::moment_ok;
-use model::bounds::refusal;
+use crate::slope::slope_raised;
+use state::Cycle;
+use state::CyclePhase;
+use state::NetworkModel;
+use state::Params;
+use state::bounds::bytes_ok;
+use state::bounds::moment_ok;
+use state::bounds::refusal;
+use state::cycle::Last;
+use state::cycle::MaybeBytes;
+use state::cycle::MaybeLength;
+use state::cycle::Slope;
+use state::cycle::Stay;
+use state::cycle::Turned;
+use state::cycle::Wait;
+use units::Duration;
+use units::Moment;
+use units::Reply;
 
 // A call's reply, and the model and the cycle after it.
 pub struct Entered {
@@ -214,7 +215,7 @@ fn slope_cycle(cycle: Cycle, window: u64) -> Cycle
     ensures { λ r. ⌜ r ≡ slopeCycle cycle window ⌝ }
 {
     let slope = cycle.slope;
-    let raised = slope.raised(window);
+    let raised = slope_raised(slope, window);
     let mut next = cycle;
     next.slope = raised;
     next

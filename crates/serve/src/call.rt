@@ -6,7 +6,7 @@ use crate::filter;
 use crate::lent;
 use crate::neighbours;
 use crate::put::put;
-use exports::model_run::guovssalu_run;
+use guovssalu::model_run::guovssalu_run;
 use words::get_word;
 use words::put_words;
 

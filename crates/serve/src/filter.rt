@@ -1,12 +1,12 @@
 // Call 46: an operation on a windowed filter that is handed in.
 ghost use mathlib.Core.Path.{_≡_};
 ghost use lib.ListN.{length};
-use filters::Reply;
 use filters::WindowedFilter;
 use filters::windowed_filter::Estimates;
 use filters::windowed_filter::Held;
 use filters::windowed_filter::Sample;
 use filters::windowed_filter::Updated;
+use units::Reply;
 use words::get_words;
 use words::put_words;
 

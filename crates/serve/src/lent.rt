@@ -4,8 +4,8 @@ ghost use mathlib.Core.Path.{_≡_};
 ghost use Prim.Native.Nat.{_≤_};
 ghost use lib.ListN.{length};
 use crate::copy::copy;
-use exports::filter_run::guovssalu_filter_run;
-use exports::slope::guovssalu_raise_inflight_high_slope;
+use guovssalu::filter_run::guovssalu_filter_run;
+use guovssalu::slope::guovssalu_raise_inflight_high_slope;
 use words::get_word;
 use words::put_words;
 

@@ -1,13 +1,13 @@
 // Call 47: a function's answers to 64 neighbouring numbers.
 ghost use mathlib.Core.Path.{_≡_};
 ghost use lib.ListN.{length};
-use exports::conversions::guovssalu_bandwidth_mul_f32;
-use exports::conversions::guovssalu_f32_to_u64;
-use exports::conversions::guovssalu_f64_round_to_u64;
-use exports::conversions::guovssalu_scale;
-use exports::conversions::guovssalu_to_bytes_per_period;
-use exports::conversions::guovssalu_u64_to_f32;
-use exports::conversions::guovssalu_u64_to_f64;
+use guovssalu::conversions::guovssalu_bandwidth_mul_f32;
+use guovssalu::conversions::guovssalu_f32_to_u64;
+use guovssalu::conversions::guovssalu_f64_round_to_u64;
+use guovssalu::conversions::guovssalu_scale;
+use guovssalu::conversions::guovssalu_to_bytes_per_period;
+use guovssalu::conversions::guovssalu_u64_to_f32;
+use guovssalu::conversions::guovssalu_u64_to_f64;
 use words::get_word;
 use words::put_words;
 

@@ -1,13 +1,13 @@
 // Shows the library at work: conversions and scaling, and a windowed filter fed with a short sample.
 mod table;
 
-use filters::Bandwidth;
-use filters::Reply;
 use filters::WindowedFilter;
 use filters::windowed_filter::Held;
 use filters::windowed_filter::Sample;
 use table::column;
 use table::text;
+use units::Bandwidth;
+use units::Reply;
 
 // One number as an `f32` and back, scaled by b, and as a bandwidth times b.
 fn conversion(n: u64, b: f32) {

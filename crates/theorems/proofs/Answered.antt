@@ -9,10 +9,11 @@ use lib.Seq.{sets-eq, drop-drop, take-at, drop-at}
 use borrow.Author.Tests.{eq-eqb}
 use Rattle.words.specs.Words.{word, bytes, allBytes}
 use Rattle.words.proofs.Laws.{length-bytes, allBytes-append, word-drop, word-of}
-use Rattle.turns.specs.declared.turn.Turn.{Turn}
-use Rattle.exports.specs.Reply.{answered}
-use Rattle.exports.specs.ModelRun.{callAt, turnAt, answerWords, answersTo, answersFrom, modelRow, answersOut}
-use Rattle.exports.proofs.ModelRun.{length-answer, run-room}
+use Rattle.dispatch.specs.declared.turn.Turn.{Turn}
+use Rattle.guovssalu.specs.Reply.{answered}
+use Rattle.dispatch.specs.OneCall.{callAt, answerWords}
+use Rattle.guovssalu.specs.ModelRun.{turnAt, answersTo, answersFrom, modelRow, answersOut}
+use Rattle.guovssalu.proofs.ModelRun.{length-answer, run-room}
 use Rattle.drift.specs.Calls.{State}
 use Rattle.theorems.specs.Steps.{stepOf, afterStep, stepsFrom, walk, stateLeft, turnIn}
 use Rattle.theorems.specs.Runs.{Run, Ran, stateFrom, count, call, before, answer, answerWord}

@@ -7,14 +7,14 @@ use native.Mathlib.Omega.{arith}
 use lib.Dec.{leb, eqb}
 use lib.ListN.{getD}
 use borrow.Author.Tests.{eqb-true}
-use Rattle.model.specs.declared.params.Params.{Params}
-use Rattle.events.specs.declared.record.Record.{Record}
-use Rattle.events.specs.declared.record.Sample.{Sample}
-use Rattle.encoding.specs.Params.{paramsOf}
-use Rattle.encoding.specs.Record.{recordOf}
-use Rattle.encoding.specs.Sample.{sampleOf}
-use Rattle.turns.specs.Turn.{isJudged, isAsked}
-use Rattle.exports.specs.ModelRun.{callAt}
+use Rattle.state.specs.declared.params.Params.{Params}
+use Rattle.state.specs.declared.congestion_event.Record.{Record}
+use Rattle.state.specs.declared.congestion_event.Sample.{Sample}
+use Rattle.layout.specs.Params.{paramsOf}
+use Rattle.layout.specs.Record.{recordOf}
+use Rattle.layout.specs.Sample.{sampleOf}
+use Rattle.dispatch.specs.Turn.{isJudged, isAsked}
+use Rattle.dispatch.specs.OneCall.{callAt}
 use Rattle.drift.specs.Calls.{Call, State}
 use Rattle.drift.specs.Drift.{OfEvent}
 use Rattle.drift.specs.Exact.{Turn}

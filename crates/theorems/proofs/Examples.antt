@@ -4,26 +4,33 @@ use mathlib.Core.Path.{_≡_, refl}
 use lib.Ieee as Ieee
 use Rattle.numbers.specs.Scaling.{scaled, scaledF64}
 use Rattle.numbers.specs.FloatToInt.{roundAway}
-use Rattle.filters.specs.Bandwidth.{timesF32}
+use Rattle.units.specs.Bandwidth.{timesF32}
 use Rattle.filters.specs.MaxBandwidthFilter.{maxGet, maxUpdate}
 use Rattle.filters.specs.RoundTripCounter.{roundsSent, endsRound, roundsFull, roundsEnded, roundsAcked}
-use Rattle.model.specs.Answers.{settled}
-use Rattle.model.specs.Bounds.{all, within, paramsOk, roundOk, modelTests, rowOf}
-use Rattle.model.specs.Calls.{withRounds, withRound, withLower, withMoment, modelNew, startNumber, startModel, storedNumber, givenNumber, sentNumber, sentNext}
-use Rattle.model.specs.State.{roundSent, lowerCapped}
-use Rattle.events.specs.Event.{recordTests, sampleTests, stateAfter, deliveredBy, roundAfter, latestRaised, lowerReduced, lowerAfter, latestAfter, recordOf, recordNext, mostNext, roundNext, lowerNext, modelOf, modelNext, isFull, eventNumber, limitedAfter}
-use Rattle.phases.specs.Cycle.{cycleNew, stayFrom, freshNumber, freshCycle, cycleTests}
+use Rattle.state.specs.Answers.{settled}
+use Rattle.state.specs.Bounds.{all, within, rowOf}
+use Rattle.state.specs.Params.{paramsOk}
+use Rattle.state.specs.Parts.{roundOk}
+use Rattle.state.specs.NetworkModel.{modelTests}
+use Rattle.state.specs.NetworkModel.{withRounds, withRound, withLower, withMoment, modelNew, startNumber, startModel, storedNumber, givenNumber}
+use Rattle.changes.specs.Changes.{sentNumber, sentNext}
+use Rattle.state.specs.Parts.{roundSent, lowerCapped}
+use Rattle.state.specs.CongestionEvent.{recordTests, sampleTests}
+use Rattle.events.specs.Event.{stateAfter, deliveredBy, roundAfter, latestRaised, lowerReduced, lowerAfter, latestAfter, recordOf, recordNext, mostNext, roundNext, lowerNext, modelOf, modelNext, isFull, eventNumber, limitedAfter}
+use Rattle.state.specs.Cycle.{cycleNew, stayFrom, freshNumber, freshCycle, cycleTests}
 use Rattle.words.specs.Words.{numberAt, lowBytes, wordsAt, allBytes}
-use Rattle.encoding.specs.NetworkModel as N
-use Rattle.encoding.specs.Cycle.{cycleOf, cycleWords}
-use Rattle.encoding.specs.Params.{paramsOf}
-use Rattle.encoding.specs.Record.{recordFits, recordFrom, wordsFrom, recordWords}
-use Rattle.encoding.specs.Sample.{sampleFits, sampleOf, ackedOf}
-use Rattle.calls.specs.Ask.{askOf, readOf, readMore}
-use Rattle.calls.specs.Enter.{enterOf}
-use Rattle.turns.specs.Turn.{startTurn, sendTurn, eventTurn, finishTurn, judgeTurn, askTurn, enterTurn, changeTurn, turnOf}
-use Rattle.exports.specs.ModelRun.{sameWords, isState, encodesNone, turnAt, answerWords, answersTo, leftBy, answersFrom, wordsLeft, modelRow, answersOut, stateOut}
-use Rattle.exports.specs.Reply.{orShort, answered}
+use Rattle.layout.specs.NetworkModel as N
+use Rattle.layout.specs.Cycle.{cycleOf, cycleWords}
+use Rattle.layout.specs.Params.{paramsOf}
+use Rattle.layout.specs.Record.{recordFits, recordFrom, wordsFrom, recordWords}
+use Rattle.layout.specs.Sample.{sampleFits, sampleOf, ackedOf}
+use Rattle.dispatch.specs.Ask.{askOf, readOf, readMore}
+use Rattle.dispatch.specs.Enter.{enterOf}
+use Rattle.dispatch.specs.Turn.{startTurn, sendTurn, eventTurn, finishTurn, judgeTurn, askTurn, enterTurn, changeTurn, turnOf}
+use Rattle.layout.specs.StateWords.{sameWords, isState}
+use Rattle.guovssalu.specs.ModelRun.{encodesNone, turnAt, answersTo, leftBy, answersFrom, wordsLeft, modelRow, answersOut, stateOut}
+use Rattle.dispatch.specs.OneCall.{answerWords}
+use Rattle.guovssalu.specs.Reply.{orShort, answered}
 use Rattle.drift.specs.Calls.{otherNumber, numberOf, otherNext, nextOf, after}
 use Rattle.drift.specs.Exact.{isReduced, inflightTurn, exactly}
 use Rattle.theorems.specs.Steps.{judgeStep, enterStep, changeStep, stepOf, begun, afterStep, stepsFrom, walk, exactStep, exactWalk}

@@ -7,12 +7,12 @@ use mathlib.Core.Path.{_≡_, refl, sym, subst, _∙_}
 use lib.Dec.{eqb}
 use lib.ListN.{length}
 use borrow.Author.Tests.{eq-eqb, ne-eqb, eqb-true}
-use Rattle.model.specs.Bounds.{rowOf}
-use Rattle.model.proofs.Rows.{and-left, and-right}
-use Rattle.exports.specs.Reply.{orShort, answered}
-use Rattle.exports.specs.FilterRun.{pairs, runRow, runOut}
-use Rattle.exports.specs.ModelRun.{modelRow, stateOut, answersOut}
-use Rattle.exports.specs.Slope.{slopeRow, slopeOut}
+use Rattle.state.specs.Bounds.{rowOf}
+use Rattle.state.proofs.Rows.{and-left, and-right}
+use Rattle.guovssalu.specs.Reply.{orShort, answered}
+use Rattle.guovssalu.specs.FilterRun.{pairs, runRow, runOut}
+use Rattle.guovssalu.specs.ModelRun.{modelRow, stateOut, answersOut}
+use Rattle.guovssalu.specs.Slope.{slopeRow, slopeOut}
 use Rattle.theorems.specs.Runs.{Run, Ran, FilterRun, Filtered, SlopeRun, Raised, OneOutcome, Conversions, FirstRow, RunRow, FilterRow, SlopeRow}
 
 -- ---- what is replied and left

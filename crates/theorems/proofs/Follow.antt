@@ -9,24 +9,25 @@ use lib.Ieee.{Float}
 use lib.Ieee.Exact.{HasValue}
 use lib.ListN.{getD}
 use Rattle.numbers.specs.Scaling.{complement, partsOf}
-use Rattle.filters.specs.declared.time.Duration.{Duration}
-use Rattle.filters.specs.declared.time.Moment.{Moment}
-use Rattle.model.specs.declared.network_model.NetworkModel.{NetworkModel}
-use Rattle.model.specs.declared.params.Params.{Params}
-use Rattle.model.specs.Answers.{settled}
-use Rattle.model.specs.Bounds.{rowOf, modelOk}
-use Rattle.model.specs.Calls.{storedNumber}
-use Rattle.events.specs.declared.record.Record.{Record}
-use Rattle.events.specs.declared.record.Sample.{Sample}
-use Rattle.phases.specs.declared.cycle.Cycle.{Cycle}
+use Rattle.units.specs.declared.time.Duration.{Duration}
+use Rattle.units.specs.declared.time.Moment.{Moment}
+use Rattle.state.specs.declared.network_model.NetworkModel.{NetworkModel}
+use Rattle.state.specs.declared.params.Params.{Params}
+use Rattle.state.specs.Answers.{settled}
+use Rattle.state.specs.Bounds.{rowOf}
+use Rattle.state.specs.NetworkModel.{modelOk}
+use Rattle.state.specs.NetworkModel.{storedNumber}
+use Rattle.state.specs.declared.congestion_event.Record.{Record}
+use Rattle.state.specs.declared.congestion_event.Sample.{Sample}
+use Rattle.state.specs.declared.cycle.Cycle.{Cycle}
 use Rattle.words.proofs.Laws.{getD-wordsAt}
-use Rattle.encoding.specs.Maybe.{bandwidthOf}
-use Rattle.encoding.specs.NetworkModel.{modelOf}
-use Rattle.encoding.specs.Params.{paramsOf}
-use Rattle.encoding.specs.Record.{recordFrom, recordOf}
-use Rattle.encoding.specs.Sample.{sampleOf}
-use Rattle.calls.specs.Ask.{askOf, readMore}
-use Rattle.turns.specs.Turn.{askTurn, turnOf}
+use Rattle.layout.specs.Maybe.{bandwidthOf}
+use Rattle.layout.specs.NetworkModel.{modelOf}
+use Rattle.layout.specs.Params.{paramsOf}
+use Rattle.layout.specs.Record.{recordFrom, recordOf}
+use Rattle.layout.specs.Sample.{sampleOf}
+use Rattle.dispatch.specs.Ask.{askOf, readMore}
+use Rattle.dispatch.specs.Turn.{askTurn, turnOf}
 use Rattle.drift.specs.Calls as C
 use Rattle.drift.specs.Calls.{Call, State, after, run, started}
 use Rattle.drift.specs.Exact.{Turn, Exact, unset, inflightTurn, bandwidthTurn, exactRun}

@@ -13,26 +13,28 @@ use borrow.Author.Tests.{leb-true, eqb-true}
 use Rattle.filters.specs.declared.round_trip_counter.RoundEnd.{RoundEnd}
 use Rattle.filters.specs.declared.round_trip_counter.RoundEnd.the-variants.{NotSet, At}
 use Rattle.filters.specs.declared.round_trip_counter.RoundTripCounter.{RoundTripCounter}
-use Rattle.model.specs.declared.network_model.NetworkModel.{NetworkModel}
-use Rattle.model.specs.declared.state.Gains.{Gains}
-use Rattle.model.specs.declared.state.MaybeBandwidth.{MaybeBandwidth}
-use Rattle.model.specs.declared.state.MaybeBandwidth.the-variants.{Unset, Set}
-use Rattle.model.specs.Bounds.{bytesOrUnsetOk, bandwidthOk, lengthOk, momentOk, bytesOk, totalOk, maybeOk, roundOk, modelTests, modelOk}
-use Rattle.model.proofs.Rows.{and-left, and-right, all-at}
-use Rattle.phases.specs.declared.cycle.Cycle.{Cycle}
-use Rattle.phases.specs.declared.cycle.CyclePhase.{CyclePhase}
-use Rattle.phases.specs.declared.cycle.CyclePhase.the-variants.{NotStarted, Up, Down, Cruise, Refill}
-use Rattle.phases.specs.declared.cycle.MaybeBytes.{MaybeBytes}
-use Rattle.phases.specs.declared.cycle.MaybeBytes.the-variants.{NoBytes, Bytes}
-use Rattle.phases.specs.declared.cycle.MaybeLength.{MaybeLength}
-use Rattle.phases.specs.declared.cycle.MaybeLength.the-variants.{NoLength, Length}
-use Rattle.phases.specs.Cycle.{waitOk, upBytesOk, cycleTests, cycleOk}
+use Rattle.state.specs.declared.network_model.NetworkModel.{NetworkModel}
+use Rattle.state.specs.declared.parts.Gains.{Gains}
+use Rattle.state.specs.declared.parts.MaybeBandwidth.{MaybeBandwidth}
+use Rattle.state.specs.declared.parts.MaybeBandwidth.the-variants.{Unset, Set}
+use Rattle.state.specs.Bounds.{bytesOrUnsetOk, bandwidthOk, lengthOk, momentOk, bytesOk, totalOk, maybeOk}
+use Rattle.state.specs.Parts.{roundOk}
+use Rattle.state.specs.NetworkModel.{modelTests, modelOk}
+use Rattle.state.proofs.Rows.{and-left, and-right, all-at}
+use Rattle.state.specs.declared.cycle.Cycle.{Cycle}
+use Rattle.state.specs.declared.cycle.CyclePhase.{CyclePhase}
+use Rattle.state.specs.declared.cycle.CyclePhase.the-variants.{NotStarted, Up, Down, Cruise, Refill}
+use Rattle.state.specs.declared.cycle.MaybeBytes.{MaybeBytes}
+use Rattle.state.specs.declared.cycle.MaybeBytes.the-variants.{NoBytes, Bytes}
+use Rattle.state.specs.declared.cycle.MaybeLength.{MaybeLength}
+use Rattle.state.specs.declared.cycle.MaybeLength.the-variants.{NoLength, Length}
+use Rattle.state.specs.Cycle.{waitOk, upBytesOk, cycleTests, cycleOk}
 use Rattle.words.proofs.Laws.{AllWords}
-use Rattle.encoding.specs.Word.{outside, flagWord, flagOf, floatWord}
-use Rattle.encoding.specs.Maybe.{isUnset, numberIn, bandwidthMaybe, bandwidthOf}
-use Rattle.encoding.specs.NetworkModel.{endMaybe, modelOf, modelWords}
-use Rattle.encoding.specs.Cycle.{phaseWord, waitLengthMaybe, upBytesMaybe, cycleOf, cycleWords}
-use Rattle.encoding.proofs.Laws.{float-fits}
+use Rattle.layout.specs.Word.{outside, flagWord, flagOf, floatWord}
+use Rattle.layout.specs.Maybe.{isUnset, numberIn, bandwidthMaybe, bandwidthOf}
+use Rattle.layout.specs.NetworkModel.{endMaybe, modelOf, modelWords}
+use Rattle.layout.specs.Cycle.{phaseWord, waitLengthMaybe, upBytesMaybe, cycleOf, cycleWords}
+use Rattle.layout.proofs.Laws.{float-fits}
 use Rattle.drift.specs.Calls.{State}
 use Rattle.theorems.proofs.Choice.{either}
 

@@ -11,24 +11,27 @@ use lib.Ieee.{Float}
 use borrow.Author.Tests.{eqb-true, eqb-false}
 use Rattle.filters.specs.declared.round_trip_counter.RoundTripCounter.{RoundTripCounter}
 use Rattle.filters.specs.declared.round_trip_counter.RoundEnd.the-variants.{At}
-use Rattle.filters.specs.declared.time.Duration.{Duration}
-use Rattle.filters.specs.declared.time.Moment.{Moment}
+use Rattle.units.specs.declared.time.Duration.{Duration}
+use Rattle.units.specs.declared.time.Moment.{Moment}
 use Rattle.filters.specs.MaxBandwidthFilter.{maxGet}
 use Rattle.filters.specs.RoundTripCounter.{roundsSent, roundsRestart, endsRound, roundsFull, roundsEnded, roundsAcked}
-use Rattle.model.specs.declared.network_model.NetworkModel.{NetworkModel}
-use Rattle.model.specs.declared.params.Params.{Params}
-use Rattle.model.specs.declared.state.Growth.{Growth}
-use Rattle.model.specs.Answers.{settled, noLength, noMoment}
-use Rattle.model.specs.Bounds.{bytesOrUnsetOk, gainOk, within, roundOk, modelTests, modelOk, rowOf}
-use Rattle.model.specs.State.{roundNew, roundSent}
-use Rattle.model.specs.Calls.{withMost, withRounds, withRound, withLower, withLeast, withHigh, withGains, withGrowth, withMoment, growthRestarted, modelNew, one, startNumber, startModel, sentNext, restartNext, reachedNext, pacingNext, cwndNext, capNext, clearInflightNext, clearBandwidthNext, advanceNext, postponeNext}
-use Rattle.model.proofs.Rows.{none, or-right}
-use Rattle.events.specs.declared.record.Record.{Record}
-use Rattle.events.specs.declared.record.Sample.{Sample}
+use Rattle.state.specs.declared.network_model.NetworkModel.{NetworkModel}
+use Rattle.state.specs.declared.params.Params.{Params}
+use Rattle.state.specs.declared.parts.Growth.{Growth}
+use Rattle.state.specs.Answers.{settled, noLength, noMoment}
+use Rattle.state.specs.Bounds.{bytesOrUnsetOk, gainOk, within, rowOf}
+use Rattle.state.specs.Parts.{roundOk}
+use Rattle.state.specs.NetworkModel.{modelTests, modelOk}
+use Rattle.state.specs.Parts.{roundNew, roundSent}
+use Rattle.state.specs.NetworkModel.{withMost, withRounds, withRound, withLower, withLeast, withHigh, withGains, withGrowth, withMoment, growthRestarted, modelNew, one, startNumber, startModel, restartNext, capNext, clearInflightNext, clearBandwidthNext, advanceNext}
+use Rattle.changes.specs.Changes.{sentNext, reachedNext, pacingNext, cwndNext, postponeNext}
+use Rattle.state.proofs.Rows.{none, or-right}
+use Rattle.state.specs.declared.congestion_event.Record.{Record}
+use Rattle.state.specs.declared.congestion_event.Sample.{Sample}
 use Rattle.events.specs.Event as E
-use Rattle.events.specs.Judge as J
-use Rattle.phases.specs.declared.cycle.Cycle.{Cycle}
-use Rattle.phases.specs.Cycle.{cycleOk, stayFrom, cycleNew, freshNumber, freshCycle}
+use Rattle.judge.specs.Judge as J
+use Rattle.state.specs.declared.cycle.Cycle.{Cycle}
+use Rattle.state.specs.Cycle.{cycleOk, stayFrom, cycleNew, freshNumber, freshCycle}
 use Rattle.phases.specs.Phases.{restartedAt, isDown, exitModel, exitCycle, leftModel, leftCycle, slopeCycle, downCycle, cycleIn, cruiseModel, cruiseCycle, refillModel, refilled, refillCycle, upCycle}
 use Rattle.laws.proofs.Model as M
 use Rattle.laws.proofs.Events as N
@@ -39,9 +42,9 @@ use lib.Ieee.{binary32}
 use lib.Ieee.Bits.{ofBits-fits}
 use lib.ListN.{getD}
 use Rattle.words.proofs.Laws.{AllWords}
-use Rattle.encoding.specs.Params.{paramsOf}
-use Rattle.encoding.proofs.Laws.{float-fits}
-use Rattle.turns.specs.Turn.{isJudged, isAsked}
+use Rattle.layout.specs.Params.{paramsOf}
+use Rattle.layout.proofs.Laws.{float-fits}
+use Rattle.dispatch.specs.Turn.{isJudged, isAsked}
 use Rattle.theorems.specs.Steps.{Step, begins, makes, keeps, judgeStep, enterStep, changeStep, stepOf, begun, afterStep}
 use Rattle.theorems.proofs.Choice.{arms, either}
 use Rattle.theorems.proofs.Decoded.{state}
@@ -89,8 +92,8 @@ free-restart : (m : NetworkModel) → FreeModel m → FreeModel (restartNext m)
 unfolding restartNext withGrowth withRounds withRound roundsRestart growthRestarted
 free-restart m f = record { count = f .count; sent = f .sent; end = f .sent; losses = omega arith; flat = f .flat; queueing = omega arith; cwnd = f .cwnd; pacing = f .pacing }
 
-free-finish : (m : NetworkModel) (e : Record) → FreeModel m → FreeModel (J.finishNext m e)
-unfolding J.finishNext withRound
+free-finish : (m : NetworkModel) (e : Record) → FreeModel m → FreeModel (E.finishNext m e)
+unfolding E.finishNext withRound
 free-finish m e f =
     either FreeModel (e .ended) (withRound m roundNew) m
     (record { count = f .count; sent = f .sent; end = f .end; losses = omega arith; flat = f .flat; queueing = f .queueing; cwnd = f .cwnd; pacing = f .pacing }) f

@@ -7,19 +7,21 @@ use native.Mathlib.Nat.{pow-suc}
 use native.Mathlib.Omega.{arith}
 use lib.ListN.{length, getD}
 use borrow.Author.Tests.{eq-eqb}
-use Rattle.model.specs.Bounds.{modelOk}
-use Rattle.model.proofs.Rows.{and-left, and-right, and-both}
-use Rattle.phases.specs.Cycle.{cycleOk}
+use Rattle.state.specs.NetworkModel.{modelOk}
+use Rattle.state.proofs.Rows.{and-left, and-right, and-both}
+use Rattle.state.specs.Cycle.{cycleOk}
 use Rattle.words.specs.Words.{numberAt, wordsAt, allBytes}
 use Rattle.words.proofs.Laws.{AllWords, length-allBytes, words-of}
 use Rattle.words.proofs.Stores.{sets-whole}
-use Rattle.encoding.specs.NetworkModel.{modelOf}
-use Rattle.encoding.specs.Cycle.{cycleOf}
-use Rattle.encoding.specs.Params.{paramsOf}
-use Rattle.encoding.proofs.RoundTrip.{round-trip}
-use Rattle.exports.specs.Reply.{answered}
-use Rattle.exports.specs.ModelRun.{stateIn, stateWords, sameWords, isState, encodesNone, callsIn, callAt, turnAt, leftBy, wordsLeft, modelRow, stateOut}
-use Rattle.exports.proofs.ModelRun.{length-words-left, run-whole}
+use Rattle.layout.specs.NetworkModel.{modelOf}
+use Rattle.layout.specs.Cycle.{cycleOf}
+use Rattle.layout.specs.Params.{paramsOf}
+use Rattle.layout.proofs.RoundTrip.{round-trip}
+use Rattle.guovssalu.specs.Reply.{answered}
+use Rattle.guovssalu.specs.ModelRun.{stateIn, encodesNone, callsIn, turnAt, leftBy, wordsLeft, modelRow, stateOut}
+use Rattle.layout.specs.StateWords.{stateWords, sameWords, isState}
+use Rattle.dispatch.specs.OneCall.{callAt}
+use Rattle.guovssalu.proofs.ModelRun.{length-words-left, run-whole}
 use Rattle.drift.specs.Calls.{State}
 use Rattle.theorems.specs.Steps.{moment, duration, stateLeft, turnIn, stepOf, afterStep, stepsFrom, walk}
 use Rattle.theorems.specs.Runs.{Run, Ran, AreBytes, stateFrom, isWithin, count, call, before, Starts}

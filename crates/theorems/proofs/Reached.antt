@@ -8,14 +8,14 @@ use native.Mathlib.Omega.{arith}
 use lib.Dec.{eqb}
 use lib.ListN.{getD}
 use borrow.Author.Tests.{eqb-true, eqb-false}
-use Rattle.filters.specs.declared.time.Duration.{Duration}
-use Rattle.filters.specs.declared.time.Moment.{Moment}
-use Rattle.model.specs.declared.params.Params.{Params}
-use Rattle.model.specs.Answers.{settled, noMoment}
-use Rattle.model.specs.Calls.{startNumber}
-use Rattle.phases.specs.declared.cycle.Cycle.{Cycle}
-use Rattle.phases.specs.Cycle.{freshCycle}
-use Rattle.encoding.specs.Params.{paramsOf}
+use Rattle.units.specs.declared.time.Duration.{Duration}
+use Rattle.units.specs.declared.time.Moment.{Moment}
+use Rattle.state.specs.declared.params.Params.{Params}
+use Rattle.state.specs.Answers.{settled, noMoment}
+use Rattle.state.specs.NetworkModel.{startNumber}
+use Rattle.state.specs.declared.cycle.Cycle.{Cycle}
+use Rattle.state.specs.Cycle.{freshCycle}
+use Rattle.layout.specs.Params.{paramsOf}
 use Rattle.drift.specs.Calls.{Call, State, numberOf, after, run, started}
 use Rattle.drift.specs.Exact.{Turn, stays, Exact, unset, exactly, exactRun}
 use Rattle.drift.specs.Drift.{Along}

@@ -6,16 +6,16 @@ use mathlib.Core.Path.{_≡_, refl, ap}
 use lib.Dec.{leb, eqb}
 use lib.ListN.{getD}
 use borrow.Author.Tests.{ne-eqb, eqb-true}
-use Rattle.model.specs.declared.network_model.NetworkModel.{NetworkModel}
-use Rattle.model.specs.Answers.{settled}
-use Rattle.model.specs.Bounds.{rowOf}
-use Rattle.model.specs.Calls.{startModel}
-use Rattle.phases.specs.declared.cycle.Cycle.{Cycle}
-use Rattle.phases.specs.Cycle.{freshNumber, freshCycle}
-use Rattle.encoding.specs.Record.{recordIn}
-use Rattle.encoding.specs.Word.{flagWord}
-use Rattle.turns.specs.declared.turn.Turn.{Turn}
-use Rattle.turns.specs.Turn.{isJudged, isAsked, noRecord, startTurn, sendTurn, eventTurn, finishTurn, judgeTurn, askTurn, enterTurn, changeTurn, turnOf}
+use Rattle.state.specs.declared.network_model.NetworkModel.{NetworkModel}
+use Rattle.state.specs.Answers.{settled}
+use Rattle.state.specs.Bounds.{rowOf}
+use Rattle.state.specs.NetworkModel.{startModel}
+use Rattle.state.specs.declared.cycle.Cycle.{Cycle}
+use Rattle.state.specs.Cycle.{freshNumber, freshCycle}
+use Rattle.layout.specs.Record.{recordIn}
+use Rattle.layout.specs.Word.{flagWord}
+use Rattle.dispatch.specs.declared.turn.Turn.{Turn}
+use Rattle.dispatch.specs.Turn.{isJudged, isAsked, noRecord, startTurn, sendTurn, eventTurn, finishTurn, judgeTurn, askTurn, enterTurn, changeTurn, turnOf}
 use Rattle.drift.specs.Calls.{State}
 use Rattle.theorems.specs.Steps.{Refused, fresh, stateLeft, turnIn}
 use Rattle.theorems.proofs.Choice.{arms, either}

@@ -5,17 +5,19 @@ use mathlib.Core.Path.{_≡_, refl}
 use native.Mathlib.Omega.{arith}
 use lib.ListN.{getD}
 use Rattle.filters.specs.RoundTripCounter.{roundsFull, roundsEnded}
-use Rattle.model.specs.Calls.{startNumber, storedNumber, givenNumber, sentNumber, postponeNumber, headroomNumber}
+use Rattle.state.specs.NetworkModel.{startNumber, storedNumber, givenNumber, headroomNumber}
+use Rattle.changes.specs.Changes.{sentNumber, postponeNumber}
 use Rattle.events.specs.Event.{isFull, eventNumber}
-use Rattle.events.specs.Judge.{recordNumber, judgedNumber, growthFull, queueNumber}
+use Rattle.events.specs.Event.{recordNumber}
+use Rattle.judge.specs.Judge.{judgedNumber, growthFull, queueNumber}
 use Rattle.phases.specs.Phases.{entryNumber, exitNumber, slopeNumber}
 use Rattle.laws.specs.Replies.{Exactly}
 use Rattle.laws.proofs.Replies.{exactly}
-use Rattle.calls.specs.Ask.{askOf, readOf, readMore}
-use Rattle.calls.specs.Change.{changeOf, changeMore}
-use Rattle.calls.specs.Enter.{enterOf}
-use Rattle.calls.specs.Judge.{judgeOf}
-use Rattle.turns.specs.Turn.{startTurn, sendTurn, eventTurn, finishTurn, judgeTurn, askTurn, enterTurn, changeTurn, turnOf}
+use Rattle.dispatch.specs.Ask.{askOf, readOf, readMore}
+use Rattle.dispatch.specs.Change.{changeOf, changeMore}
+use Rattle.dispatch.specs.Enter.{enterOf}
+use Rattle.dispatch.specs.Question.{judgeOf}
+use Rattle.dispatch.specs.Turn.{startTurn, sendTurn, eventTurn, finishTurn, judgeTurn, askTurn, enterTurn, changeTurn, turnOf}
 use Rattle.drift.specs.Calls.{State}
 use Rattle.theorems.specs.Steps.{turnIn}
 use Rattle.theorems.specs.Rows.{rowsOf}

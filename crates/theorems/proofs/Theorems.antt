@@ -5,15 +5,15 @@ use mathlib.Core.Logic.{inl, inr}
 use mathlib.Core.Path.{_≡_, refl}
 use lib.Dec.{leb}
 use borrow.Author.Tests.{leb-true}
-use Rattle.model.specs.Bounds.{momentOk}
-use Rattle.model.proofs.Rows.{and-left, and-right}
-use Rattle.phases.proofs.Examples.{marked-examples}
+use Rattle.state.specs.Bounds.{momentOk}
+use Rattle.state.proofs.Rows.{and-left, and-right}
+use Rattle.laws.proofs.Examples.{marked-examples}
 use Rattle.laws.proofs.Contracts.{every-call}
 use Rattle.laws.proofs.Replies.{every-reply}
-use Rattle.encoding.specs.Word.{flagFits}
-use Rattle.encoding.proofs.RoundTrip.{round-trip}
-use Rattle.encoding.proofs.Tested.{fits-where, tested}
-use Rattle.calls.specs.Enter.{downAt}
+use Rattle.layout.specs.Word.{flagFits}
+use Rattle.layout.proofs.RoundTrip.{round-trip}
+use Rattle.layout.proofs.Tested.{fits-where, tested}
+use Rattle.dispatch.specs.Enter.{downAt}
 use Rattle.theorems.specs.Runs.{Unasked}
 use Rattle.theorems.specs.Steps.{moment}
 use Rattle.theorems.specs.Theorems.{Theorems}

@@ -6,8 +6,8 @@ use mathlib.Core.List.{List, [], _∷_, _++_}
 use lib.Dec.{eqb}
 use lib.ListN.{length, replicate, take}
 use Rattle.words.specs.Words.{allBytes}
-use Rattle.turns.specs.Examples.{same, zeros}
-use Rattle.exports.specs.ModelRun.{modelRow, stateOut, answersOut}
+use Rattle.dispatch.specs.Examples.{same, zeros}
+use Rattle.guovssalu.specs.ModelRun.{modelRow, stateOut, answersOut}
 use Rattle.drift.specs.Exact.{Exact, unset, over, inflightTurn}
 use Rattle.drift.specs.Drift.{usualParts}
 use Rattle.theorems.specs.Runs.{Run, exactAfter}

@@ -5,17 +5,18 @@ use Prim.Native.Nat.{ℕ}
 use mathlib.Core.Bool.{Bool, true, false, cond, _&&_, _||_}
 use mathlib.Core.List.{List}
 use lib.Dec.{leb, eqb}
-use Rattle.filters.specs.declared.bandwidth.Bandwidth.{Bandwidth}
-use Rattle.model.specs.Bounds.{paramsOk, bytesOk, bytesOrUnsetOk, bandwidthOk, lengthOk, momentOk, gainOk}
-use Rattle.model.specs.Calls.{postponed}
-use Rattle.events.specs.Event.{recordOk}
-use Rattle.phases.specs.Cycle.{roundsOk}
+use Rattle.units.specs.declared.bandwidth.Bandwidth.{Bandwidth}
+use Rattle.state.specs.Params.{paramsOk}
+use Rattle.state.specs.Bounds.{bytesOk, bytesOrUnsetOk, bandwidthOk, lengthOk, momentOk, gainOk}
+use Rattle.changes.specs.Changes.{postponed}
+use Rattle.state.specs.CongestionEvent.{recordOk}
+use Rattle.state.specs.Cycle.{roundsOk}
 use Rattle.laws.specs.Replies.{Rows, storedRows, givenRows, judgedRows, startRows, sentRows, eventRows, growthRows, queueRows, entryRows, exitRows, slopeRows}
-use Rattle.encoding.specs.Word.{word, floatOf}
-use Rattle.encoding.specs.Params.{paramsOf}
-use Rattle.encoding.specs.Record.{recordOf}
-use Rattle.encoding.specs.Sample.{sampleOf, ackedOf}
-use Rattle.calls.specs.Enter.{downAt}
+use Rattle.layout.specs.Word.{word, floatOf}
+use Rattle.layout.specs.Params.{paramsOf}
+use Rattle.layout.specs.Record.{recordOf}
+use Rattle.layout.specs.Sample.{sampleOf, ackedOf}
+use Rattle.dispatch.specs.Enter.{downAt}
 use Rattle.drift.specs.Calls.{State}
 use Rattle.theorems.specs.Steps.{moment, duration}
 

@@ -13,22 +13,24 @@ use lib.Dec.{ltb, eqb}
 use lib.Ieee.{Float}
 use lib.ListN.{length, getD, take, drop}
 use denote.Ref.{now}
-use Rattle.model.specs.Answers.{settled}
+use Rattle.state.specs.Answers.{settled}
 use Rattle.filters.specs.WindowedFilter.{windowedNew}
-use Rattle.model.specs.Bounds.{bytesOk, modelOk}
-use Rattle.phases.specs.Cycle.{roundsOk, cycleOk}
+use Rattle.state.specs.Bounds.{bytesOk}
+use Rattle.state.specs.NetworkModel.{modelOk}
+use Rattle.state.specs.Cycle.{roundsOk, cycleOk}
 use Rattle.words.specs.Words as Bytes
-use Rattle.encoding.specs.Maybe.{bandwidthOf}
-use Rattle.encoding.specs.Word.{word, floatOf}
-use Rattle.encoding.specs.NetworkModel.{modelOf}
-use Rattle.encoding.specs.Cycle.{cycleOf}
-use Rattle.exports.specs.Conversions.{f32Bits, f64Bits, f32ToU64, f64RoundToU64, scaledBy, bandwidthBy, bytesIn}
-use Rattle.exports.specs.FilterRun.{pairs, refuses}
-use Rattle.exports.specs.ModelRun.{stateIn, encodesNone, callsIn, callAt}
-use Rattle.exports.proofs.conversions as conversions
-use Rattle.exports.proofs.filter_run.guovssalu_filter_run as filter
-use Rattle.exports.proofs.model_run.guovssalu_run as model
-use Rattle.exports.proofs.slope.guovssalu_raise_inflight_high_slope as slope
+use Rattle.layout.specs.Maybe.{bandwidthOf}
+use Rattle.layout.specs.Word.{word, floatOf}
+use Rattle.layout.specs.NetworkModel.{modelOf}
+use Rattle.layout.specs.Cycle.{cycleOf}
+use Rattle.guovssalu.specs.Conversions.{f32Bits, f64Bits, f32ToU64, f64RoundToU64, scaledBy, bandwidthBy, bytesIn}
+use Rattle.guovssalu.specs.FilterRun.{pairs, refuses}
+use Rattle.guovssalu.specs.ModelRun.{stateIn, encodesNone, callsIn}
+use Rattle.dispatch.specs.OneCall.{callAt}
+use Rattle.guovssalu.proofs.conversions as conversions
+use Rattle.guovssalu.proofs.filter_run.guovssalu_filter_run as filter
+use Rattle.guovssalu.proofs.model_run.guovssalu_run as model
+use Rattle.guovssalu.proofs.slope.guovssalu_raise_inflight_high_slope as slope
 use Rattle.drift.specs.Calls.{Call, State}
 use Rattle.drift.specs.Exact as X
 use Rattle.drift.specs.Exact.{Exact}

@@ -8,20 +8,20 @@ use mathlib.Core.Bool.{Bool, true, false, cond, _||_}
 use mathlib.Core.List.{List, [], _∷_}
 use mathlib.Core.Path.{_≡_}
 use lib.Dec.{leb, eqb}
-use Rattle.filters.specs.declared.time.Duration.{Duration}
-use Rattle.filters.specs.declared.time.Moment.{Moment}
-use Rattle.model.specs.declared.params.Params.{Params}
-use Rattle.model.specs.Answers.{settled, noLength, noMoment}
-use Rattle.model.specs.Calls.{one, modelNew, startNumber, startModel}
-use Rattle.phases.specs.Cycle.{cycleNew, freshCycle}
-use Rattle.encoding.specs.Word.{word, flagOf, floatOf}
-use Rattle.encoding.specs.Params.{paramsOf}
-use Rattle.encoding.specs.Record.{recordOf, recordIn}
-use Rattle.encoding.specs.Sample.{sampleOf, ackedOf}
-use Rattle.calls.specs.Enter.{downAt}
-use Rattle.turns.specs.declared.turn.Turn.{Turn}
-use Rattle.turns.specs.Turn.{isJudged, isAsked, noRecord, turnOf}
-use Rattle.exports.specs.ModelRun.{callAt}
+use Rattle.units.specs.declared.time.Duration.{Duration}
+use Rattle.units.specs.declared.time.Moment.{Moment}
+use Rattle.state.specs.declared.params.Params.{Params}
+use Rattle.state.specs.Answers.{settled, noLength, noMoment}
+use Rattle.state.specs.NetworkModel.{one, modelNew, startNumber, startModel}
+use Rattle.state.specs.Cycle.{cycleNew, freshCycle}
+use Rattle.layout.specs.Word.{word, flagOf, floatOf}
+use Rattle.layout.specs.Params.{paramsOf}
+use Rattle.layout.specs.Record.{recordOf, recordIn}
+use Rattle.layout.specs.Sample.{sampleOf, ackedOf}
+use Rattle.dispatch.specs.Enter.{downAt}
+use Rattle.dispatch.specs.declared.turn.Turn.{Turn}
+use Rattle.dispatch.specs.Turn.{isJudged, isAsked, noRecord, turnOf}
+use Rattle.dispatch.specs.OneCall.{callAt}
 use Rattle.drift.specs.Calls as C
 use Rattle.drift.specs.Calls.{Call, Other, State, numberOf, after}
 use Rattle.drift.specs.Exact as X

@@ -32,18 +32,20 @@ use lib.Ieee.Exact.{HasValue}
 use lib.ListN.{length}
 use Rattle.numbers.specs.Scaling.{complement, partsOf}
 use Rattle.numbers.specs.Examples.{all}
-use Rattle.phases.specs.Examples.{markedExamples}
-use Rattle.model.specs.Bounds.{momentOk}
+use Rattle.laws.specs.Examples.{markedExamples}
+use Rattle.state.specs.Bounds.{momentOk}
 use Rattle.laws.specs.Laws.{EveryCall}
 use Rattle.laws.specs.Replies.{Exactly, EveryReply}
 use Rattle.words.specs.Words.{allBytes}
-use Rattle.encoding.specs.RoundTrip.{RoundTrip}
-use Rattle.encoding.specs.Tested.{Tested}
-use Rattle.encoding.specs.Word.{word}
-use Rattle.calls.specs.Enter.{downAt}
-use Rattle.exports.specs.FilterRun.{runRow, runOut}
-use Rattle.exports.specs.ModelRun.{stateWords, encodesNone, answerWords, modelRow, stateOut, answersOut}
-use Rattle.exports.specs.Slope.{slopeRow, slopeOut}
+use Rattle.layout.specs.RoundTrip.{RoundTrip}
+use Rattle.layout.specs.Tested.{Tested}
+use Rattle.layout.specs.Word.{word}
+use Rattle.dispatch.specs.Enter.{downAt}
+use Rattle.guovssalu.specs.FilterRun.{runRow, runOut}
+use Rattle.layout.specs.StateWords.{stateWords}
+use Rattle.guovssalu.specs.ModelRun.{encodesNone, modelRow, stateOut, answersOut}
+use Rattle.dispatch.specs.OneCall.{answerWords}
+use Rattle.guovssalu.specs.Slope.{slopeRow, slopeOut}
 use Rattle.drift.specs.Calls.{Call, State}
 use Rattle.drift.specs.Exact.{Turn, Exact, unset, inflightTurn, bandwidthTurn}
 use Rattle.drift.specs.Drift.{Low, Follows, IsBeta, usualBeta, usualParts, Under}

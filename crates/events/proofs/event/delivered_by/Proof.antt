@@ -2,7 +2,7 @@
 use borrow.Author.Needs.{needs}
 use mathlib.Core.Path.{_∙_}
 use Rattle.events.specs.Event.{deliveredBy}
-use Rattle.events.proofs.Laws.{arm-true, arm-false}
+use Rattle.state.proofs.Laws.{arm-true, arm-false}
 use Rattle.events.proofs.event.delivered_by.Statement.{statement}
 use Rattle.events.proofs.event.delivered_by.Tie as tie
 

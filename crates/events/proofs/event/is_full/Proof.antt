@@ -6,7 +6,7 @@ use Prim.Native.Nat.{ℕ, _-_, _^_}
 use lib.Dec.{ltb, eqb}
 use Rattle.filters.specs.RoundTripCounter.{roundsNumber, roundsFull}
 use Rattle.events.specs.Event.{isFull}
-use Rattle.events.proofs.Laws.{full-is}
+use Rattle.state.proofs.Laws.{full-is}
 use Rattle.events.proofs.event.is_full.Statement.{statement}
 use Rattle.events.proofs.event.is_full.Tie as tie
 

@@ -1,7 +1,7 @@
 -- `latest_next` meets its contract.
 use borrow.Author.Needs.{needs}
 use mathlib.Core.Path.{refl, ap, ap₂, _∙_}
-use Rattle.model.specs.declared.state.Latest.{Latest}
+use Rattle.state.specs.declared.parts.Latest.{Latest}
 use Rattle.events.specs.Event.{latestAfter}
 use Rattle.events.proofs.event.latest_next.Statement.{statement}
 use Rattle.events.proofs.event.latest_next.Tie as tie

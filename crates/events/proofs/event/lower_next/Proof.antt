@@ -1,8 +1,8 @@
 -- `lower_next` meets its contract.
 use borrow.Author.Needs.{needs}
 use mathlib.Core.Path.{refl, ap, ap₂, _∙_}
-use Rattle.filters.specs.declared.bandwidth.Bandwidth.{Bandwidth}
-use Rattle.model.specs.declared.state.Latest.{Latest}
+use Rattle.units.specs.declared.bandwidth.Bandwidth.{Bandwidth}
+use Rattle.state.specs.declared.parts.Latest.{Latest}
 use Rattle.events.specs.Event.{lowerNext, lowerAfter, acts}
 use Rattle.events.proofs.event.lower_next.Statement.{statement}
 use Rattle.events.proofs.event.lower_next.Tie as tie

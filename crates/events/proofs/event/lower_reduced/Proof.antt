@@ -2,11 +2,11 @@
 use borrow.Author.Needs.{needs}
 use mathlib.Core.Path.{ap, ap₂, _∙_}
 use Prim.Native.Nat.{ℕ, max}
-use Rattle.filters.specs.declared.bandwidth.Bandwidth.{Bandwidth}
-use Rattle.filters.specs.Bandwidth.{largerOf, timesF32}
+use Rattle.units.specs.declared.bandwidth.Bandwidth.{Bandwidth}
+use Rattle.units.specs.Bandwidth.{largerOf, timesF32}
 use Rattle.numbers.specs.Scaling.{scaled}
-use Rattle.model.specs.declared.state.Lower.{Lower}
-use Rattle.model.specs.declared.state.MaybeBandwidth.the-variants.{Set}
+use Rattle.state.specs.declared.parts.Lower.{Lower}
+use Rattle.state.specs.declared.parts.MaybeBandwidth.the-variants.{Set}
 use Rattle.events.specs.Event.{lowerReduced}
 use Rattle.events.proofs.event.lower_reduced.Statement.{statement}
 use Rattle.events.proofs.event.lower_reduced.Tie as tie

@@ -5,14 +5,14 @@ use mathlib.Core.Bool.{Bool}
 use Rattle.filters.specs.declared.max_bandwidth_filter.MaxBandwidthFilter.{MaxBandwidthFilter}
 use Rattle.filters.specs.declared.min_rtt_filter.MinRttFilter.{MinRttFilter}
 use Rattle.filters.specs.declared.round_trip_counter.RoundTripCounter.{RoundTripCounter}
-use Rattle.model.specs.declared.network_model.NetworkModel.{NetworkModel}
-use Rattle.model.specs.declared.state.Latest.{Latest}
-use Rattle.model.specs.declared.state.Lower.{Lower}
-use Rattle.model.specs.declared.state.Round.{Round}
-use Rattle.events.specs.declared.record.Record.{Record}
-use Rattle.events.specs.declared.record.Sample.{Sample}
+use Rattle.state.specs.declared.network_model.NetworkModel.{NetworkModel}
+use Rattle.state.specs.declared.parts.Latest.{Latest}
+use Rattle.state.specs.declared.parts.Lower.{Lower}
+use Rattle.state.specs.declared.parts.Round.{Round}
+use Rattle.state.specs.declared.congestion_event.Record.{Record}
+use Rattle.state.specs.declared.congestion_event.Sample.{Sample}
 use Rattle.events.specs.Event.{modelOf, lowerNext}
-use Rattle.model.proofs.Settling.{ap6}
+use Rattle.state.proofs.Settling.{ap6}
 use Rattle.events.proofs.event.model_of.Statement.{statement}
 use Rattle.events.proofs.event.model_of.Tie as tie
 

@@ -3,12 +3,12 @@ use borrow.Author.Needs.{needs}
 use mathlib.Core.Path.{refl, ap, ap₂, _∙_}
 use mathlib.Core.Bool.{Bool}
 use Prim.Native.Nat.{ℕ, _-_}
-use Rattle.model.specs.declared.state.MaybeBandwidth.{MaybeBandwidth}
-use Rattle.events.specs.declared.record.MaybeLength.{MaybeLength}
-use Rattle.events.specs.declared.record.Record.{Record}
-use Rattle.events.specs.declared.record.SendState.{SendState}
+use Rattle.state.specs.declared.parts.MaybeBandwidth.{MaybeBandwidth}
+use Rattle.state.specs.declared.congestion_event.MaybeLength.{MaybeLength}
+use Rattle.state.specs.declared.congestion_event.Record.{Record}
+use Rattle.state.specs.declared.congestion_event.SendState.{SendState}
 use Rattle.events.specs.Event.{recordOf, bandwidthAfter}
-use Rattle.model.proofs.Settling.{ap6}
+use Rattle.state.proofs.Settling.{ap6}
 use Rattle.events.proofs.event.record_of.Statement.{statement}
 use Rattle.events.proofs.event.record_of.Tie as tie
 

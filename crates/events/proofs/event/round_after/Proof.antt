@@ -3,7 +3,7 @@ use borrow.Author.Needs.{needs}
 use borrow.Author.Tests.{lt-ltb, le-ltb}
 use native.Mathlib.Omega.{arith}
 use Rattle.events.specs.Event.{roundAfter}
-use Rattle.events.proofs.Laws.{not-most}
+use Rattle.state.proofs.Laws.{not-most}
 use Rattle.events.proofs.event.round_after.Statement.{statement}
 use Rattle.events.proofs.event.round_after.Tie as tie
 

@@ -5,9 +5,9 @@ use mathlib.Core.Bool.{Bool, true, false}
 use Prim.Native.Nat.{ℕ, _+_, _-_, _^_, _<_}
 use lib.Dec.{ltb, eqb}
 use Rattle.filters.specs.declared.round_trip_counter.RoundTripCounter.{RoundTripCounter}
-use Rattle.events.specs.declared.record.Record.{Record}
+use Rattle.state.specs.declared.congestion_event.Record.{Record}
 use Rattle.events.specs.Event.{recordOf, recordNext, modelOf, modelNext}
-use Rattle.model.proofs.Settling.{done-as, refused-as}
+use Rattle.state.proofs.Settling.{done-as, refused-as}
 use Rattle.events.proofs.Room.{room}
 use Rattle.events.proofs.event.start_tested.Statement.{statement}
 use Rattle.events.proofs.event.start_tested.Tie as tie

@@ -1,6 +1,6 @@
 -- `accepted` meets its contract.
 use mathlib.Core.Path.{refl}
-use Rattle.model.specs.Calls.{withMoment}
+use Rattle.state.specs.NetworkModel.{withMoment}
 use Rattle.phases.proofs.phases.accepted.Statement.{statement}
 use Rattle.phases.proofs.phases.accepted.Tie as tie
 

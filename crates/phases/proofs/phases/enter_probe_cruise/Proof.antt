@@ -1,8 +1,8 @@
 -- `enter_probe_cruise` meets its contract: what its calls ensure, put together.
 use borrow.Author.Needs.{needs}
 use mathlib.Core.Path.{ap, _∙_}
-use Rattle.filters.specs.Reply.{number}
-use Rattle.model.proofs.Settling.{settled-as}
+use Rattle.units.specs.Reply.{number}
+use Rattle.state.proofs.Settling.{settled-as}
 use Rattle.phases.proofs.phases.enter_probe_cruise.Statement.{statement}
 use Rattle.phases.proofs.phases.enter_probe_cruise.Tie as tie
 

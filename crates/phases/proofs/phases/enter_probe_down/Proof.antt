@@ -2,7 +2,7 @@
 use borrow.Author.Needs.{needs}
 use mathlib.Core.Path.{refl, sym, _∙_}
 use borrow.Author.Tests.{eqb-true}
-use Rattle.model.proofs.Settling.{done-as, refused-as}
+use Rattle.state.proofs.Settling.{done-as, refused-as}
 use Rattle.phases.proofs.Accepted.{down-base}
 use Rattle.phases.proofs.phases.enter_probe_down.Statement.{statement}
 use Rattle.phases.proofs.phases.enter_probe_down.Tie as tie

@@ -1,6 +1,6 @@
 -- `raise_inflight_high_slope` meets its contract: by whether the call is done.
 use borrow.Author.Needs.{needs}
-use Rattle.model.proofs.Settling.{done-as, refused-as}
+use Rattle.state.proofs.Settling.{done-as, refused-as}
 use mathlib.Core.Path.{refl}
 use Rattle.phases.proofs.phases.raise_inflight_high_slope.Statement.{statement}
 use Rattle.phases.proofs.phases.raise_inflight_high_slope.Tie as tie

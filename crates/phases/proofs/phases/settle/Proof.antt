@@ -1,7 +1,7 @@
 -- `settle` meets its contract: by whether the call is done.
 use borrow.Author.Needs.{needs}
 use mathlib.Core.Path.{refl}
-use Rattle.model.proofs.Settling.{done, refused}
+use Rattle.state.proofs.Settling.{done, refused}
 use Rattle.phases.proofs.phases.settle.Statement.{statement}
 use Rattle.phases.proofs.phases.settle.Tie as tie
 

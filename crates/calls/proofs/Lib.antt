@@ -1,3 +1,0 @@
--- Laws of the calls.
-pub mod Same
-pub mod Determined

@@ -1,0 +1,2 @@
+-- Laws, and theorems about the contracts.
+pub mod Determined

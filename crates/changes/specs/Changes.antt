@@ -1,0 +1,42 @@
+-- The calls on the model: network_model.rs, with document 01's refusals. For each call, the number of its reply and the model it leaves, or what it answers.
+use Prim.Native.Nat.{ℕ, _+_}
+use mathlib.Core.Bool.{true, false, not, _&&_}
+use lib.Dec.{leb}
+use lib.Ieee.{Float}
+use Rattle.units.specs.declared.time.Duration.{Duration}
+use Rattle.units.specs.declared.time.Moment.{Moment}
+use Rattle.filters.specs.MinRttFilter.{minForce}
+use Rattle.filters.specs.RoundTripCounter.{roundsSent}
+use Rattle.units.specs.Time.{plus, isBefore}
+use Rattle.state.specs.declared.network_model.NetworkModel.{NetworkModel}
+use Rattle.state.specs.Bounds.{rowOf, bytesOk, lengthOk, momentOk}
+use Rattle.state.specs.NetworkModel.{modelOk, withRounds, withLeast, withRound, withGains, withGrowth, withMoment, givenNumber}
+use Rattle.state.specs.Parts.{roundSent}
+
+-- ---- on_packet_sent
+unfoldable pub sentNumber : NetworkModel → Moment → ℕ → ℕ → ℕ
+sentNumber m now inflight bytes = rowOf (not (modelOk m)) (not (momentOk now && bytesOk inflight && bytesOk bytes)) (isBefore now (m .moment)) false false
+
+unfoldable pub sentNext : NetworkModel → Moment → ℕ → ℕ → ℕ → NetworkModel
+sentNext m now inflight packet bytes =
+    withMoment (withRounds (withRound m (roundSent (m .round) inflight (leb (m .high) (inflight + bytes)))) (roundsSent (m .rounds) packet)) now
+
+-- ---- setters, caps and clears
+unfoldable pub reachedNext : NetworkModel → NetworkModel
+reachedNext m = withGrowth m (record { reached = true; baseline = m .growth .baseline; flat = m .growth .flat; queueing = m .growth .queueing; ignore = m .growth .ignore })
+
+unfoldable pub pacingNext : NetworkModel → Float → NetworkModel
+pacingNext m g = withGains m (record { cwnd = m .gains .cwnd; pacing = g })
+
+unfoldable pub cwndNext : NetworkModel → Float → NetworkModel
+cwndNext m g = withGains m (record { cwnd = g; pacing = m .gains .pacing })
+
+-- ---- postpone_min_rtt_timestamp: "a postponed moment would exceed 2^62" is 2
+unfoldable pub postponed : NetworkModel → Duration → Moment
+postponed m d = plus (m .least .timestamp) d
+
+unfoldable pub postponeNumber : NetworkModel → Duration → ℕ
+postponeNumber m d = givenNumber m (lengthOk d && momentOk (postponed m d))
+
+unfoldable pub postponeNext : NetworkModel → Duration → NetworkModel
+postponeNext m d = withLeast m (minForce (m .least .rtt) (postponed m d))

@@ -1,0 +1,2 @@
+-- What the calls that change the model must leave.
+pub mod Changes

@@ -1,0 +1,216 @@
+// The calls that change the model and carry no event.
+ghost use mathlib.Core.Path.{_≡_};
+ghost use mathlib.Core.Bool.{true, false};
+ghost use Prim.Native.Nat.{_+_, _-_};
+ghost use lib.Dec.{leb};
+ghost use Rattle.units.specs.Reply.{number};
+ghost use Rattle.state.specs.Answers.{settled};
+ghost use Rattle.state.specs.NetworkModel.{modelOk, one, storedNumber, givenNumber, restartNext, withHigh, capNext, clearInflightNext, clearBandwidthNext, advanceNext};
+ghost use Rattle.state.specs.Bounds.{bytesOrUnsetOk, gainOk};
+ghost use Rattle.changes.specs.Changes.{sentNumber, sentNext, reachedNext, pacingNext, cwndNext, postponed, postponeNumber, postponeNext};
+use state::NetworkModel;
+use state::bounds::bytes_ok;
+use state::bounds::bytes_or_unset_ok;
+use state::bounds::gain_ok;
+use state::bounds::length_ok;
+use state::bounds::moment_ok;
+use state::bounds::refusal;
+use state::network_model::Changed;
+use units::Duration;
+use units::Moment;
+use units::Reply;
+
+// Whether inflight and bytes together reach the bound.
+fn reaches(high: u64, inflight: u64, bytes: u64) -> bool
+    ensures { λ r. ⌜ r ≡ leb high (inflight + bytes) ⌝ }
+{
+    if high <= inflight {
+        true
+    } else {
+        high - inflight <= bytes
+    }
+}
+
+// A packet is sent, of so many bytes, while so many were in flight.
+pub fn on_packet_sent(
+    model: NetworkModel,
+    now: Moment,
+    inflight: u64,
+    packet: u64,
+    bytes: u64,
+) -> Changed
+    ensures reply { λ r. ⌜ number (r .reply) ≡ sentNumber model now inflight bytes ⌝ }
+    ensures model { λ r. ⌜ r .model ≡ settled (sentNumber model now inflight bytes) (sentNext model now inflight packet bytes) model ⌝ }
+{
+    sent_tested(model, model.ok(), now, inflight, packet, bytes)
+}
+
+// The same, where it is known whether the model is within its bounds.
+pub fn sent_tested(
+    model: NetworkModel,
+    fine: bool,
+    now: Moment,
+    inflight: u64,
+    packet: u64,
+    bytes: u64,
+) -> Changed
+    requires { ⌜ fine ≡ modelOk model ⌝ }
+    ensures reply { λ r. ⌜ number (r .reply) ≡ sentNumber model now inflight bytes ⌝ }
+    ensures model { λ r. ⌜ r .model ≡ settled (sentNumber model now inflight bytes) (sentNext model now inflight packet bytes) model ⌝ }
+{
+    let reply = sent_reply(model, fine, now, inflight, bytes);
+    let round = model.round;
+    let rounds = model.rounds;
+    let mut next = model;
+    if reply.is_done() {
+        next.round = round.sent(inflight, reaches(model.high, inflight, bytes));
+        next.rounds = rounds.on_packet_sent(packet);
+        next.moment = now;
+    }
+    Changed { reply, model: next }
+}
+
+fn sent_reply(model: NetworkModel, fine: bool, now: Moment, inflight: u64, bytes: u64) -> Reply
+    requires { ⌜ fine ≡ modelOk model ⌝ }
+    ensures { λ r. ⌜ number r ≡ sentNumber model now inflight bytes ⌝ }
+{
+    let moment = model.moment;
+    let given = moment_ok(now) & bytes_ok(inflight) & bytes_ok(bytes);
+    refusal(!fine, !given, now.is_before(moment), false, false)
+}
+
+// The round begins anew before its end, uncounted.
+pub fn restart_round_early(model: NetworkModel) -> Changed
+    ensures reply { λ r. ⌜ number (r .reply) ≡ storedNumber model ⌝ }
+    ensures model { λ r. ⌜ r .model ≡ settled (storedNumber model) (restartNext model) model ⌝ }
+{
+    model.settle(model.stored(), model.restarted())
+}
+
+// The bottleneck's bandwidth has been found.
+pub fn set_full_bandwidth_reached(model: NetworkModel) -> Changed
+    ensures reply { λ r. ⌜ number (r .reply) ≡ storedNumber model ⌝ }
+    ensures model { λ r. ⌜ r .model ≡ settled (storedNumber model) (reachedNext model) model ⌝ }
+{
+    model.settle(model.stored(), reached(model))
+}
+
+fn reached(model: NetworkModel) -> NetworkModel
+    ensures { λ r. ⌜ r ≡ reachedNext model ⌝ }
+{
+    let mut growth = model.growth;
+    growth.reached = true;
+    let mut next = model;
+    next.growth = growth;
+    next
+}
+
+pub fn set_pacing_gain(model: NetworkModel, gain: f32) -> Changed
+    ensures reply { λ r. ⌜ number (r .reply) ≡ givenNumber model (gainOk gain) ⌝ }
+    ensures model { λ r. ⌜ r .model ≡ settled (givenNumber model (gainOk gain)) (pacingNext model gain) model ⌝ }
+{
+    model.settle(model.given(gain_ok(gain)), paced(model, gain))
+}
+
+fn paced(model: NetworkModel, gain: f32) -> NetworkModel
+    ensures { λ r. ⌜ r ≡ pacingNext model gain ⌝ }
+{
+    let mut gains = model.gains;
+    gains.pacing = gain;
+    let mut next = model;
+    next.gains = gains;
+    next
+}
+
+pub fn set_cwnd_gain(model: NetworkModel, gain: f32) -> Changed
+    ensures reply { λ r. ⌜ number (r .reply) ≡ givenNumber model (gainOk gain) ⌝ }
+    ensures model { λ r. ⌜ r .model ≡ settled (givenNumber model (gainOk gain)) (cwndNext model gain) model ⌝ }
+{
+    model.settle(model.given(gain_ok(gain)), windowed(model, gain))
+}
+
+fn windowed(model: NetworkModel, gain: f32) -> NetworkModel
+    ensures { λ r. ⌜ r ≡ cwndNext model gain ⌝ }
+{
+    let mut gains = model.gains;
+    gains.cwnd = gain;
+    let mut next = model;
+    next.gains = gains;
+    next
+}
+
+pub fn set_inflight_hi(model: NetworkModel, bytes: u64) -> Changed
+    ensures reply { λ r. ⌜ number (r .reply) ≡ givenNumber model (bytesOrUnsetOk bytes) ⌝ }
+    ensures model { λ r. ⌜ r .model ≡ settled (givenNumber model (bytesOrUnsetOk bytes)) (withHigh model bytes) model ⌝ }
+{
+    model.settle(model.given(bytes_or_unset_ok(bytes)), topped(model, bytes))
+}
+
+fn topped(model: NetworkModel, bytes: u64) -> NetworkModel
+    ensures { λ r. ⌜ r ≡ withHigh model bytes ⌝ }
+{
+    let mut next = model;
+    next.high = bytes;
+    next
+}
+
+// inflight_lo becomes at most the cap; an unset one stays so.
+pub fn cap_inflight_lo(model: NetworkModel, cap: u64) -> Changed
+    ensures reply { λ r. ⌜ number (r .reply) ≡ givenNumber model (bytesOrUnsetOk cap) ⌝ }
+    ensures model { λ r. ⌜ r .model ≡ settled (givenNumber model (bytesOrUnsetOk cap)) (capNext model cap) model ⌝ }
+{
+    model.settle(model.given(bytes_or_unset_ok(cap)), model.capped(cap))
+}
+
+pub fn clear_inflight_lo(model: NetworkModel) -> Changed
+    ensures reply { λ r. ⌜ number (r .reply) ≡ storedNumber model ⌝ }
+    ensures model { λ r. ⌜ r .model ≡ settled (storedNumber model) (clearInflightNext model) model ⌝ }
+{
+    model.settle(model.stored(), model.inflight_cleared())
+}
+
+pub fn clear_bandwidth_lo(model: NetworkModel) -> Changed
+    ensures reply { λ r. ⌜ number (r .reply) ≡ storedNumber model ⌝ }
+    ensures model { λ r. ⌜ r .model ≡ settled (storedNumber model) (clearBandwidthNext model) model ⌝ }
+{
+    model.settle(model.stored(), model.bandwidth_cleared())
+}
+
+pub fn advance_max_bandwidth_filter(model: NetworkModel) -> Changed
+    ensures reply { λ r. ⌜ number (r .reply) ≡ storedNumber model ⌝ }
+    ensures model { λ r. ⌜ r .model ≡ settled (storedNumber model) (advanceNext model) model ⌝ }
+{
+    model.settle(model.stored(), model.advanced())
+}
+
+// The moment of the minimum round trip is put off.
+pub fn postpone_min_rtt_timestamp(model: NetworkModel, length: Duration) -> Changed
+    ensures reply { λ r. ⌜ number (r .reply) ≡ postponeNumber model length ⌝ }
+    ensures model { λ r. ⌜ r .model ≡ settled (postponeNumber model length) (postponeNext model length) model ⌝ }
+{
+    model.settle(postpone_reply(model, length), put_off(model, length))
+}
+
+fn later(model: NetworkModel, length: Duration) -> Moment
+    ensures { λ r. ⌜ r ≡ postponed model length ⌝ }
+{
+    let least = model.least;
+    let timestamp = least.timestamp;
+    timestamp.plus(length)
+}
+
+fn postpone_reply(model: NetworkModel, length: Duration) -> Reply
+    ensures { λ r. ⌜ number r ≡ postponeNumber model length ⌝ }
+{
+    model.given(length_ok(length) & moment_ok(later(model, length)))
+}
+
+fn put_off(model: NetworkModel, length: Duration) -> NetworkModel
+    ensures { λ r. ⌜ r ≡ postponeNext model length ⌝ }
+{
+    let least = model.least;
+    let filter = least.force_update(least.rtt, later(model, length));
+    let mut next = model;
+    next.least = filter;
+    next
+}

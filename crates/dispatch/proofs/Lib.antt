@@ -1,0 +1,6 @@
+-- Laws, and theorems about the contracts.
+pub mod Examples
+pub mod OneCall
+pub mod Parts
+pub mod Same
+pub mod Determined

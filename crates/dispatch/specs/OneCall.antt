@@ -1,0 +1,13 @@
+-- The exported run of the model: calls, carried out in order on a state in lent bytes (docs/LAYOUT.md).
+use Prim.Native.Nat.{ℕ}
+use mathlib.Core.List.{List, [], _∷_}
+use Rattle.words.specs.Words.{wordsAt}
+use Rattle.dispatch.specs.declared.turn.Turn.{Turn}
+
+-- the words of the call at an index
+abbrev pub callAt : List ℕ → ℕ → List ℕ
+callAt src at = wordsAt src at 49
+
+-- docs/LAYOUT.md, "An answer": the reply's number, the answer, the event's record: 18 words, 144 bytes
+unfoldable pub answerWords : Turn → List ℕ
+answerWords t = t .reply ∷ t .value ∷ t .event

@@ -1,0 +1,151 @@
+// One call of a run: carried out, with its answer written. A send and an event's two calls have ways
+// of their own, since nearly all calls are of these, and are told whether the model is within its
+// bounds.
+ghost use mathlib.Core.Path.{_≡_};
+ghost use mathlib.Core.List.{_∷_};
+ghost use Prim.Native.Nat.{_+_, _≤_};
+ghost use lib.ListN.{length};
+ghost use lib.Seq.{sets};
+ghost use Rattle.state.specs.NetworkModel.{modelOk};
+ghost use Rattle.words.specs.Words.{allBytes};
+ghost use Rattle.units.specs.Reply.{number};
+ghost use Rattle.state.specs.Answers.{settled};
+ghost use Rattle.layout.specs.Record.{recordIn, recordWords};
+ghost use Rattle.dispatch.specs.Turn.{noRecord, sendNumber, sendLeaves, startedNumber, startedLeaves, startedWords, finishedNumber, finishedLeaves};
+ghost use Rattle.dispatch.specs.Inner.{otherTurn};
+ghost use Rattle.dispatch.specs.OneCall.{callAt, answerWords};
+use crate::turn::Turn;
+use crate::turn::carry_out;
+use crate::turn::event;
+use crate::turn::finish;
+use crate::turn::no_record;
+use layout::record::record_in;
+use layout::record::record_words;
+use state::Cycle;
+use state::NetworkModel;
+use state::congestion_event::Record;
+use units::Moment;
+use units::Reply;
+use words::get_word;
+use words::get_words;
+use words::put_words;
+
+// Call 1, a send, which reads four words of its record.
+pub fn send(
+    model: NetworkModel,
+    fine: bool,
+    calls: &[u8],
+    at: usize,
+    answers: &mut [u8],
+    to: usize,
+) -> NetworkModel
+    requires { ⌜ (at + 392 ≤ length (now calls)) × (to + 144 ≤ length (now answers)) × (fine ≡ modelOk model) ⌝ }
+    ensures { λ r. ⌜ r ≡ sendLeaves (callAt (now (calls .entry)) at) model ⌝ }
+    ensures { λ _. ⌜ now (answers .exit) ≡ sets (now (answers .entry)) to (allBytes (sendNumber (callAt (now (calls .entry)) at) model ∷ 0 ∷ noRecord)) ⌝ }
+{
+    let time = get_word(calls, at + 8);
+    let inflight = get_word(calls, at + 16);
+    let packet = get_word(calls, at + 24);
+    let bytes = get_word(calls, at + 32);
+    let changed = changes::sent_tested(model, fine, Moment(time), inflight, packet, bytes);
+    let reply = changed.reply;
+    put_answer(answers, to, reply.row(), 0, &no_record());
+    changed.model
+}
+
+// Call 3, an event's start.
+pub fn start(
+    model: NetworkModel,
+    fine: bool,
+    calls: &[u8],
+    at: usize,
+    answers: &mut [u8],
+    to: usize,
+) -> NetworkModel
+    requires { ⌜ (at + 392 ≤ length (now calls)) × (to + 144 ≤ length (now answers)) × (fine ≡ modelOk model) ⌝ }
+    ensures { λ r. ⌜ r ≡ startedLeaves (callAt (now (calls .entry)) at) model ⌝ }
+    ensures { λ _. ⌜ now (answers .exit) ≡ sets (now (answers .entry)) to (allBytes (startedNumber (callAt (now (calls .entry)) at) model ∷ 0 ∷ startedWords (callAt (now (calls .entry)) at) model)) ⌝ }
+{
+    let words = call_at(calls, at);
+    let happened = event(model, fine, &words);
+    let reply = happened.reply;
+    let record = happened.record;
+    put_answer(
+        answers,
+        to,
+        reply.row(),
+        0,
+        &record_left(reply, record, &words),
+    );
+    happened.model
+}
+
+// The record's words after an event; where it was refused, as they were handed in.
+fn record_left(reply: Reply, after: Record, words: &[u64; 49]) -> [u64; 16]
+    ensures { λ r. ⌜ r ≡ settled (number reply) (recordWords after) (recordIn (now (words .entry))) ⌝ }
+{
+    if reply.is_done() {
+        record_words(after)
+    } else {
+        record_in(words)
+    }
+}
+
+// Call 4, an event's finish.
+pub fn end(
+    model: NetworkModel,
+    fine: bool,
+    calls: &[u8],
+    at: usize,
+    answers: &mut [u8],
+    to: usize,
+) -> NetworkModel
+    requires { ⌜ (at + 392 ≤ length (now calls)) × (to + 144 ≤ length (now answers)) × (fine ≡ modelOk model) ⌝ }
+    ensures { λ r. ⌜ r ≡ finishedLeaves (callAt (now (calls .entry)) at) model ⌝ }
+    ensures { λ _. ⌜ now (answers .exit) ≡ sets (now (answers .entry)) to (allBytes (finishedNumber (callAt (now (calls .entry)) at) model ∷ 0 ∷ noRecord)) ⌝ }
+{
+    let words = call_at(calls, at);
+    let changed = finish(model, fine, &words);
+    let reply = changed.reply;
+    put_answer(answers, to, reply.row(), 0, &no_record());
+    changed.model
+}
+
+// Every other call.
+pub fn other(
+    model: NetworkModel,
+    cycle: Cycle,
+    calls: &[u8],
+    at: usize,
+    answers: &mut [u8],
+    to: usize,
+) -> Turn
+    requires { ⌜ (at + 392 ≤ length (now calls)) × (to + 144 ≤ length (now answers)) ⌝ }
+    ensures { λ r. ⌜ r ≡ otherTurn (callAt (now (calls .entry)) at) model cycle ⌝ }
+    ensures { λ _. ⌜ now (answers .exit) ≡ sets (now (answers .entry)) to (allBytes (answerWords (otherTurn (callAt (now (calls .entry)) at) model cycle))) ⌝ }
+{
+    let words = call_at(calls, at);
+    let turn = carry_out(model, cycle, &words);
+    let record = turn.event;
+    put_answer(answers, to, turn.reply, turn.value, &record);
+    turn
+}
+
+// The words of the call at an index.
+fn call_at(calls: &[u8], at: usize) -> [u64; 49]
+    requires { ⌜ at + 392 ≤ length (now calls) ⌝ }
+    ensures { λ r. ⌜ r ≡ callAt (now (calls .entry)) at ⌝ }
+{
+    let mut words = [0u64; 49];
+    get_words(calls, at, &mut words);
+    words
+}
+
+// Writes an answer: the reply's number, the value and the record's words.
+fn put_answer(answers: &mut [u8], to: usize, reply: u64, value: u64, event: &[u64; 16])
+    requires { ⌜ (to + 144 ≤ length (now answers)) × (length (now event) ≡ 16) ⌝ }
+    ensures { λ _. ⌜ now (answers .exit) ≡ sets (now (answers .entry)) to (allBytes (reply ∷ value ∷ now (event .entry))) ⌝ }
+{
+    put_words(answers, to, &[reply, value]);
+    put_words(answers, to + 16, event);
+}

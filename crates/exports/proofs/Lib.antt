@@ -1,8 +1,0 @@
--- Theorems about the contracts, and laws for their proofs.
-pub mod Determined
-pub mod Examples
-pub mod Rows
-pub mod ModelRun
-pub mod Run
-pub mod Times
-pub mod Fits

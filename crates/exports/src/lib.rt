@@ -1,8 +1,0 @@
-// The calls for C and Rust, on numbers and byte slices. Every one takes any numbers and any slices.
-pub mod conversions;
-pub mod filter_run;
-mod form;
-pub mod model_run;
-mod one_call;
-mod reply;
-pub mod slope;

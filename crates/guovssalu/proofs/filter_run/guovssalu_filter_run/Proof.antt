@@ -1,0 +1,39 @@
+-- `guovssalu_filter_run` meets its contract: it stops at a refusal, or writes the answer. Assumes nothing.
+use borrow.Author.Needs.{needs}
+use Rattle.filters.specs.WindowedFilter.{windowedNew}
+use Rattle.guovssalu.specs.FilterRun.{pairs, samplesOf, runOut}
+use Rattle.guovssalu.specs.Inner.{setsWhere}
+use Rattle.guovssalu.proofs.Rows.{done-row, refused, written}
+use Rattle.guovssalu.proofs.Run.{run-done}
+use Rattle.guovssalu.proofs.filter_run.guovssalu_filter_run.Statement.{statement}
+use Rattle.guovssalu.proofs.filter_run.guovssalu_filter_run.Tie as tie
+
+returns : tie.Need-returns
+unfolding runOut
+returns c =
+    let args = c .before .before .before .before .before .before .args in
+    let src = args .src .now in
+    refused (c .before .before .before .run-reply .ensures) (c .before .before .is-done .ensures) (samplesOf (windowedNew (args .window)) src 0 (pairs src)) (args .out .now) (c .row .ensures) (c .before .if1 .taken)
+
+pass-requires : tie.Need-pass-requires
+pass-requires c κs = λ _. run-done _ _ _ (done-row (c .before .before .before .run-reply .ensures) (c .before .before .is-done .ensures) (c .before .if1 .left))
+
+returns-2 : tie.Need-returns-2
+unfolding runOut setsWhere
+returns-2 c =
+    let args = c .before .before .before .before .before .before .before .before .before .before .args in
+    let src = args .src .now in
+    written (c .before .before .before .before .before .before .before .run-reply .ensures) (c .before .before .before .before .before .before .is-done .ensures) (samplesOf (windowedNew (args .window)) src 0 (pairs src)) (args .out .now) (c .row2 .ensures) (c .before .before .before .before .before .if1 .left) (c .before .before .before .pass .ensures .1)
+
+pub guovssalu-filter-run-spec : {M : Type 1} → statement M
+guovssalu-filter-run-spec =
+    tie.close
+    (tie.spec
+    (λ c κs. search needs)
+    (λ c κs. search needs)
+    (λ c κs. search needs)
+    returns
+    pass-requires
+    (λ c κs. search needs)
+    (λ c. search needs)
+    returns-2)

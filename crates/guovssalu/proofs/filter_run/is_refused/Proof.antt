@@ -1,0 +1,23 @@
+-- `exports::is_refused` meets its contract: no time falls, or the pass tells. Assumes nothing.
+use borrow.Author.Needs.{needs}
+use borrow.Author.Tests.{not-true}
+use mathlib.Core.Bool.{false≢true}
+use mathlib.Core.Path.{sym, _∙_}
+use Rattle.filters.specs.WindowedFilter.{windowedNew}
+use Rattle.guovssalu.specs.FilterRun.{pairs}
+use Rattle.guovssalu.proofs.Times.{never-refused}
+use Rattle.guovssalu.proofs.filter_run.is_refused.Statement.{statement}
+use Rattle.guovssalu.proofs.filter_run.is_refused.Tie as tie
+
+returns : tie.Need-returns
+returns c =
+    let args = c .before .before .before .args in
+    let src = args .src .now in
+    sym (never-refused (windowedNew (args .window)) 0 src 0 (pairs src) tt (sym (c .before .times-fall .ensures) ∙ not-true _ (c .if1 .taken)))
+
+pass-requires : tie.Need-pass-requires
+pass-requires c κs = λ writes. absurd (false≢true writes)
+
+pub is-refused-spec : {M : Type 1} → statement M
+is-refused-spec =
+    tie.close (tie.spec (λ c κs. search needs) returns (λ c. search needs) pass-requires (λ c. search needs))

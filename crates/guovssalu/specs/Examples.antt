@@ -1,0 +1,91 @@
+-- Worked calls: what the definitions say of a few inputs. The slope's are document 01's example 11; the run's first two pairs are those of example 9.
+use Prim.Native.Nat.{ℕ}
+use mathlib.Core.Bool.{Bool}
+use mathlib.Core.List.{List, [], _∷_, _++_}
+use lib.Dec.{eqb}
+use lib.ListN.{take, replicate}
+use Rattle.words.specs.Words.{allBytes}
+use Rattle.dispatch.specs.Examples.{same, zeros, with}
+use Rattle.guovssalu.specs.FilterRun.{runRow, runOut}
+use Rattle.guovssalu.specs.ModelRun.{modelRow, stateOut, answersOut}
+use Rattle.guovssalu.specs.Slope.{slopeRow, slopeOut}
+
+-- bytes that a call may write over
+abbrev pub room : ℕ → List ℕ
+room n = replicate n 170
+
+-- a call with one byte to spare writes these words, and leaves that byte
+abbrev pub writes : List ℕ → List ℕ → Bool
+writes out words = same out (allBytes words ++ room 1)
+
+-- pairs of a time and a sample
+abbrev pub rising : List ℕ
+rising = allBytes (0 ∷ 5 ∷ 2 ∷ 5 ∷ 3 ∷ 4 ∷ [])
+
+abbrev pub falling : List ℕ
+falling = allBytes (0 ∷ 5 ∷ 2 ∷ 1 ∷ 1 ∷ 1 ∷ [])
+
+abbrev pub refused : List ℕ
+refused = allBytes (3 ∷ 5 ∷ 2 ∷ 5 ∷ [])
+
+-- a state of zeros, in which every call is refused, with one word put anew
+abbrev pub states : ℕ → ℕ → List ℕ
+states i x = allBytes (with (zeros 50) i x)
+
+-- one call of no arguments, by its number
+abbrev pub call : ℕ → List ℕ
+call number = allBytes (number ∷ zeros 48)
+
+unfoldable pub exportExamples : List Bool
+exportExamples =
+    -- three samples after each pair: at 3 the second and the third have become the new sample
+    eqb (runRow 8 rising 73) 0
+    ∷ writes (runOut 8 rising (room 73)) (5 ∷ 5 ∷ 5 ∷ 5 ∷ 5 ∷ 5 ∷ 5 ∷ 4 ∷ 4 ∷ [])
+    -- no pair: done, and nothing written
+    ∷ eqb (runRow 8 [] 0) 0
+    ∷ same (runOut 8 [] (room 1)) (room 1)
+    -- times may fall, if not below one that the filter holds
+    ∷ eqb (runRow 8 falling 72) 0
+    -- a byte is missing, and the output is short
+    ∷ eqb (runRow 8 (take 47 rising) 0) 2
+    -- a pair is refused, and the output is short
+    ∷ eqb (runRow 8 refused 0) 3
+    ∷ same (runOut 8 refused (room 48)) (room 48)
+    -- the output is a byte short
+    ∷ eqb (runRow 8 rising 71) 7
+    ∷ same (runOut 8 rising (room 71)) (room 71)
+    -- the slope: the next rounds, and probe_up_bytes
+    ∷ writes (slopeOut 0 26_000 (room 17)) (1 ∷ 26_000 ∷ [])
+    ∷ writes (slopeOut 1 26_000 (room 17)) (2 ∷ 13_000 ∷ [])
+    ∷ writes (slopeOut 30 26_000 (room 17)) (30 ∷ 1_300 ∷ [])
+    ∷ eqb (slopeRow 31 1_099_511_627_777 0) 1
+    ∷ eqb (slopeRow 30 1_099_511_627_777 0) 2
+    ∷ eqb (slopeRow 30 26_000 15) 7
+    ∷ same (slopeOut 31 26_000 (room 17)) (room 17)
+    -- no call: done, and the state written as it was
+    ∷ eqb (modelRow (zeros 400) [] 0) 0
+    ∷ same (stateOut (zeros 400) [] []) (zeros 400)
+    -- a flag of 2, a number that is unset, a float of 33 bits, a phase past the last; and those that are states
+    ∷ eqb (modelRow (states 12 2) [] 0) 1
+    ∷ eqb (modelRow (states 12 1) [] 0) 0
+    ∷ eqb (modelRow (states 3 7) [] 0) 1
+    ∷ eqb (modelRow (states 19 4_294_967_296) [] 0) 1
+    ∷ eqb (modelRow (states 19 2_143_289_345) [] 0) 1
+    ∷ eqb (modelRow (states 19 2_143_289_344) [] 0) 0
+    ∷ eqb (modelRow (states 34 5) [] 0) 1
+    ∷ eqb (modelRow (states 34 4) [] 0) 0
+    -- lengths that are wrong, and rows that overlap
+    ∷ eqb (modelRow (zeros 399) [] 0) 2
+    ∷ eqb (modelRow (zeros 401) [] 0) 2
+    ∷ eqb (modelRow (zeros 400) (take 391 (call 12)) 144) 2
+    ∷ eqb (modelRow (states 12 2) (take 391 (call 12)) 0) 1
+    -- a number that is no call's does not refuse the run: its call is refused (crates/turns/specs/Examples.antt)
+    ∷ eqb (modelRow (zeros 400) (call 2) 144) 0
+    ∷ eqb (modelRow (zeros 400) (call 12 ++ call 46) 288) 0
+    -- a byte is missing for an answer: nothing is written
+    ∷ eqb (modelRow (zeros 400) (call 45 ++ call 12) 288) 0
+    ∷ eqb (modelRow (zeros 400) (call 45 ++ call 12) 287) 7
+    ∷ same (answersOut (zeros 400) (call 12) (room 143)) (room 143)
+    ∷ same (answersOut (states 12 2) (call 12) (room 144)) (room 144)
+    ∷ same (stateOut (states 12 2) (call 12) (room 144)) (states 12 2)
+    ∷ []

@@ -1,0 +1,64 @@
+-- The exported run of the model: calls, carried out in order on a state in lent bytes (docs/LAYOUT.md).
+use Prim.Native.Nat.{ℕ, zero, suc, _+_, _*_, _/_, _%_}
+use mathlib.Core.Bool.{Bool, false, not, _&&_, _||_}
+use mathlib.Core.List.{List, [], _++_}
+use lib.Dec.{ltb, eqb}
+use lib.ListN.{length}
+use Rattle.state.specs.declared.network_model.NetworkModel.{NetworkModel}
+use Rattle.state.specs.Bounds.{rowOf}
+use Rattle.state.specs.declared.cycle.Cycle.{Cycle}
+use Rattle.words.specs.Words.{wordsAt}
+use Rattle.layout.specs.NetworkModel.{modelOf}
+use Rattle.layout.specs.Cycle.{cycleOf}
+use Rattle.dispatch.specs.declared.turn.Turn.{Turn}
+use Rattle.dispatch.specs.Turn.{turnOf}
+use Rattle.guovssalu.specs.Reply.{orShort, answered}
+use Rattle.layout.specs.StateWords.{stateWords, isState}
+use Rattle.dispatch.specs.OneCall.{callAt, answerWords}
+
+-- a state has 50 words, 400 bytes
+abbrev pub stateIn : List ℕ → List ℕ
+stateIn s = wordsAt s 0 50
+
+-- docs/LAYOUT.md, reply 1: "the state's 400 bytes encode no state"
+unfoldable pub encodesNone : List ℕ → Bool
+encodesNone s = eqb (length s) 400 && not (isState (stateIn s))
+
+-- how many calls there are: a call has 49 words, 392 bytes
+abbrev pub callsIn : List ℕ → ℕ
+callsIn src = length src / 392
+
+-- the call at an index, carried out
+unfoldable pub turnAt : NetworkModel → Cycle → List ℕ → ℕ → Turn
+turnAt m y src at = turnOf (callAt src at) m y
+
+-- the answers to the n calls from an index on, each carried out in the state that the one before it left
+unfoldable pub answersTo : NetworkModel → Cycle → List ℕ → ℕ → ℕ → List ℕ
+answersTo m y src at zero = []
+answersTo m y src at (suc n) =
+    let t = turnAt m y src at in answerWords t ++ answersTo (t .model) (t .cycle) src (at + 392) n
+
+-- the words of the state that they leave
+unfoldable pub leftBy : NetworkModel → Cycle → List ℕ → ℕ → ℕ → List ℕ
+leftBy m y src at zero = stateWords m y
+leftBy m y src at (suc n) = let t = turnAt m y src at in leftBy (t .model) (t .cycle) src (at + 392) n
+
+-- all of them, from a state in bytes
+unfoldable pub answersFrom : (state src : List ℕ) → List ℕ
+answersFrom state src = answersTo (modelOf (stateIn state)) (cycleOf (stateIn state)) src 0 (callsIn src)
+
+unfoldable pub wordsLeft : (state src : List ℕ) → List ℕ
+wordsLeft state src = leftBy (modelOf (stateIn state)) (cycleOf (stateIn state)) src 0 (callsIn src)
+
+-- docs/LAYOUT.md, "What the run itself replies", 1, 2 and 7: "Of several the lowest is given; then no byte is written"
+unfoldable pub modelRow : (state src : List ℕ) (room : ℕ) → ℕ
+modelRow state src room =
+    let uneven = not (eqb (length state) 400) || not (eqb (length src % 392) 0) in
+    orShort (rowOf (encodesNone state) uneven false false false) (ltb room (144 * callsIn src))
+
+unfoldable pub answersOut : (state src out : List ℕ) → List ℕ
+answersOut state src out = answered (modelRow state src (length out)) (answersFrom state src) out
+
+-- "leaves the new state in the state's bytes", the same place
+unfoldable pub stateOut : (state src out : List ℕ) → List ℕ
+stateOut state src out = answered (modelRow state src (length out)) (wordsLeft state src) state

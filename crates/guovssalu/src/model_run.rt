@@ -1,0 +1,113 @@
+// The model, run over call records on a state in lent bytes (docs/LAYOUT.md).
+ghost use mathlib.Core.Path.{_≡_};
+ghost use Prim.Native.Nat.{_*_, _≤_};
+ghost use lib.ListN.{length};
+ghost use lib.Seq.{sets};
+ghost use Rattle.units.specs.Reply.{number};
+ghost use Rattle.words.specs.Words.{allBytes};
+ghost use Rattle.guovssalu.specs.ModelRun.{stateIn, encodesNone, callsIn, answersTo, leftBy, answersFrom, wordsLeft, modelRow, stateOut, answersOut};
+use crate::reply::or_short;
+use dispatch::one_call::end;
+use dispatch::one_call::other;
+use dispatch::one_call::send;
+use dispatch::one_call::start;
+use layout::cycle::cycle_of;
+use layout::form::is_state;
+use layout::network_model::model_of;
+use layout::state_words::state_words;
+use state::Cycle;
+use state::NetworkModel;
+use state::bounds::refusal;
+use units::Reply;
+use words::get_word;
+use words::get_words;
+use words::put_words;
+
+// Carries out the calls in order, answers each and leaves the new state: 1 for bytes that encode no
+// state, 2 for a length that is none of a state's or of whole calls, 7 for answers under 144 bytes a
+// call.
+#[no_mangle]
+pub extern "C" fn guovssalu_run(state: &mut [u8], calls: &[u8], answers: &mut [u8]) -> u64
+    ensures { λ r. ⌜ r ≡ modelRow (now (state .entry)) (now (calls .entry)) (length (now (answers .entry))) ⌝ }
+    ensures { λ _. ⌜ now (state .exit) ≡ stateOut (now (state .entry)) (now (calls .entry)) (now (answers .entry)) ⌝ }
+    ensures { λ _. ⌜ now (answers .exit) ≡ answersOut (now (state .entry)) (now (calls .entry)) (now (answers .entry)) ⌝ }
+{
+    let reply = model_reply(state, calls, answers.len());
+    if !reply.is_done() {
+        return reply.row();
+    }
+    let left = run_calls(state, calls, answers);
+    put_words(state, 0, &left);
+    reply.row()
+}
+
+fn model_reply(state: &[u8], calls: &[u8], room: usize) -> Reply
+    ensures { λ r. ⌜ number r ≡ modelRow (now (state .entry)) (now (calls .entry)) room ⌝ }
+{
+    let uneven = (state.len() != 400) | (calls.len() % 392 != 0);
+    let reply = refusal(encodes_none(state), uneven, false, false, false);
+    or_short(reply, room < 144 * (calls.len() / 392))
+}
+
+// Whether bytes as many as a state has encode none.
+fn encodes_none(state: &[u8]) -> bool
+    ensures { λ r. ⌜ r ≡ encodesNone (now (state .entry)) ⌝ }
+{
+    if state.len() != 400 {
+        return false;
+    }
+    let words = state_in(state);
+    !is_state(&words)
+}
+
+// The words of a state.
+fn state_in(state: &[u8]) -> [u64; 50]
+    requires { ⌜ length (now state) ≡ 400 ⌝ }
+    ensures { λ r. ⌜ r ≡ stateIn (now (state .entry)) ⌝ }
+{
+    let mut words = [0u64; 50];
+    get_words(state, 0, &mut words);
+    words
+}
+
+// Carries out the calls from a state, writes their answers, and gives the words of the state that they leave.
+fn run_calls(state: &[u8], calls: &[u8], answers: &mut [u8]) -> [u64; 50]
+    requires { ⌜ (length (now state) ≡ 400) × (144 * callsIn (now calls) ≤ length (now answers)) ⌝ }
+    ensures { λ r. ⌜ r ≡ wordsLeft (now (state .entry)) (now (calls .entry)) ⌝ }
+    ensures { λ _. ⌜ now (answers .exit) ≡ sets (now (answers .entry)) 0 (allBytes (answersFrom (now (state .entry)) (now (calls .entry)))) ⌝ }
+{
+    let words = state_in(state);
+    run_from(model_of(&words), cycle_of(&words), calls, answers)
+}
+
+// The same, from a model and a cycle.
+fn run_from(model: NetworkModel, cycle: Cycle, calls: &[u8], answers: &mut [u8]) -> [u64; 50]
+    requires { ⌜ 144 * callsIn (now calls) ≤ length (now answers) ⌝ }
+    ensures { λ r. ⌜ r ≡ leftBy model cycle (now (calls .entry)) 0 (callsIn (now (calls .entry))) ⌝ }
+    ensures { λ _. ⌜ now (answers .exit) ≡ sets (now (answers .entry)) 0 (allBytes (answersTo model cycle (now (calls .entry)) 0 (callsIn (now (calls .entry))))) ⌝ }
+{
+    let count = calls.len() / 392;
+    let mut m = model;
+    let mut y = cycle;
+    let mut fine = m.ok();
+    let mut i = 0;
+    while i < count {
+        let at = 392 * i;
+        let to = 144 * i;
+        let call = get_word(calls, at);
+        if call == 1 {
+            m = send(m, fine, calls, at, answers, to);
+        } else if call == 3 {
+            m = start(m, fine, calls, at, answers, to);
+        } else if call == 4 {
+            m = end(m, fine, calls, at, answers, to);
+        } else {
+            let turn = other(m, y, calls, at, answers, to);
+            m = turn.model;
+            y = turn.cycle;
+            fine = m.ok();
+        }
+        i += 1;
+    }
+    state_words(m, y)
+}

@@ -1,0 +1,96 @@
+-- The other calls that carry an event, or count rounds: network_model.rs, with document 01's refusals.
+use Prim.Native.Nat.{ℕ, max, _+_, _-_, _*_, _^_}
+use mathlib.Core.Bool.{Bool, true, false, cond, not, _&&_, _||_}
+use lib.Dec.{ltb, leb, eqb}
+use lib.Ieee.{Float}
+use Rattle.units.specs.declared.bandwidth.Bandwidth.{Bandwidth}
+use Rattle.filters.specs.declared.min_rtt_filter.MinRttFilter.{MinRttFilter}
+use Rattle.units.specs.declared.time.Duration.{Duration}
+use Rattle.units.specs.declared.time.Moment.{Moment}
+use Rattle.units.specs.Bandwidth.{timesF32}
+use Rattle.filters.specs.MaxBandwidthFilter.{maxGet}
+use Rattle.filters.specs.MinRttFilter.{minForce}
+use Rattle.units.specs.Time.{plus, isBefore}
+use Rattle.numbers.specs.Scaling.{scaled}
+use Rattle.state.specs.declared.network_model.NetworkModel.{NetworkModel}
+use Rattle.state.specs.declared.params.Params.{Params}
+use Rattle.state.specs.declared.parts.Growth.{Growth}
+use Rattle.state.specs.declared.parts.Round.{Round}
+use Rattle.state.specs.Bounds.{rowOf, gainOk}
+use Rattle.state.specs.NetworkModel.{modelOk, one, bdpOf, withLeast, withGrowth}
+use Rattle.state.specs.Params.{paramsOk}
+use Rattle.state.specs.declared.congestion_event.MaybeLength.{MaybeLength}
+use Rattle.state.specs.declared.congestion_event.MaybeLength.the-variants.{Missing, Length}
+use Rattle.state.specs.declared.congestion_event.Record.{Record}
+use Rattle.state.specs.declared.congestion_event.SendState.{SendState}
+use Rattle.state.specs.CongestionEvent.{recordOk}
+
+unfoldable pub judgedNumber : NetworkModel → Params → Record → Bool → ℕ
+judgedNumber m p e full = rowOf (not (modelOk m && paramsOk p)) (not (recordOk e)) false false full
+
+-- ---- maybe_expire_min_rtt: "Expiry needs a sample and a moment not earlier than the stored one plus the period; the sample is then forced in"
+abbrev pub isGiven : MaybeLength → Bool
+isGiven Missing = false
+isGiven (Length d) = true
+
+unfoldable pub isDue : Moment → MinRttFilter → Duration → Bool
+isDue now f period = not (isBefore now (plus (f .timestamp) period))
+
+abbrev pub isExpired : MaybeLength → Moment → MinRttFilter → Duration → Bool
+isExpired sample now f period = isGiven sample && isDue now f period
+
+abbrev pub leastExpired : MaybeLength → Moment → MinRttFilter → Duration → MinRttFilter
+leastExpired Missing now f period = f
+leastExpired (Length d) now f period = cond (isDue now f period) (minForce d now) f
+
+unfoldable pub expireNext : NetworkModel → Params → Record → NetworkModel
+expireNext m p e = withLeast m (leastExpired (e .rtt) (e .time) (m .least) (p .period))
+
+-- ---- is_inflight_too_high: a valid state, loss events at least the limit, inflight at send above 0, bytes lost above 0 and strictly above scale(inflight, threshold)
+unfoldable pub isTooHigh : Round → SendState → ℕ → Float → Bool
+isTooHigh r t limit threshold = t .valid && leb limit (r .losses) && ltb 0 (t .inflight) && ltb 0 (r .lost) && ltb (scaled (t .inflight) threshold) (r .lost)
+
+-- ---- has_bandwidth_growth: the maximum is at least the baseline times the threshold
+unfoldable pub hasGrown : Growth → Bandwidth → Params → Bool
+hasGrown g most p = leb (timesF32 (g .baseline) (p .growth) .0) (most .0)
+
+-- without growth the round counts if the state is valid, unless it is app-limited and such rounds are ignored
+unfoldable pub countsFlat : Growth → SendState → Bool
+countsFlat g t = t .valid && not (g .ignore && t .limited)
+
+unfoldable pub flatAfter : Growth → SendState → ℕ
+flatAfter g t = cond (countsFlat g t) (g .flat + 1) (g .flat)
+
+-- "full_bandwidth_reached is only set to true when not app-limited"
+unfoldable pub growthFlat : Growth → SendState → Params → Growth
+growthFlat g t p = record { reached = g .reached || (t .valid && leb (p .rounds) (flatAfter g t) && not (t .limited)); baseline = g .baseline; flat = flatAfter g t; queueing = g .queueing; ignore = g .ignore }
+
+unfoldable pub growthAfter : Growth → Bandwidth → SendState → Params → Growth
+growthAfter g most t p = cond (hasGrown g most p) (record { reached = g .reached; baseline = most; flat = 0; queueing = g .queueing; ignore = g .ignore }) (growthFlat g t p)
+
+unfoldable pub growthFull : NetworkModel → Params → Record → Bool
+growthFull m p e = not (hasGrown (m .growth) (maxGet (m .most)) p) && countsFlat (m .growth) (e .state) && eqb (m .growth .flat) (2 ^ 64 - 1)
+
+unfoldable pub growthNext : NetworkModel → Params → Record → NetworkModel
+growthNext m p e = withGrowth m (growthAfter (m .growth) (maxGet (m .most)) (e .state) p)
+
+-- ---- check_persistent_queue: the target is `.bdp(self.max_bandwidth(), target_gain)`
+-- `.max(self.bdp0() + self.queueing_threshold_extra_bytes())`, and the round queues unless
+-- `self.min_bytes_in_flight_in_round < target`
+unfoldable pub queueTarget : NetworkModel → Float → ℕ
+queueTarget m gain = max (bdpOf m (maxGet (m .most)) gain) (bdpOf m (maxGet (m .most)) one + 2 * 1300)
+
+unfoldable pub isQueueing : NetworkModel → Float → Bool
+isQueueing m gain = not (ltb (m .round .least) (queueTarget m gain))
+
+unfoldable pub queueAfter : Growth → Bool → Params → Growth
+queueAfter g queueing p =
+    cond queueing
+    (record { reached = g .reached || leb (p .queueing) (g .queueing + 1); baseline = g .baseline; flat = g .flat; queueing = g .queueing + 1; ignore = g .ignore })
+    (record { reached = g .reached; baseline = g .baseline; flat = g .flat; queueing = 0; ignore = g .ignore })
+
+unfoldable pub queueNumber : NetworkModel → Params → Float → ℕ
+queueNumber m p gain = rowOf (not (modelOk m && paramsOk p)) (not (gainOk gain)) false false (isQueueing m gain && eqb (m .growth .queueing) (2 ^ 64 - 1))
+
+unfoldable pub queueNext : NetworkModel → Params → Float → NetworkModel
+queueNext m p gain = withGrowth m (queueAfter (m .growth) (isQueueing m gain) p)

@@ -1,0 +1,301 @@
+// Calls that judge the round, by an event's record or by the parameters.
+ghost use mathlib.Core.Path.{_≡_};
+ghost use mathlib.Core.Bool.{true, false};
+ghost use Prim.Native.Nat.{_+_, _-_, _*_, _^_};
+ghost use lib.Dec.{ltb, eqb};
+ghost use Rattle.units.specs.Reply.{number};
+ghost use Rattle.filters.specs.MaxBandwidthFilter.{maxGet};
+ghost use Rattle.state.specs.Answers.{settled};
+ghost use Rattle.judge.specs.Judge.{judgedNumber, isGiven, isDue, isExpired, leastExpired, expireNext, isTooHigh, hasGrown, countsFlat, flatAfter, growthFlat, growthAfter, growthFull, growthNext, isQueueing, queueAfter, queueNumber, queueNext};
+use filters::MinRttFilter;
+use state::NetworkModel;
+use state::Params;
+use state::answers::Flag;
+use state::bounds::gain_ok;
+use state::bounds::refusal;
+use state::congestion_event::MaybeLength;
+use state::congestion_event::Record;
+use state::congestion_event::SendState;
+use state::network_model::Changed;
+use state::parts::Growth;
+use state::parts::Round;
+use units::Bandwidth;
+use units::Duration;
+use units::Moment;
+use units::Reply;
+use units::counter::FULL;
+
+// A call's reply, the model after it, and its answer.
+pub struct Decided {
+    pub reply: Reply,
+    pub model: NetworkModel,
+    pub yes: bool,
+}
+
+fn judged_reply(model: NetworkModel, params: Params, event: Record, full: bool) -> Reply
+    ensures { λ r. ⌜ number r ≡ judgedNumber model params event full ⌝ }
+{
+    refusal(!(model.ok() & params.ok()), !event.ok(), false, false, full)
+}
+
+fn is_given(sample: MaybeLength) -> bool
+    ensures { λ r. ⌜ r ≡ isGiven sample ⌝ }
+{
+    match sample {
+        MaybeLength::Missing => false,
+        MaybeLength::Length(_) => true,
+    }
+}
+
+// Whether the stored minimum is at least a period old.
+fn is_due(now: Moment, filter: MinRttFilter, period: Duration) -> bool
+    ensures { λ r. ⌜ r ≡ isDue now filter period ⌝ }
+{
+    let timestamp = filter.timestamp;
+    !now.is_before(timestamp.plus(period))
+}
+
+fn least_expired(
+    sample: MaybeLength,
+    now: Moment,
+    filter: MinRttFilter,
+    period: Duration,
+) -> MinRttFilter
+    ensures { λ r. ⌜ r ≡ leastExpired sample now filter period ⌝ }
+{
+    let MaybeLength::Length(rtt) = sample else {
+        return filter;
+    };
+    if is_due(now, filter, period) {
+        filter.force_update(rtt, now)
+    } else {
+        filter
+    }
+}
+
+fn expired(model: NetworkModel, params: Params, event: Record) -> NetworkModel
+    ensures { λ r. ⌜ r ≡ expireNext model params event ⌝ }
+{
+    let rtt = event.rtt;
+    let filter = least_expired(rtt, event.time, model.least, params.period);
+    let mut next = model;
+    next.least = filter;
+    next
+}
+
+// Whether the minimum round trip has expired; the event's sample then takes its place.
+pub fn maybe_expire_min_rtt(model: NetworkModel, params: Params, event: Record) -> Decided
+    ensures reply { λ r. ⌜ number (r .reply) ≡ judgedNumber model params event false ⌝ }
+    ensures model { λ r. ⌜ r .model ≡ settled (judgedNumber model params event false) (expireNext model params event) model ⌝ }
+    ensures yes { λ r. ⌜ r .yes ≡ settled (judgedNumber model params event false) (isExpired (event .rtt) (event .time) (model .least) (params .period)) false ⌝ }
+{
+    let rtt = event.rtt;
+    let yes = is_given(rtt) & is_due(event.time, model.least, params.period);
+    decide(
+        judged_reply(model, params, event, false),
+        model,
+        expired(model, params, event),
+        yes,
+    )
+}
+
+fn decide(reply: Reply, model: NetworkModel, next: NetworkModel, yes: bool) -> Decided
+    ensures reply { λ r. ⌜ r .reply ≡ reply ⌝ }
+    ensures model { λ r. ⌜ r .model ≡ settled (number reply) next model ⌝ }
+    ensures yes { λ r. ⌜ r .yes ≡ settled (number reply) yes false ⌝ }
+{
+    if reply.is_done() {
+        Decided {
+            reply,
+            model: next,
+            yes,
+        }
+    } else {
+        Decided {
+            reply,
+            model,
+            yes: false,
+        }
+    }
+}
+
+fn too_high(round: Round, state: SendState, limit: u64, threshold: f32) -> bool
+    ensures { λ r. ⌜ r ≡ isTooHigh round state limit threshold ⌝ }
+{
+    state.valid
+        & (limit <= round.losses)
+        & (0 < state.inflight)
+        & (0 < round.lost)
+        & (numbers::scale(state.inflight, threshold) < round.lost)
+}
+
+// Whether the round lost more than the threshold allows of what was in flight at the send.
+pub fn is_inflight_too_high(model: NetworkModel, params: Params, event: Record, limit: u64) -> Flag
+    ensures reply { λ r. ⌜ number (r .reply) ≡ judgedNumber model params event false ⌝ }
+    ensures yes { λ r. ⌜ r .yes ≡ settled (judgedNumber model params event false) (isTooHigh (model .round) (event .state) limit (params .loss)) false ⌝ }
+{
+    let round = model.round;
+    let state = event.state;
+    Flag::of(
+        judged_reply(model, params, event, false),
+        too_high(round, state, limit, params.loss),
+    )
+}
+
+fn has_grown(growth: Growth, most: Bandwidth, params: Params) -> bool
+    ensures { λ r. ⌜ r ≡ hasGrown growth most params ⌝ }
+{
+    let baseline = growth.baseline;
+    let threshold = baseline.mul_f32(params.growth);
+    threshold.0 <= most.0
+}
+
+fn counts_flat(growth: Growth, state: SendState) -> bool
+    ensures { λ r. ⌜ r ≡ countsFlat growth state ⌝ }
+{
+    state.valid & !(growth.ignore & state.limited)
+}
+
+// rounds_without_bandwidth_growth after a round without growth.
+fn flat_after(growth: Growth, state: SendState) -> u64
+    requires { ⌜ (countsFlat growth state ≡ true → eqb (growth .flat) (2 ^ 64 - 1) ≡ false) ⌝ }
+    ensures { λ r. ⌜ r ≡ flatAfter growth state ⌝ }
+{
+    if counts_flat(growth, state) {
+        growth.flat + 1
+    } else {
+        growth.flat
+    }
+}
+
+fn growth_flat(growth: Growth, state: SendState, params: Params) -> Growth
+    requires { ⌜ (countsFlat growth state ≡ true → eqb (growth .flat) (2 ^ 64 - 1) ≡ false) ⌝ }
+    ensures { λ r. ⌜ r ≡ growthFlat growth state params ⌝ }
+{
+    let flat = flat_after(growth, state);
+    let mut next = growth;
+    next.flat = flat;
+    next.reached = growth.reached | (state.valid & (params.rounds <= flat) & !state.limited);
+    next
+}
+
+// The growth after the maximum is compared with the baseline.
+fn growth_after(growth: Growth, most: Bandwidth, state: SendState, params: Params) -> Growth
+    requires { ⌜ (hasGrown growth most params ≡ false → countsFlat growth state ≡ true → eqb (growth .flat) (2 ^ 64 - 1) ≡ false) ⌝ }
+    ensures { λ r. ⌜ r ≡ growthAfter growth most state params ⌝ }
+{
+    if has_grown(growth, most, params) {
+        let mut next = growth;
+        next.baseline = most;
+        next.flat = 0;
+        next
+    } else {
+        growth_flat(growth, state, params)
+    }
+}
+
+fn growth_full(model: NetworkModel, params: Params, event: Record) -> bool
+    ensures { λ r. ⌜ r ≡ growthFull model params event ⌝ }
+{
+    let most = model.most;
+    let growth = model.growth;
+    let state = event.state;
+    !has_grown(growth, most.get(), params) & counts_flat(growth, state) & (growth.flat == FULL)
+}
+
+// Whether the maximum bandwidth has grown past the threshold since the baseline was set.
+pub fn has_bandwidth_growth(model: NetworkModel, params: Params, event: Record) -> Decided
+    ensures reply { λ r. ⌜ number (r .reply) ≡ judgedNumber model params event (growthFull model params event) ⌝ }
+    ensures model { λ r. ⌜ r .model ≡ settled (judgedNumber model params event (growthFull model params event)) (growthNext model params event) model ⌝ }
+    ensures yes { λ r. ⌜ r .yes ≡ settled (judgedNumber model params event (growthFull model params event)) (hasGrown (model .growth) (maxGet (model .most)) params) false ⌝ }
+{
+    let full = growth_full(model, params, event);
+    let reply = judged_reply(model, params, event, full);
+    if reply.is_done() {
+        let most = model.most;
+        let growth = model.growth;
+        let state = event.state;
+        let best = most.get();
+        let yes = has_grown(growth, best, params);
+        let after = growth_after(growth, best, state, params);
+        let mut next = model;
+        next.growth = after;
+        Decided {
+            reply,
+            model: next,
+            yes,
+        }
+    } else {
+        Decided {
+            reply,
+            model,
+            yes: false,
+        }
+    }
+}
+
+// Whether least is below n + more.
+fn below_sum(least: u64, n: u64, more: u64) -> bool
+    ensures { λ r. ⌜ r ≡ ltb least (n + more) ⌝ }
+{
+    if least < more { true } else { least - more < n }
+}
+
+fn is_queueing(model: NetworkModel, gain: f32) -> bool
+    ensures { λ r. ⌜ r ≡ isQueueing model gain ⌝ }
+{
+    let most = model.most;
+    let best = most.get();
+    let least = model.round.least;
+    let target = model.product(best, gain);
+    let plain = model.product(best, 1.0);
+    !(least < target) & !below_sum(least, plain, 2 * NetworkModel::DEFAULT_MSS)
+}
+
+fn queue_after(growth: Growth, queueing: bool, params: Params) -> Growth
+    requires { ⌜ (queueing ≡ true → eqb (growth .queueing) (2 ^ 64 - 1) ≡ false) ⌝ }
+    ensures { λ r. ⌜ r ≡ queueAfter growth queueing params ⌝ }
+{
+    let mut next = growth;
+    if queueing {
+        let rounds = growth.queueing + 1;
+        next.queueing = rounds;
+        next.reached = growth.reached | (params.queueing <= rounds);
+        next
+    } else {
+        next.queueing = 0;
+        next
+    }
+}
+
+fn queue_reply(model: NetworkModel, params: Params, gain: f32, queueing: bool) -> Reply
+    requires { ⌜ queueing ≡ isQueueing model gain ⌝ }
+    ensures { λ r. ⌜ number r ≡ queueNumber model params gain ⌝ }
+{
+    let full = queueing & (model.growth.queueing == FULL);
+    refusal(
+        !(model.ok() & params.ok()),
+        !gain_ok(gain),
+        false,
+        false,
+        full,
+    )
+}
+
+// The round is judged for a queue that does not drain.
+pub fn check_persistent_queue(model: NetworkModel, params: Params, gain: f32) -> Changed
+    ensures reply { λ r. ⌜ number (r .reply) ≡ queueNumber model params gain ⌝ }
+    ensures model { λ r. ⌜ r .model ≡ settled (queueNumber model params gain) (queueNext model params gain) model ⌝ }
+{
+    let queueing = is_queueing(model, gain);
+    let reply = queue_reply(model, params, gain, queueing);
+    if reply.is_done() {
+        let growth = model.growth;
+        let after = queue_after(growth, queueing, params);
+        let mut next = model;
+        next.growth = after;
+        Changed { reply, model: next }
+    } else {
+        Changed { reply, model }
+    }
+}

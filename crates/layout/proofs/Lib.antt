@@ -1,0 +1,7 @@
+-- Laws, and theorems about the contracts.
+pub mod Fits
+pub mod Laws
+pub mod ReadBack
+pub mod RoundTrip
+pub mod Tested
+pub mod Determined

@@ -1,4 +1,0 @@
--- Laws and theorems of the model.
-pub mod Rows
-pub mod Settling
-pub mod Determined

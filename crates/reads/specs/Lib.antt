@@ -1,0 +1,2 @@
+-- What the calls that only answer must answer.
+pub mod Reads

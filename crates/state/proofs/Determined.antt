@@ -1,0 +1,184 @@
+-- Any two replies that the contract of a public function allows coincide: a line for each, about what its contract says (`Reads.Learnt`).
+use mathlib.Core.Path.{_≡_, sym, _∙_}
+use Rattle.numbers.specs.OneReply.{OneReply}
+use Rattle.units.proofs.reply.Number.{number-injective}
+use Rattle.state.specs.declared.network_model.NetworkModel.{NetworkModel}
+use Rattle.units.specs.declared.reply.Reply.{Reply}
+use Rattle.state.specs.declared.network_model.Changed.{Changed}
+use Rattle.state.specs.declared.cycle.Cycle.{Cycle}
+use Rattle.state.specs.declared.cycle.Turned.{Turned}
+use Rattle.state.specs.declared.answers.Number.{Number}
+use Prim.Native.Nat.{ℕ}
+use Rattle.state.specs.declared.answers.Flag.{Flag}
+use mathlib.Core.Bool.{Bool}
+use lib.Ieee.{Float}
+use Rattle.state.specs.declared.answers.GainRead.{GainRead}
+use Rattle.units.specs.declared.bandwidth.Bandwidth.{Bandwidth}
+use Rattle.state.specs.declared.answers.BandwidthRead.{BandwidthRead}
+use Rattle.state.specs.declared.answers.LengthRead.{LengthRead}
+use Rattle.units.specs.declared.time.Duration.{Duration}
+use Rattle.units.specs.declared.time.Moment.{Moment}
+use Rattle.state.specs.declared.answers.MomentRead.{MomentRead}
+use Rattle.state.proofs.answers.Number as answers-number
+use Rattle.state.proofs.answers.Flag as answers-flag
+use Rattle.state.proofs.answers.GainRead as answers-gainread
+use Rattle.state.proofs.answers.BandwidthRead as answers-bandwidthread
+use Rattle.state.proofs.answers.LengthRead as answers-lengthread
+use Rattle.state.proofs.answers.MomentRead as answers-momentread
+use Rattle.state.proofs.bounds as bounds
+use Rattle.state.proofs.congestion_event.Record as congestion-event-record
+use Rattle.state.proofs.congestion_event.Sample as congestion-event-sample
+use Rattle.state.proofs.cycle.Stay as cycle-stay
+use Rattle.state.proofs.cycle.Cycle as cycle-cycle
+use Rattle.state.proofs.network_model.NetworkModel as network-model-networkmodel
+use Rattle.state.proofs.params.Params as params-params
+use Rattle.state.proofs.parts.Round as parts-round
+use Rattle.state.proofs.parts.Totals as parts-totals
+
+pub changed :
+    {a a′ : Reply} {b b′ : NetworkModel} → a ≡ a′ → b ≡ b′ →
+    _≡_ {A = Changed} (record { reply = a; model = b }) (record { reply = a′; model = b′ })
+changed p q = cc
+
+pub turned :
+    {a a′ : Reply} {b b′ : Cycle} → a ≡ a′ → b ≡ b′ →
+    _≡_ {A = Turned} (record { reply = a; cycle = b }) (record { reply = a′; cycle = b′ })
+turned p q = cc
+
+pub number :
+    {a a′ : Reply} {b b′ : ℕ} → a ≡ a′ → b ≡ b′ →
+    _≡_ {A = Number} (record { reply = a; value = b }) (record { reply = a′; value = b′ })
+number p q = cc
+
+pub flag :
+    {a a′ : Reply} {b b′ : Bool} → a ≡ a′ → b ≡ b′ →
+    _≡_ {A = Flag} (record { reply = a; yes = b }) (record { reply = a′; yes = b′ })
+flag p q = cc
+
+pub gainread :
+    {a a′ : Reply} {b b′ : Float} → a ≡ a′ → b ≡ b′ →
+    _≡_ {A = GainRead} (record { reply = a; gain = b }) (record { reply = a′; gain = b′ })
+gainread p q = cc
+
+pub bandwidthread :
+    {a a′ : Reply} {b b′ : Bandwidth} → a ≡ a′ → b ≡ b′ →
+    _≡_ {A = BandwidthRead} (record { reply = a; bandwidth = b }) (record { reply = a′; bandwidth = b′ })
+bandwidthread p q = cc
+
+pub lengthread :
+    {a a′ : Reply} {b b′ : Duration} → a ≡ a′ → b ≡ b′ →
+    _≡_ {A = LengthRead} (record { reply = a; length = b }) (record { reply = a′; length = b′ })
+lengthread p q = cc
+
+pub momentread :
+    {a a′ : Reply} {b b′ : Moment} → a ≡ a′ → b ≡ b′ →
+    _≡_ {A = MomentRead} (record { reply = a; moment = b }) (record { reply = a′; moment = b′ })
+momentread p q = cc
+
+pub one-answers-number-of : OneReply answers-number.of.Reads.Learnt
+one-answers-number-of κ a x y s t p q = number (p .0 ∙ sym (q .0)) (p .1 ∙ sym (q .1))
+
+pub one-answers-flag-of : OneReply answers-flag.of.Reads.Learnt
+one-answers-flag-of κ a x y s t p q = flag (p .0 ∙ sym (q .0)) (p .1 ∙ sym (q .1))
+
+pub one-answers-gainread-of : OneReply answers-gainread.of.Reads.Learnt
+one-answers-gainread-of κ a x y s t p q = gainread (p .0 ∙ sym (q .0)) (p .1 ∙ sym (q .1))
+
+pub one-answers-bandwidthread-of : OneReply answers-bandwidthread.of.Reads.Learnt
+one-answers-bandwidthread-of κ a x y s t p q = bandwidthread (p .0 ∙ sym (q .0)) (p .1 ∙ sym (q .1))
+
+pub one-answers-lengthread-of : OneReply answers-lengthread.of.Reads.Learnt
+one-answers-lengthread-of κ a x y s t p q = lengthread (p .0 ∙ sym (q .0)) (p .1 ∙ sym (q .1))
+
+pub one-answers-momentread-of : OneReply answers-momentread.of.Reads.Learnt
+one-answers-momentread-of κ a x y s t p q = momentread (p .0 ∙ sym (q .0)) (p .1 ∙ sym (q .1))
+
+pub one-bounds-bytes-ok : OneReply bounds.bytes_ok.Reads.Learnt
+one-bounds-bytes-ok κ a x y s t p q = p ∙ sym q
+
+pub one-bounds-bytes-or-unset-ok : OneReply bounds.bytes_or_unset_ok.Reads.Learnt
+one-bounds-bytes-or-unset-ok κ a x y s t p q = p ∙ sym q
+
+pub one-bounds-total-ok : OneReply bounds.total_ok.Reads.Learnt
+one-bounds-total-ok κ a x y s t p q = p ∙ sym q
+
+pub one-bounds-moment-ok : OneReply bounds.moment_ok.Reads.Learnt
+one-bounds-moment-ok κ a x y s t p q = p ∙ sym q
+
+pub one-bounds-length-ok : OneReply bounds.length_ok.Reads.Learnt
+one-bounds-length-ok κ a x y s t p q = p ∙ sym q
+
+pub one-bounds-bandwidth-ok : OneReply bounds.bandwidth_ok.Reads.Learnt
+one-bounds-bandwidth-ok κ a x y s t p q = p ∙ sym q
+
+pub one-bounds-maybe-ok : OneReply bounds.maybe_ok.Reads.Learnt
+one-bounds-maybe-ok κ a x y s t p q = p ∙ sym q
+
+pub one-bounds-gain-ok : OneReply bounds.gain_ok.Reads.Learnt
+one-bounds-gain-ok κ a x y s t p q = p ∙ sym q
+
+pub one-bounds-refusal : OneReply bounds.refusal.Reads.Learnt
+one-bounds-refusal κ a x y s t p q = number-injective _ _ (p ∙ sym q)
+
+pub one-congestion-event-record-ok : OneReply congestion-event-record.ok.Reads.Learnt
+one-congestion-event-record-ok κ a x y s t p q = p ∙ sym q
+
+pub one-congestion-event-sample-ok : OneReply congestion-event-sample.ok.Reads.Learnt
+one-congestion-event-sample-ok κ a x y s t p q = p ∙ sym q
+
+pub one-cycle-stay-from : OneReply cycle-stay.from.Reads.Learnt
+one-cycle-stay-from κ a x y s t p q = p ∙ sym q
+
+pub one-cycle-cycle-new : OneReply cycle-cycle.new.Reads.Learnt
+one-cycle-cycle-new κ a x y s t p q = turned (number-injective _ _ (p .0 ∙ sym (q .0))) (p .1 ∙ sym (q .1))
+
+pub one-cycle-cycle-ok : OneReply cycle-cycle.ok.Reads.Learnt
+one-cycle-cycle-ok κ a x y s t p q = p ∙ sym q
+
+pub one-network-model-networkmodel-ok : OneReply network-model-networkmodel.ok.Reads.Learnt
+one-network-model-networkmodel-ok κ a x y s t p q = p ∙ sym q
+
+pub one-network-model-networkmodel-new : OneReply network-model-networkmodel.new.Reads.Learnt
+one-network-model-networkmodel-new κ a x y s t p q = changed (number-injective _ _ (p .0 ∙ sym (q .0))) (p .1 ∙ sym (q .1))
+
+pub one-network-model-networkmodel-stored : OneReply network-model-networkmodel.stored.Reads.Learnt
+one-network-model-networkmodel-stored κ a x y s t p q = number-injective _ _ (p ∙ sym q)
+
+pub one-network-model-networkmodel-stored-with : OneReply network-model-networkmodel.stored_with.Reads.Learnt
+one-network-model-networkmodel-stored-with κ a x y s t p q = number-injective _ _ (p ∙ sym q)
+
+pub one-network-model-networkmodel-given : OneReply network-model-networkmodel.given.Reads.Learnt
+one-network-model-networkmodel-given κ a x y s t p q = number-injective _ _ (p ∙ sym q)
+
+pub one-network-model-networkmodel-settle : OneReply network-model-networkmodel.settle.Reads.Learnt
+one-network-model-networkmodel-settle κ a x y s t p q = changed (p .0 ∙ sym (q .0)) (p .1 ∙ sym (q .1))
+
+pub one-network-model-networkmodel-restarted : OneReply network-model-networkmodel.restarted.Reads.Learnt
+one-network-model-networkmodel-restarted κ a x y s t p q = p ∙ sym q
+
+pub one-network-model-networkmodel-capped : OneReply network-model-networkmodel.capped.Reads.Learnt
+one-network-model-networkmodel-capped κ a x y s t p q = p ∙ sym q
+
+pub one-network-model-networkmodel-inflight-cleared : OneReply network-model-networkmodel.inflight_cleared.Reads.Learnt
+one-network-model-networkmodel-inflight-cleared κ a x y s t p q = p ∙ sym q
+
+pub one-network-model-networkmodel-bandwidth-cleared : OneReply network-model-networkmodel.bandwidth_cleared.Reads.Learnt
+one-network-model-networkmodel-bandwidth-cleared κ a x y s t p q = p ∙ sym q
+
+pub one-network-model-networkmodel-advanced : OneReply network-model-networkmodel.advanced.Reads.Learnt
+one-network-model-networkmodel-advanced κ a x y s t p q = p ∙ sym q
+
+pub one-network-model-networkmodel-product : OneReply network-model-networkmodel.product.Reads.Learnt
+one-network-model-networkmodel-product κ a x y s t p q = p ∙ sym q
+
+pub one-params-params-ok : OneReply params-params.ok.Reads.Learnt
+one-params-params-ok κ a x y s t p q = p ∙ sym q
+
+pub one-parts-round-new : OneReply parts-round.new.Reads.Learnt
+one-parts-round-new κ a x y s t p q = p ∙ sym q
+
+pub one-parts-round-sent : OneReply parts-round.sent.Reads.Learnt
+one-parts-round-sent κ a x y s t p q = p ∙ sym q
+
+pub one-parts-totals-ok : OneReply parts-totals.ok.Reads.Learnt
+one-parts-totals-ok κ a x y s t p q = p ∙ sym q

@@ -1,0 +1,5 @@
+-- Laws, and theorems about the contracts.
+pub mod Laws
+pub mod Rows
+pub mod Settling
+pub mod Determined

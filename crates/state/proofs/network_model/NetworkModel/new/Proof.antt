@@ -1,0 +1,17 @@
+-- `NetworkModel::new` meets its contract: by whether the start is done.
+use borrow.Author.Needs.{needs}
+use Rattle.state.proofs.Settling.{done-as, refused-as}
+use Rattle.state.specs.NetworkModel.{startModel}
+use Rattle.state.proofs.network_model.NetworkModel.new.Statement.{statement}
+use Rattle.state.proofs.network_model.NetworkModel.new.Tie as tie
+
+returns : tie.Need-returns
+unfolding startModel
+returns c = (c .before .before .before .start-reply .ensures, done-as _ _ _ _ _ _ (c .before .before .before .start-reply .ensures) (c .before .before .is-done .ensures) (c .before .if1 .taken) (c .fresh .ensures))
+
+returns-2 : tie.Need-returns-2
+unfolding startModel
+returns-2 c = (c .before .before .before .start-reply .ensures, refused-as _ _ _ _ _ _ (c .before .before .before .start-reply .ensures) (c .before .before .is-done .ensures) (c .before .if1 .left) (c .fresh2 .ensures))
+
+pub new-spec : {M : Type 1} → statement M
+new-spec = tie.close (tie.spec (λ c κs. search needs) (λ c κs. search needs) (λ c κs. search needs) (λ c κs. search needs) returns returns-2)

@@ -1,0 +1,50 @@
+-- One event, in order: document 01, "One event, in order"; network_model.rs, on_congestion_event_start and adapt_lower_bounds in BwLoMode::Default. m is the model before the event, e its record as
+-- handed in, s what the sampler says to it, and `acked` the packet numbers acked.
+use mathlib.Core.Bool.{Bool, true, _&&_}
+use mathlib.Core.List.{List, [], _∷_}
+use Rattle.state.specs.Bounds.{all, bytesOk, totalOk, momentOk, lengthOk, maybeOk}
+use Rattle.state.specs.Parts.{totalsOk}
+use Rattle.state.specs.declared.congestion_event.MaybeLength.{MaybeLength}
+use Rattle.state.specs.declared.congestion_event.MaybeLength.the-variants.{Missing, Length}
+use Rattle.state.specs.declared.congestion_event.Record.{Record}
+use Rattle.state.specs.declared.congestion_event.Sample.{Sample}
+use Rattle.state.specs.declared.congestion_event.SendState.{SendState}
+
+-- ---- the bounds of what is handed in: all numbers are tested, those of a send state that is not valid too
+abbrev pub maybeLengthOk : MaybeLength → Bool
+maybeLengthOk Missing = true
+maybeLengthOk (Length d) = lengthOk d
+
+abbrev pub stateOk : SendState → Bool
+stateOk t = totalOk (t .acked) && bytesOk (t .inflight)
+
+unfoldable pub recordTests : Record → List Bool
+recordTests e =
+    momentOk (e .time)
+    ∷ bytesOk (e .window)
+    ∷ bytesOk (e .prior)
+    ∷ bytesOk (e .inflight)
+    ∷ totalOk (e .acked)
+    ∷ totalOk (e .lost)
+    ∷ maybeOk (e .bandwidth)
+    ∷ maybeLengthOk (e .rtt)
+    ∷ stateOk (e .state)
+    ∷ []
+
+abbrev pub recordOk : Record → Bool
+recordOk e = all (recordTests e)
+
+unfoldable pub sampleTests : Sample → List Bool
+sampleTests s =
+    maybeOk (s .bandwidth)
+    ∷ maybeOk (s .send)
+    ∷ maybeOk (s .ack)
+    ∷ maybeLengthOk (s .rtt)
+    ∷ bytesOk (s .inflight)
+    ∷ bytesOk (s .extra)
+    ∷ stateOk (s .state)
+    ∷ totalsOk (s .totals)
+    ∷ []
+
+abbrev pub sampleOk : Sample → Bool
+sampleOk s = all (sampleTests s)

@@ -1,0 +1,8 @@
+-- What is within its bounds, and what a fresh state is.
+pub mod Answers
+pub mod Bounds
+pub mod CongestionEvent
+pub mod Cycle
+pub mod NetworkModel
+pub mod Params
+pub mod Parts

@@ -1,0 +1,136 @@
+-- document 01, "Replies and bounds": the bounds as tests, and the table of refusals.
+use Prim.Native.Nat.{ℕ, _-_, _^_}
+use mathlib.Core.Bool.{Bool, false, _&&_, not}
+use mathlib.Core.List.{List, [], _∷_}
+use lib.Ieee.{Float, binary32, ofBits}
+use Rattle.units.specs.declared.bandwidth.Bandwidth.{Bandwidth}
+use Rattle.units.specs.declared.time.Duration.{Duration}
+use Rattle.units.specs.declared.time.Moment.{Moment}
+use Rattle.filters.specs.declared.max_bandwidth_filter.MaxBandwidthFilter.{MaxBandwidthFilter}
+use Rattle.filters.specs.declared.min_rtt_filter.MinRttFilter.{MinRttFilter}
+use Rattle.state.specs.declared.network_model.NetworkModel.{NetworkModel}
+use Rattle.state.specs.declared.params.Params.{Params}
+use Rattle.state.specs.declared.parts.Gains.{Gains}
+use Rattle.state.specs.declared.parts.Growth.{Growth}
+use Rattle.state.specs.declared.parts.Lower.{Lower}
+use Rattle.state.specs.declared.parts.Round.{Round}
+use Rattle.state.specs.declared.parts.MaybeBandwidth.the-variants.{Unset}
+use Rattle.state.specs.Bounds.{bytesOrUnsetOk, momentOk, lengthOk, all, rowOf}
+use Rattle.state.specs.Params.{paramsOk}
+use Rattle.state.specs.Parts.{mostOk, leastOk, roundOk, latestOk, lowerOk, gainsOk, growthOk, ratesOk, totalsOk, roundNew, lowerCapped}
+use Rattle.filters.specs.declared.round_trip_counter.RoundTripCounter.{RoundTripCounter}
+use Rattle.units.specs.Bandwidth.{timesF32, bytesPerPeriod}
+use Rattle.filters.specs.MaxBandwidthFilter.{maxNew, maxAdvance}
+use Rattle.filters.specs.MinRttFilter.{minForce}
+use Rattle.filters.specs.RoundTripCounter.{roundsNew, roundsRestart}
+use Rattle.state.specs.Answers.{settled, noLength, noMoment}
+
+-- "Counters and packet numbers are free"
+unfoldable pub modelTests : NetworkModel → List Bool
+modelTests m =
+    mostOk (m .most)
+    ∷ leastOk (m .least)
+    ∷ roundOk (m .round) (m .totals)
+    ∷ latestOk (m .latest)
+    ∷ lowerOk (m .lower)
+    ∷ bytesOrUnsetOk (m .high)
+    ∷ gainsOk (m .gains)
+    ∷ growthOk (m .growth)
+    ∷ ratesOk (m .rates)
+    ∷ totalsOk (m .totals)
+    ∷ momentOk (m .moment)
+    ∷ []
+
+abbrev pub modelOk : NetworkModel → Bool
+modelOk m = all (modelTests m)
+
+-- ---- the model with one part put anew
+unfoldable pub withRounds : NetworkModel → RoundTripCounter → NetworkModel
+withRounds m x = record { rounds = x; most = m .most; least = m .least; round = m .round; latest = m .latest; lower = m .lower; high = m .high; gains = m .gains; limited = m .limited; growth = m .growth; rates = m .rates; totals = m .totals; moment = m .moment }
+
+unfoldable pub withMost : NetworkModel → MaxBandwidthFilter → NetworkModel
+withMost m x = record { rounds = m .rounds; most = x; least = m .least; round = m .round; latest = m .latest; lower = m .lower; high = m .high; gains = m .gains; limited = m .limited; growth = m .growth; rates = m .rates; totals = m .totals; moment = m .moment }
+
+unfoldable pub withLeast : NetworkModel → MinRttFilter → NetworkModel
+withLeast m x = record { rounds = m .rounds; most = m .most; least = x; round = m .round; latest = m .latest; lower = m .lower; high = m .high; gains = m .gains; limited = m .limited; growth = m .growth; rates = m .rates; totals = m .totals; moment = m .moment }
+
+unfoldable pub withRound : NetworkModel → Round → NetworkModel
+withRound m x = record { rounds = m .rounds; most = m .most; least = m .least; round = x; latest = m .latest; lower = m .lower; high = m .high; gains = m .gains; limited = m .limited; growth = m .growth; rates = m .rates; totals = m .totals; moment = m .moment }
+
+unfoldable pub withLower : NetworkModel → Lower → NetworkModel
+withLower m x = record { rounds = m .rounds; most = m .most; least = m .least; round = m .round; latest = m .latest; lower = x; high = m .high; gains = m .gains; limited = m .limited; growth = m .growth; rates = m .rates; totals = m .totals; moment = m .moment }
+
+unfoldable pub withHigh : NetworkModel → ℕ → NetworkModel
+withHigh m x = record { rounds = m .rounds; most = m .most; least = m .least; round = m .round; latest = m .latest; lower = m .lower; high = x; gains = m .gains; limited = m .limited; growth = m .growth; rates = m .rates; totals = m .totals; moment = m .moment }
+
+unfoldable pub withGains : NetworkModel → Gains → NetworkModel
+withGains m x = record { rounds = m .rounds; most = m .most; least = m .least; round = m .round; latest = m .latest; lower = m .lower; high = m .high; gains = x; limited = m .limited; growth = m .growth; rates = m .rates; totals = m .totals; moment = m .moment }
+
+unfoldable pub withGrowth : NetworkModel → Growth → NetworkModel
+withGrowth m x = record { rounds = m .rounds; most = m .most; least = m .least; round = m .round; latest = m .latest; lower = m .lower; high = m .high; gains = m .gains; limited = m .limited; growth = x; rates = m .rates; totals = m .totals; moment = m .moment }
+
+unfoldable pub withMoment : NetworkModel → Moment → NetworkModel
+withMoment m x = record { rounds = m .rounds; most = m .most; least = m .least; round = m .round; latest = m .latest; lower = m .lower; high = m .high; gains = m .gains; limited = m .limited; growth = m .growth; rates = m .rates; totals = m .totals; moment = x }
+
+-- ---- start: BBRv2NetworkModel::new
+unfoldable pub modelNew : Float → Float → Bool → Duration → Moment → NetworkModel
+modelNew cwnd pacing ignore rtt now =
+    record {
+      rounds = roundsNew;
+      most = maxNew;
+      least = minForce rtt now;
+      round = roundNew;
+      latest = record { bandwidth = record { 0 = 0 }; inflight = 0 };
+      lower = record { bandwidth = Unset; inflight = 2 ^ 64 - 1 };
+      high = 2 ^ 64 - 1;
+      gains = record { cwnd = cwnd; pacing = pacing };
+      limited = false;
+      growth = record { reached = false; baseline = record { 0 = 0 }; flat = 0; queueing = 0; ignore = ignore };
+      rates = record { send = Unset; ack = Unset };
+      totals = record { acked = 0; lost = 0 };
+      moment = now;
+    }
+
+unfoldable pub startNumber : Params → Duration → Moment → ℕ
+startNumber p rtt now = rowOf (not (paramsOk p)) (not (lengthOk rtt && momentOk now)) false false false
+
+-- "it returns a fresh one at moment 0 with round trip 0, both gains 1 and the app-limited option off"
+abbrev pub one : Float
+one = ofBits binary32 0x3f80_0000
+
+unfoldable pub startModel : Params → Duration → Moment → NetworkModel
+startModel p rtt now = settled (startNumber p rtt now) (modelNew (p .cwnd) (p .pacing) (p .ignore) rtt now) (modelNew one one false noLength noMoment)
+
+-- ---- a call with no argument: only the stored numbers are tested
+unfoldable pub storedNumber : NetworkModel → ℕ
+storedNumber m = rowOf (not (modelOk m)) false false false false
+
+unfoldable pub headroomNumber : NetworkModel → Params → ℕ
+headroomNumber m p = rowOf (not (modelOk m && paramsOk p)) false false false false
+
+-- a call with one argument, of which `fine` says whether it is within its bounds
+unfoldable pub givenNumber : NetworkModel → Bool → ℕ
+givenNumber m fine = rowOf (not (modelOk m)) (not fine) false false false
+
+-- ---- restart_round_early: the round's sums begin anew, the round's end is the last sent number, and rounds_with_queueing is 0
+unfoldable pub growthRestarted : Growth → Growth
+growthRestarted g = record { reached = g .reached; baseline = g .baseline; flat = g .flat; queueing = 0; ignore = g .ignore }
+
+unfoldable pub restartNext : NetworkModel → NetworkModel
+restartNext m = withGrowth (withRounds (withRound m roundNew) (roundsRestart (m .rounds))) (growthRestarted (m .growth))
+
+unfoldable pub capNext : NetworkModel → ℕ → NetworkModel
+capNext m cap = withLower m (lowerCapped (m .lower) cap)
+
+unfoldable pub clearInflightNext : NetworkModel → NetworkModel
+clearInflightNext m = withLower m (record { bandwidth = m .lower .bandwidth; inflight = 2 ^ 64 - 1 })
+
+unfoldable pub clearBandwidthNext : NetworkModel → NetworkModel
+clearBandwidthNext m = withLower m (record { bandwidth = Unset; inflight = m .lower .inflight })
+
+unfoldable pub advanceNext : NetworkModel → NetworkModel
+advanceNext m = withMost m (maxAdvance (m .most))
+
+-- ---- bdp: (bandwidth * gain).to_bytes_per_period(min_rtt)
+unfoldable pub bdpOf : NetworkModel → Bandwidth → Float → ℕ
+bdpOf m b g = bytesPerPeriod (timesF32 b g) (m .least .rtt)

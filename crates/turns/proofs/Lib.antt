@@ -1,4 +1,0 @@
--- Laws of a turn.
-pub mod Parts
-pub mod Determined
-pub mod Examples

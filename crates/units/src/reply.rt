@@ -1,0 +1,40 @@
+// What a call replies: document 01's table, 0 to 7.
+ghost use mathlib.Core.Path.{_≡_};
+ghost use lib.Dec.{eqb};
+ghost use Rattle.units.specs.Reply.{number};
+
+pub enum Reply {
+    Done,
+    OutOfBounds,
+    BadArgument,
+    EarlierMoment,
+    LowerTotal,
+    FullCounter,
+    BadText,
+    ShortOutput,
+}
+
+impl Reply {
+    // The reply's row in document 01's table, 0 where the call was done.
+    pub fn row(self) -> u64
+        ensures { λ r. ⌜ r ≡ number self ⌝ }
+    {
+        match self {
+            Reply::Done => 0,
+            Reply::OutOfBounds => 1,
+            Reply::BadArgument => 2,
+            Reply::EarlierMoment => 3,
+            Reply::LowerTotal => 4,
+            Reply::FullCounter => 5,
+            Reply::BadText => 6,
+            Reply::ShortOutput => 7,
+        }
+    }
+
+    // Whether the call was not refused.
+    pub fn is_done(self) -> bool
+        ensures { λ r. ⌜ r ≡ eqb (number self) 0 ⌝ }
+    {
+        self.row() == 0
+    }
+}
