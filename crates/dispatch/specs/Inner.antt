@@ -15,10 +15,6 @@ use Rattle.layout.specs.Sample.{sampleOf, ackedOf}
 use Rattle.dispatch.specs.declared.turn.Turn.{Turn}
 use Rattle.dispatch.specs.Turn.{isJudged, isAsked, startTurn, startedNumber, judgeTurn, askTurn, enterTurn, changeTurn}
 
--- the record of call 3
-abbrev pub startedRecord : List ℕ → NetworkModel → Record
-startedRecord w m = settled (startedNumber w m) (recordNext m (recordOf w) (sampleOf w) (ackedOf w)) (recordOf w)
-
 -- all calls but 1, 3 and 4
 unfoldable pub otherTurn : List ℕ → NetworkModel → Cycle → Turn
 otherTurn w m y =

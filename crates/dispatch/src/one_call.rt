@@ -16,11 +16,16 @@ ghost use Rattle.dispatch.specs.Inner.{otherTurn};
 ghost use Rattle.dispatch.specs.OneCall.{callAt, answerWords};
 use crate::turn::Turn;
 use crate::turn::carry_out;
-use crate::turn::event;
-use crate::turn::finish;
 use crate::turn::no_record;
+use events::finish_tested;
+use events::start_tested;
+use layout::params::params_of;
 use layout::record::record_in;
+use layout::record::record_of;
 use layout::record::record_words;
+use layout::sample::acked_count;
+use layout::sample::acked_numbers;
+use layout::sample::sample_of;
 use state::Cycle;
 use state::NetworkModel;
 use state::congestion_event::Record;
@@ -67,7 +72,16 @@ pub fn start(
     ensures { λ _. ⌜ now (answers .exit) ≡ sets (now (answers .entry)) to (allBytes (startedNumber (callAt (now (calls .entry)) at) model ∷ 0 ∷ startedWords (callAt (now (calls .entry)) at) model)) ⌝ }
 {
     let words = call_at(calls, at);
-    let happened = event(model, fine, &words);
+    let acked = acked_numbers(&words);
+    let few = acked_count(&words);
+    let happened = start_tested(
+        model,
+        fine,
+        params_of(&words),
+        record_of(&words),
+        sample_of(&words),
+        &acked[..few],
+    );
     let reply = happened.reply;
     let record = happened.record;
     put_answer(
@@ -105,7 +119,7 @@ pub fn end(
     ensures { λ _. ⌜ now (answers .exit) ≡ sets (now (answers .entry)) to (allBytes (finishedNumber (callAt (now (calls .entry)) at) model ∷ 0 ∷ noRecord)) ⌝ }
 {
     let words = call_at(calls, at);
-    let changed = finish(model, fine, &words);
+    let changed = finish_tested(model, fine, record_of(&words));
     let reply = changed.reply;
     put_answer(answers, to, reply.row(), 0, &no_record());
     changed.model

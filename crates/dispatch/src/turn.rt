@@ -2,24 +2,18 @@
 ghost use mathlib.Core.Path.{_≡_};
 ghost use Rattle.units.specs.Reply.{number};
 ghost use Rattle.state.specs.Answers.{settled, noMoment};
-ghost use Rattle.state.specs.NetworkModel.{modelOk};
-ghost use Rattle.dispatch.specs.Turn.{isJudged, isAsked, noRecord, startTurn, startedNumber, startedLeaves, finishedNumber, finishedLeaves, judgeTurn, askTurn, enterTurn, changeTurn};
-ghost use Rattle.dispatch.specs.Inner.{startedRecord, otherTurn};
+ghost use Rattle.dispatch.specs.Turn.{isJudged, isAsked, noRecord, startTurn, judgeTurn, askTurn, enterTurn, changeTurn};
+ghost use Rattle.dispatch.specs.Inner.{otherTurn};
 use crate::ask::ask;
 use crate::change::change;
 use crate::enter::enter;
 use crate::question::judge;
-use events::event::Event;
 use layout::params::params_of;
 use layout::record::record_of;
-use layout::sample::acked_count;
-use layout::sample::acked_numbers;
-use layout::sample::sample_of;
 use layout::word::flag_word;
 use layout::word::float_of;
 use state::Cycle;
 use state::NetworkModel;
-use state::network_model::Changed;
 use units::Duration;
 use units::Moment;
 use units::Reply;
@@ -99,36 +93,6 @@ fn moment_of(reply: Reply, now: Moment) -> Moment
     ensures { λ r. ⌜ r ≡ settled (number reply) now noMoment ⌝ }
 {
     if reply.is_done() { now } else { Moment(0) }
-}
-
-// ---- call 3, where it is known whether the model is within its bounds
-
-pub fn event(model: NetworkModel, fine: bool, n: &[u64; 49]) -> Event
-    requires { ⌜ fine ≡ modelOk model ⌝ }
-    ensures reply { λ r. ⌜ number (r .reply) ≡ startedNumber (now (n .entry)) model ⌝ }
-    ensures model { λ r. ⌜ r .model ≡ startedLeaves (now (n .entry)) model ⌝ }
-    ensures record { λ r. ⌜ r .record ≡ startedRecord (now (n .entry)) model ⌝ }
-{
-    let acked = acked_numbers(n);
-    let few = acked_count(n);
-    events::start_tested(
-        model,
-        fine,
-        params_of(n),
-        record_of(n),
-        sample_of(n),
-        &acked[..few],
-    )
-}
-
-// ---- call 4, in the same way
-
-pub fn finish(model: NetworkModel, fine: bool, n: &[u64; 49]) -> Changed
-    requires { ⌜ fine ≡ modelOk model ⌝ }
-    ensures reply { λ r. ⌜ number (r .reply) ≡ finishedNumber (now (n .entry)) model ⌝ }
-    ensures model { λ r. ⌜ r .model ≡ finishedLeaves (now (n .entry)) model ⌝ }
-{
-    events::finish_tested(model, fine, record_of(n))
 }
 
 // ---- the other calls
