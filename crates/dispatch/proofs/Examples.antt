@@ -18,11 +18,11 @@ use Rattle.state.specs.Cycle.{cycleTests}
 use Rattle.phases.specs.Phases.{entryNumber}
 use Rattle.layout.specs.NetworkModel.{modelOf}
 use Rattle.layout.specs.Cycle.{cycleOf}
-use Rattle.layout.specs.Params.{paramsOf}
-use Rattle.layout.specs.Record.{recordFits, recordFrom, wordsFrom, recordWords}
-use Rattle.layout.specs.Sample.{sampleFits, sampleOf, ackedOf}
-use Rattle.dispatch.specs.Change.{changeOf, changeMore}
-use Rattle.dispatch.specs.Enter.{enterOf}
+use Rattle.arguments.specs.Params.{paramsOf}
+use Rattle.arguments.specs.Record.{recordFits, recordFrom, wordsFrom, recordWords}
+use Rattle.arguments.specs.Sample.{sampleFits, sampleOf, ackedOf}
+use Rattle.calls.specs.Change.{changeOf, changeMore}
+use Rattle.calls.specs.Enter.{enterOf}
 use Rattle.dispatch.specs.Turn.{eventTurn, finishTurn, enterTurn, changeTurn, turnOf}
 use Rattle.dispatch.specs.Examples.{turnExamples}
 

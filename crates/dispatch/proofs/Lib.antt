@@ -2,5 +2,4 @@
 pub mod Examples
 pub mod OneCall
 pub mod Parts
-pub mod Same
 pub mod Determined

@@ -9,7 +9,7 @@ use Rattle.state.specs.declared.network_model.NetworkModel.{NetworkModel}
 use Rattle.state.specs.Answers.{settled}
 use Rattle.state.specs.declared.congestion_event.Record.{Record}
 use Rattle.state.specs.declared.cycle.Cycle.{Cycle}
-use Rattle.layout.specs.Record.{recordWords}
+use Rattle.arguments.specs.Record.{recordWords}
 use Rattle.dispatch.specs.declared.turn.Turn.{Turn}
 use Rattle.dispatch.specs.Turn.{isJudged, isAsked, startTurn, judgeTurn, askTurn, enterTurn, changeTurn}
 use Rattle.dispatch.specs.Inner.{otherTurn}

@@ -9,9 +9,9 @@ use Rattle.state.specs.Answers.{settled}
 use Rattle.state.specs.declared.congestion_event.Record.{Record}
 use Rattle.events.specs.Event.{recordNext}
 use Rattle.state.specs.declared.cycle.Cycle.{Cycle}
-use Rattle.layout.specs.Word.{word}
-use Rattle.layout.specs.Record.{recordOf}
-use Rattle.layout.specs.Sample.{sampleOf, ackedOf}
+use Rattle.words.specs.Word.{word}
+use Rattle.arguments.specs.Record.{recordOf}
+use Rattle.arguments.specs.Sample.{sampleOf, ackedOf}
 use Rattle.dispatch.specs.declared.turn.Turn.{Turn}
 use Rattle.dispatch.specs.Turn.{isJudged, isAsked, startTurn, startedNumber, judgeTurn, askTurn, enterTurn, changeTurn}
 

@@ -13,15 +13,15 @@ use Rattle.events.specs.Event.{eventNumber, modelNext, recordNext}
 use Rattle.events.specs.Event.{recordNumber, finishNext}
 use Rattle.state.specs.declared.cycle.Cycle.{Cycle}
 use Rattle.state.specs.Cycle.{freshCycle}
-use Rattle.layout.specs.Word.{word, flagWord, floatOf}
-use Rattle.layout.specs.Params.{paramsOf}
-use Rattle.layout.specs.Record.{recordOf, recordIn, recordWords}
-use Rattle.layout.specs.Sample.{sampleOf, ackedOf}
+use Rattle.words.specs.Word.{word, flagWord, floatOf}
+use Rattle.arguments.specs.Params.{paramsOf}
+use Rattle.arguments.specs.Record.{recordOf, recordIn, recordWords}
+use Rattle.arguments.specs.Sample.{sampleOf, ackedOf}
 use Rattle.dispatch.specs.declared.turn.Turn.{Turn}
-use Rattle.dispatch.specs.Change.{changeOf}
-use Rattle.dispatch.specs.Ask.{askOf}
-use Rattle.dispatch.specs.Question.{judgeOf}
-use Rattle.dispatch.specs.Enter.{enterOf}
+use Rattle.calls.specs.Change.{changeOf}
+use Rattle.calls.specs.Ask.{askOf}
+use Rattle.calls.specs.Question.{judgeOf}
+use Rattle.calls.specs.Enter.{enterOf}
 
 -- calls 5 to 7 and 9; calls 10 to 13 and 23 to 38
 abbrev pub isJudged : ℕ → Bool

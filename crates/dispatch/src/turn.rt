@@ -4,19 +4,19 @@ ghost use Rattle.units.specs.Reply.{number};
 ghost use Rattle.state.specs.Answers.{settled, noMoment};
 ghost use Rattle.dispatch.specs.Turn.{isJudged, isAsked, noRecord, startTurn, judgeTurn, askTurn, enterTurn, changeTurn};
 ghost use Rattle.dispatch.specs.Inner.{otherTurn};
-use crate::ask::ask;
-use crate::change::change;
-use crate::enter::enter;
-use crate::question::judge;
-use layout::params::params_of;
-use layout::record::record_of;
-use layout::word::flag_word;
-use layout::word::float_of;
+use arguments::params::params_of;
+use arguments::record::record_of;
+use calls::ask::ask;
+use calls::change::change;
+use calls::enter::enter;
+use calls::question::judge;
 use state::Cycle;
 use state::NetworkModel;
 use units::Duration;
 use units::Moment;
 use units::Reply;
+use words::word::flag_word;
+use words::word::float_of;
 
 // The state after a call; the number of its reply, its answer, 0 where it has none, and the words of the event's record
 // after it, zeros where it has none.

@@ -22,10 +22,10 @@ use Rattle.words.proofs.Stores.{sets-append}
 use Rattle.words.proofs.Laws.{allBytes-append, length-allBytes, getD-wordsAt}
 use Rattle.layout.specs.NetworkModel.{modelOf}
 use Rattle.layout.specs.Cycle.{cycleOf}
-use Rattle.layout.specs.Params.{paramsOf}
-use Rattle.layout.specs.Record.{recordOf, wordsFrom, recordIn, recordWords}
-use Rattle.layout.specs.Sample.{sampleOf, ackedOf}
-use Rattle.layout.proofs.RoundTrip.{round-trip}
+use Rattle.arguments.specs.Params.{paramsOf}
+use Rattle.arguments.specs.Record.{recordOf, wordsFrom, recordIn, recordWords}
+use Rattle.arguments.specs.Sample.{sampleOf, ackedOf}
+use Rattle.arguments.proofs.RoundTrip.{round-trip}
 use Rattle.layout.proofs.Laws.{float-fits}
 use Rattle.dispatch.specs.declared.turn.Turn.{Turn}
 use Rattle.dispatch.specs.Turn.{noRecord, sendNumber, sendLeaves, startedNumber, startedLeaves, startedWords, finishedNumber, finishedLeaves, sendTurn, eventTurn, finishTurn, turnOf}

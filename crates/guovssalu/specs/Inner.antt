@@ -8,7 +8,7 @@ use lib.Seq.{sets}
 use Rattle.state.specs.declared.cycle.MaybeBytes.{MaybeBytes}
 use Rattle.state.specs.declared.cycle.MaybeBytes.the-variants.{NoBytes, Bytes}
 use Rattle.words.specs.Words.{allBytes}
-use Rattle.layout.specs.Word.{word}
+use Rattle.words.specs.Word.{word}
 use Rattle.words.specs.Words as Words
 
 -- ---- the filter run: whether one of the n times from an index on is earlier than the one before it, the first earlier

@@ -15,7 +15,7 @@ use Rattle.state.specs.declared.parts.MaybeBandwidth.the-variants.{Unset, Set}
 use Rattle.state.specs.declared.cycle.MaybeBytes.the-variants.{NoBytes, Bytes}
 use Rattle.state.specs.declared.cycle.MaybeLength.the-variants.{NoLength, Length}
 use Rattle.layout.specs.declared.maybe.Maybe.{Maybe}
-use Rattle.layout.specs.Word.{word, flagWord, flagOf, flagFits, floatWord, floatOf}
+use Rattle.words.specs.Word.{word, flagWord, flagOf, flagFits, floatWord, floatOf}
 use Rattle.layout.specs.Maybe.{unset, held, isUnset, numberIn, bandwidthMaybe, bandwidthOf}
 use Rattle.layout.specs.NetworkModel.{modelOf, modelWords, endMaybe, endOf}
 use Rattle.layout.specs.Cycle.{cycleOf, cycleWords, phaseWord, phaseOf, waitLengthMaybe, waitLengthOf, upBytesMaybe, upBytesOf}

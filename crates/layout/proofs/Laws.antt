@@ -10,17 +10,15 @@ use Rattle.filters.specs.declared.round_trip_counter.RoundEnd.{RoundEnd}
 use Rattle.filters.specs.declared.round_trip_counter.RoundEnd.the-variants.{NotSet, At}
 use Rattle.state.specs.declared.parts.MaybeBandwidth.{MaybeBandwidth}
 use Rattle.state.specs.declared.parts.MaybeBandwidth.the-variants.{Unset, Set}
-use Rattle.state.specs.declared.congestion_event.MaybeLength as rtt
 use Rattle.state.specs.declared.cycle.CyclePhase.{CyclePhase}
 use Rattle.state.specs.declared.cycle.CyclePhase.the-variants.{NotStarted, Up, Down, Cruise, Refill}
 use Rattle.state.specs.declared.cycle.MaybeBytes.{MaybeBytes}
 use Rattle.state.specs.declared.cycle.MaybeBytes.the-variants.{NoBytes, Bytes}
 use Rattle.state.specs.declared.cycle.MaybeLength as wait
-use Rattle.layout.specs.Word.{flagWord, flagOf, flagFits, floatWord, floatOf}
+use Rattle.words.specs.Word.{flagWord, flagOf, flagFits, floatWord, floatOf}
 use Rattle.layout.specs.Maybe.{bandwidthMaybe, bandwidthOf}
 use Rattle.layout.specs.NetworkModel.{endMaybe, endOf}
 use Rattle.layout.specs.Cycle.{phaseWord, phaseOf, waitLengthMaybe, waitLengthOf, upBytesMaybe, upBytesOf}
-use Rattle.layout.specs.Record.{lengthMaybe, lengthOf}
 
 pub flag-written : (yes : Bool) → flagFits (flagWord yes) ≡ true
 flag-written true = refl
@@ -65,7 +63,3 @@ up-bytes-back (Bytes n) = refl
 pub wait-length-back : (x : wait.MaybeLength) → waitLengthOf (waitLengthMaybe x .set) (waitLengthMaybe x .number) ≡ x
 wait-length-back wait.the-variants.NoLength = refl
 wait-length-back (wait.the-variants.Length d) = refl
-
-pub length-back : (x : rtt.MaybeLength) → lengthOf (lengthMaybe x .set) (lengthMaybe x .number) ≡ x
-length-back rtt.the-variants.Missing = refl
-length-back (rtt.the-variants.Length d) = refl

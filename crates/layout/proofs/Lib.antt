@@ -1,7 +1,4 @@
 -- Laws, and theorems about the contracts.
 pub mod Fits
 pub mod Laws
-pub mod ReadBack
-pub mod RoundTrip
-pub mod Tested
 pub mod Determined

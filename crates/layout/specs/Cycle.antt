@@ -15,7 +15,7 @@ use Rattle.state.specs.declared.cycle.Slope.{Slope}
 use Rattle.state.specs.declared.cycle.Stay.{Stay}
 use Rattle.state.specs.declared.cycle.Wait.{Wait}
 use Rattle.layout.specs.declared.maybe.Maybe.{Maybe}
-use Rattle.layout.specs.Word.{word, flagWord, flagOf}
+use Rattle.words.specs.Word.{word, flagWord, flagOf}
 use Rattle.layout.specs.Maybe.{unset, held, maybeWords, maybeOf}
 
 -- a phase: 0 to 4; what is above 4 is read as the last

@@ -4,7 +4,7 @@ use Prim.Native.Nat.{ℕ, _%_}
 use mathlib.Core.Bool.{Bool, _&&_, _||_}
 use mathlib.Core.List.{List}
 use lib.Dec.{leb, eqb}
-use Rattle.layout.specs.Word.{word, flagFits}
+use Rattle.words.specs.Word.{word, flagFits}
 use Rattle.layout.specs.Maybe.{isUnset}
 use Rattle.words.specs.Words as Words
 

@@ -1,12 +1,6 @@
--- The words of each thing.
+-- The state in words.
 pub mod Cycle
 pub mod Form
 pub mod Maybe
 pub mod NetworkModel
-pub mod Params
-pub mod Record
-pub mod RoundTrip
-pub mod Sample
 pub mod StateWords
-pub mod Tested
-pub mod Word

@@ -8,7 +8,7 @@ use Rattle.units.specs.declared.bandwidth.Bandwidth.{Bandwidth}
 use Rattle.state.specs.declared.parts.MaybeBandwidth.{MaybeBandwidth}
 use Rattle.state.specs.declared.parts.MaybeBandwidth.the-variants.{Unset, Set}
 use Rattle.layout.specs.declared.maybe.Maybe.{Maybe}
-use Rattle.layout.specs.Word.{flagOf, orOutside}
+use Rattle.words.specs.Word.{flagOf, orOutside}
 
 abbrev pub unset : Maybe
 unset = record { set = 0; number = 0 }

@@ -15,7 +15,7 @@ use Rattle.state.specs.declared.parts.Rates.{Rates}
 use Rattle.state.specs.declared.parts.Round.{Round}
 use Rattle.state.specs.declared.parts.Totals.{Totals}
 use Rattle.layout.specs.declared.maybe.Maybe.{Maybe}
-use Rattle.layout.specs.Word.{word, flagWord, flagOf, floatWord, floatOf}
+use Rattle.words.specs.Word.{word, flagWord, flagOf, floatWord, floatOf}
 use Rattle.layout.specs.Maybe.{unset, held, maybeWords, maybeOf, bandwidthMaybe, bandwidthOf}
 
 -- the end of the round, a packet's number

@@ -6,7 +6,6 @@ ghost use Rattle.layout.specs.Cycle.{phaseOf, phaseWord, waitLengthOf, w
 use crate::maybe::Maybe;
 use crate::maybe::is_unset;
 use crate::maybe::number_in;
-use crate::word::flag_word;
 use state::Cycle;
 use state::CyclePhase;
 use state::cycle::Last;
@@ -17,6 +16,7 @@ use state::cycle::Stay;
 use state::cycle::Wait;
 use units::Duration;
 use units::Moment;
+use words::word::flag_word;
 
 // ---- from words
 

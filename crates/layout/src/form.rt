@@ -2,7 +2,7 @@
 ghost use mathlib.Core.Path.{_≡_};
 ghost use Rattle.layout.specs.Form.{pairFits, floatFits, phaseFits, earlyFits, lateFits, cycleFits};
 ghost use Rattle.layout.specs.StateWords.{isState};
-use crate::word::flag_fits;
+use words::word::flag_fits;
 
 // What may be unset: 1 and any number, or 0 and 0.
 fn pair_fits(set: u64, number: u64) -> bool

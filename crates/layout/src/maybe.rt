@@ -1,9 +1,9 @@
 // A thing that may be unset, as two words.
 ghost use mathlib.Core.Path.{_≡_};
 ghost use Rattle.layout.specs.Maybe.{isUnset, numberIn, bandwidthOf, bandwidthMaybe};
-use crate::word::or_outside;
 use state::parts::MaybeBandwidth;
 use units::Bandwidth;
+use words::word::or_outside;
 
 // 1 and the number, or 0 and 0.
 pub struct Maybe {
@@ -12,21 +12,21 @@ pub struct Maybe {
 }
 
 // Whether two words are 0 and 0.
-pub(crate) fn is_unset(set: u64, number: u64) -> bool
+pub fn is_unset(set: u64, number: u64) -> bool
     ensures { λ r. ⌜ r ≡ isUnset set number ⌝ }
 {
     (set == 0) & (number == 0)
 }
 
 // The number in two words, out of bounds where they are no writer's.
-pub(crate) fn number_in(set: u64, number: u64) -> u64
+pub fn number_in(set: u64, number: u64) -> u64
     ensures { λ r. ⌜ r ≡ numberIn set number ⌝ }
 {
     or_outside(set == 1, number)
 }
 
 // The bandwidth in two words.
-pub(crate) fn bandwidth_of(set: u64, number: u64) -> MaybeBandwidth
+pub fn bandwidth_of(set: u64, number: u64) -> MaybeBandwidth
     ensures { λ r. ⌜ r ≡ bandwidthOf set number ⌝ }
 {
     if is_unset(set, number) {
@@ -37,7 +37,7 @@ pub(crate) fn bandwidth_of(set: u64, number: u64) -> MaybeBandwidth
 }
 
 // A bandwidth as two words.
-pub(crate) fn bandwidth_maybe(bandwidth: MaybeBandwidth) -> Maybe
+pub fn bandwidth_maybe(bandwidth: MaybeBandwidth) -> Maybe
     ensures { λ r. ⌜ r ≡ bandwidthMaybe bandwidth ⌝ }
 {
     match bandwidth {

@@ -2,16 +2,13 @@
 ghost use mathlib.Core.Path.{_≡_};
 ghost use mathlib.Core.List.{[], _∷_, _++_};
 ghost use lib.Seq.{sets};
-ghost use Rattle.layout.specs.Word.{flagWord};
+ghost use Rattle.words.specs.Word.{flagWord};
 ghost use Rattle.layout.specs.NetworkModel.{endOf, endMaybe, roundsOf, roundOf, lowerOf, gainsOf, growthOf, ratesOf, modelOf, roundsWords, mostWords, leastWords, roundWords, latestWords, lowerWords, gainsWords, growthWords, ratesWords, totalsWords, modelWords};
 use crate::maybe::Maybe;
 use crate::maybe::bandwidth_maybe;
 use crate::maybe::bandwidth_of;
 use crate::maybe::is_unset;
 use crate::maybe::number_in;
-use crate::word::flag_word;
-use crate::word::float_of;
-use crate::word::float_word;
 use filters::MaxBandwidthFilter;
 use filters::MinRttFilter;
 use filters::RoundTripCounter;
@@ -27,6 +24,9 @@ use state::parts::Totals;
 use units::Bandwidth;
 use units::Duration;
 use units::Moment;
+use words::word::flag_word;
+use words::word::float_of;
+use words::word::float_word;
 
 // ---- from words
 

@@ -7,12 +7,12 @@ use lib.Dec.{leb, eqb}
 use Rattle.state.specs.declared.network_model.NetworkModel.{NetworkModel}
 use Rattle.state.specs.Answers.{settled}
 use Rattle.state.specs.declared.cycle.Cycle.{Cycle}
-use Rattle.layout.specs.Word.{word, flagWord}
+use Rattle.words.specs.Word.{word, flagWord}
 use Rattle.dispatch.specs.declared.turn.Turn.{Turn}
 use Rattle.dispatch.specs.Turn.{noRecord, isJudged, isAsked, startTurn, sendTurn, eventTurn, finishTurn, judgeTurn, askTurn, enterTurn, changeTurn, turnOf}
-use Rattle.dispatch.specs.Change.{Change, changeOf, changeMore}
-use Rattle.dispatch.specs.Question.{Judged, judgeOf}
-use Rattle.dispatch.specs.Enter.{Entry, enterOf}
+use Rattle.calls.specs.Change.{Change, changeOf, changeMore}
+use Rattle.calls.specs.Question.{Judged, judgeOf}
+use Rattle.calls.specs.Enter.{Entry, enterOf}
 use Rattle.drift.specs.Calls.{State, otherNumber, numberOf, otherNext, nextOf, after}
 use Rattle.theorems.specs.Steps.{Step, Replies, afterStep, begun, Makes, judgeStep, enterStep, changeStep, stepOf}
 use Rattle.theorems.proofs.Choice.{both}

@@ -10,9 +10,9 @@ use borrow.Author.Tests.{eqb-true}
 use Rattle.state.specs.declared.params.Params.{Params}
 use Rattle.state.specs.declared.congestion_event.Record.{Record}
 use Rattle.state.specs.declared.congestion_event.Sample.{Sample}
-use Rattle.layout.specs.Params.{paramsOf}
-use Rattle.layout.specs.Record.{recordOf}
-use Rattle.layout.specs.Sample.{sampleOf}
+use Rattle.arguments.specs.Params.{paramsOf}
+use Rattle.arguments.specs.Record.{recordOf}
+use Rattle.arguments.specs.Sample.{sampleOf}
 use Rattle.dispatch.specs.Turn.{isJudged, isAsked}
 use Rattle.dispatch.specs.OneCall.{callAt}
 use Rattle.drift.specs.Calls.{Call, State}

@@ -21,11 +21,11 @@ use Rattle.state.specs.Cycle.{cycleNew, stayFrom, freshNumber, freshCycle, cycl
 use Rattle.words.specs.Words.{numberAt, lowBytes, wordsAt, allBytes}
 use Rattle.layout.specs.NetworkModel as N
 use Rattle.layout.specs.Cycle.{cycleOf, cycleWords}
-use Rattle.layout.specs.Params.{paramsOf}
-use Rattle.layout.specs.Record.{recordFits, recordFrom, wordsFrom, recordWords}
-use Rattle.layout.specs.Sample.{sampleFits, sampleOf, ackedOf}
-use Rattle.dispatch.specs.Ask.{askOf, readOf, readMore}
-use Rattle.dispatch.specs.Enter.{enterOf}
+use Rattle.arguments.specs.Params.{paramsOf}
+use Rattle.arguments.specs.Record.{recordFits, recordFrom, wordsFrom, recordWords}
+use Rattle.arguments.specs.Sample.{sampleFits, sampleOf, ackedOf}
+use Rattle.calls.specs.Ask.{askOf, readOf, readMore}
+use Rattle.calls.specs.Enter.{enterOf}
 use Rattle.dispatch.specs.Turn.{startTurn, sendTurn, eventTurn, finishTurn, judgeTurn, askTurn, enterTurn, changeTurn, turnOf}
 use Rattle.layout.specs.StateWords.{sameWords, isState}
 use Rattle.guovssalu.specs.ModelRun.{encodesNone, turnAt, answersTo, leftBy, answersFrom, wordsLeft, modelRow, answersOut, stateOut}

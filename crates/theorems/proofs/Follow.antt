@@ -23,10 +23,10 @@ use Rattle.state.specs.declared.cycle.Cycle.{Cycle}
 use Rattle.words.proofs.Laws.{getD-wordsAt}
 use Rattle.layout.specs.Maybe.{bandwidthOf}
 use Rattle.layout.specs.NetworkModel.{modelOf}
-use Rattle.layout.specs.Params.{paramsOf}
-use Rattle.layout.specs.Record.{recordFrom, recordOf}
-use Rattle.layout.specs.Sample.{sampleOf}
-use Rattle.dispatch.specs.Ask.{askOf, readMore}
+use Rattle.arguments.specs.Params.{paramsOf}
+use Rattle.arguments.specs.Record.{recordFrom, recordOf}
+use Rattle.arguments.specs.Sample.{sampleOf}
+use Rattle.calls.specs.Ask.{askOf, readMore}
 use Rattle.dispatch.specs.Turn.{askTurn, turnOf}
 use Rattle.drift.specs.Calls as C
 use Rattle.drift.specs.Calls.{Call, State, after, run, started}

@@ -30,7 +30,7 @@ use Rattle.state.specs.declared.cycle.MaybeLength.{MaybeLength}
 use Rattle.state.specs.declared.cycle.MaybeLength.the-variants.{NoLength, Length}
 use Rattle.state.specs.Cycle.{waitOk, upBytesOk, cycleTests, cycleOk}
 use Rattle.words.proofs.Laws.{AllWords}
-use Rattle.layout.specs.Word.{outside, flagWord, flagOf, floatWord}
+use Rattle.words.specs.Word.{outside, flagWord, flagOf, floatWord}
 use Rattle.layout.specs.Maybe.{isUnset, numberIn, bandwidthMaybe, bandwidthOf}
 use Rattle.layout.specs.NetworkModel.{endMaybe, modelOf, modelWords}
 use Rattle.layout.specs.Cycle.{phaseWord, waitLengthMaybe, upBytesMaybe, cycleOf, cycleWords}

@@ -42,7 +42,7 @@ use lib.Ieee.{binary32}
 use lib.Ieee.Bits.{ofBits-fits}
 use lib.ListN.{getD}
 use Rattle.words.proofs.Laws.{AllWords}
-use Rattle.layout.specs.Params.{paramsOf}
+use Rattle.arguments.specs.Params.{paramsOf}
 use Rattle.layout.proofs.Laws.{float-fits}
 use Rattle.dispatch.specs.Turn.{isJudged, isAsked}
 use Rattle.theorems.specs.Steps.{Step, begins, makes, keeps, judgeStep, enterStep, changeStep, stepOf, begun, afterStep}

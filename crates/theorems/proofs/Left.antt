@@ -15,8 +15,8 @@ use Rattle.words.proofs.Laws.{AllWords, length-allBytes, words-of}
 use Rattle.words.proofs.Stores.{sets-whole}
 use Rattle.layout.specs.NetworkModel.{modelOf}
 use Rattle.layout.specs.Cycle.{cycleOf}
-use Rattle.layout.specs.Params.{paramsOf}
-use Rattle.layout.proofs.RoundTrip.{round-trip}
+use Rattle.arguments.specs.Params.{paramsOf}
+use Rattle.arguments.proofs.RoundTrip.{round-trip}
 use Rattle.guovssalu.specs.Reply.{answered}
 use Rattle.guovssalu.specs.ModelRun.{stateIn, encodesNone, callsIn, turnAt, leftBy, wordsLeft, modelRow, stateOut}
 use Rattle.layout.specs.StateWords.{stateWords, sameWords, isState}

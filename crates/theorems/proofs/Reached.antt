@@ -15,7 +15,7 @@ use Rattle.state.specs.Answers.{settled, noMoment}
 use Rattle.state.specs.NetworkModel.{startNumber}
 use Rattle.state.specs.declared.cycle.Cycle.{Cycle}
 use Rattle.state.specs.Cycle.{freshCycle}
-use Rattle.layout.specs.Params.{paramsOf}
+use Rattle.arguments.specs.Params.{paramsOf}
 use Rattle.drift.specs.Calls.{Call, State, numberOf, after, run, started}
 use Rattle.drift.specs.Exact.{Turn, stays, Exact, unset, exactly, exactRun}
 use Rattle.drift.specs.Drift.{Along}

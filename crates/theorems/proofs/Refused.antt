@@ -12,8 +12,8 @@ use Rattle.state.specs.Bounds.{rowOf}
 use Rattle.state.specs.NetworkModel.{startModel}
 use Rattle.state.specs.declared.cycle.Cycle.{Cycle}
 use Rattle.state.specs.Cycle.{freshNumber, freshCycle}
-use Rattle.layout.specs.Record.{recordIn}
-use Rattle.layout.specs.Word.{flagWord}
+use Rattle.arguments.specs.Record.{recordIn}
+use Rattle.words.specs.Word.{flagWord}
 use Rattle.dispatch.specs.declared.turn.Turn.{Turn}
 use Rattle.dispatch.specs.Turn.{isJudged, isAsked, noRecord, startTurn, sendTurn, eventTurn, finishTurn, judgeTurn, askTurn, enterTurn, changeTurn, turnOf}
 use Rattle.drift.specs.Calls.{State}

@@ -13,10 +13,10 @@ use Rattle.judge.specs.Judge.{judgedNumber, growthFull, queueNumber}
 use Rattle.phases.specs.Phases.{entryNumber, exitNumber, slopeNumber}
 use Rattle.laws.specs.Replies.{Exactly}
 use Rattle.laws.proofs.Replies.{exactly}
-use Rattle.dispatch.specs.Ask.{askOf, readOf, readMore}
-use Rattle.dispatch.specs.Change.{changeOf, changeMore}
-use Rattle.dispatch.specs.Enter.{enterOf}
-use Rattle.dispatch.specs.Question.{judgeOf}
+use Rattle.calls.specs.Ask.{askOf, readOf, readMore}
+use Rattle.calls.specs.Change.{changeOf, changeMore}
+use Rattle.calls.specs.Enter.{enterOf}
+use Rattle.calls.specs.Question.{judgeOf}
 use Rattle.dispatch.specs.Turn.{startTurn, sendTurn, eventTurn, finishTurn, judgeTurn, askTurn, enterTurn, changeTurn, turnOf}
 use Rattle.drift.specs.Calls.{State}
 use Rattle.theorems.specs.Steps.{turnIn}

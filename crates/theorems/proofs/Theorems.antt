@@ -10,10 +10,10 @@ use Rattle.state.proofs.Rows.{and-left, and-right}
 use Rattle.laws.proofs.Examples.{marked-examples}
 use Rattle.laws.proofs.Contracts.{every-call}
 use Rattle.laws.proofs.Replies.{every-reply}
-use Rattle.layout.specs.Word.{flagFits}
-use Rattle.layout.proofs.RoundTrip.{round-trip}
-use Rattle.layout.proofs.Tested.{fits-where, tested}
-use Rattle.dispatch.specs.Enter.{downAt}
+use Rattle.words.specs.Word.{flagFits}
+use Rattle.arguments.proofs.RoundTrip.{round-trip}
+use Rattle.arguments.proofs.Tested.{fits-where, tested}
+use Rattle.calls.specs.Enter.{downAt}
 use Rattle.theorems.specs.Runs.{Unasked}
 use Rattle.theorems.specs.Steps.{moment}
 use Rattle.theorems.specs.Theorems.{Theorems}

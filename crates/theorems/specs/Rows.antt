@@ -12,11 +12,11 @@ use Rattle.changes.specs.Changes.{postponed}
 use Rattle.state.specs.CongestionEvent.{recordOk}
 use Rattle.state.specs.Cycle.{roundsOk}
 use Rattle.laws.specs.Replies.{Rows, storedRows, givenRows, judgedRows, startRows, sentRows, eventRows, growthRows, queueRows, entryRows, exitRows, slopeRows}
-use Rattle.layout.specs.Word.{word, floatOf}
-use Rattle.layout.specs.Params.{paramsOf}
-use Rattle.layout.specs.Record.{recordOf}
-use Rattle.layout.specs.Sample.{sampleOf, ackedOf}
-use Rattle.dispatch.specs.Enter.{downAt}
+use Rattle.words.specs.Word.{word, floatOf}
+use Rattle.arguments.specs.Params.{paramsOf}
+use Rattle.arguments.specs.Record.{recordOf}
+use Rattle.arguments.specs.Sample.{sampleOf, ackedOf}
+use Rattle.calls.specs.Enter.{downAt}
 use Rattle.drift.specs.Calls.{State}
 use Rattle.theorems.specs.Steps.{moment, duration}
 

@@ -20,7 +20,7 @@ use Rattle.state.specs.NetworkModel.{modelOk}
 use Rattle.state.specs.Cycle.{roundsOk, cycleOk}
 use Rattle.words.specs.Words as Bytes
 use Rattle.layout.specs.Maybe.{bandwidthOf}
-use Rattle.layout.specs.Word.{word, floatOf}
+use Rattle.words.specs.Word.{word, floatOf}
 use Rattle.layout.specs.NetworkModel.{modelOf}
 use Rattle.layout.specs.Cycle.{cycleOf}
 use Rattle.guovssalu.specs.Conversions.{f32Bits, f64Bits, f32ToU64, f64RoundToU64, scaledBy, bandwidthBy, bytesIn}

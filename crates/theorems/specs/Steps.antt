@@ -14,11 +14,11 @@ use Rattle.state.specs.declared.params.Params.{Params}
 use Rattle.state.specs.Answers.{settled, noLength, noMoment}
 use Rattle.state.specs.NetworkModel.{one, modelNew, startNumber, startModel}
 use Rattle.state.specs.Cycle.{cycleNew, freshCycle}
-use Rattle.layout.specs.Word.{word, flagOf, floatOf}
-use Rattle.layout.specs.Params.{paramsOf}
-use Rattle.layout.specs.Record.{recordOf, recordIn}
-use Rattle.layout.specs.Sample.{sampleOf, ackedOf}
-use Rattle.dispatch.specs.Enter.{downAt}
+use Rattle.words.specs.Word.{word, flagOf, floatOf}
+use Rattle.arguments.specs.Params.{paramsOf}
+use Rattle.arguments.specs.Record.{recordOf, recordIn}
+use Rattle.arguments.specs.Sample.{sampleOf, ackedOf}
+use Rattle.calls.specs.Enter.{downAt}
 use Rattle.dispatch.specs.declared.turn.Turn.{Turn}
 use Rattle.dispatch.specs.Turn.{isJudged, isAsked, noRecord, turnOf}
 use Rattle.dispatch.specs.OneCall.{callAt}

@@ -37,10 +37,10 @@ use Rattle.state.specs.Bounds.{momentOk}
 use Rattle.laws.specs.Laws.{EveryCall}
 use Rattle.laws.specs.Replies.{Exactly, EveryReply}
 use Rattle.words.specs.Words.{allBytes}
-use Rattle.layout.specs.RoundTrip.{RoundTrip}
-use Rattle.layout.specs.Tested.{Tested}
-use Rattle.layout.specs.Word.{word}
-use Rattle.dispatch.specs.Enter.{downAt}
+use Rattle.arguments.specs.RoundTrip.{RoundTrip}
+use Rattle.arguments.specs.Tested.{Tested}
+use Rattle.words.specs.Word.{word}
+use Rattle.calls.specs.Enter.{downAt}
 use Rattle.guovssalu.specs.FilterRun.{runRow, runOut}
 use Rattle.layout.specs.StateWords.{stateWords}
 use Rattle.guovssalu.specs.ModelRun.{encodesNone, modelRow, stateOut, answersOut}

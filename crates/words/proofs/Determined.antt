@@ -6,6 +6,7 @@ use denote.Triple.Clauses.{AtExit}
 use borrow.Fn.Kinds.{Dens, resT, endedOf}
 use Rattle.numbers.specs.OneReply.{OneReply}
 use Rattle.words.proofs.float_bits as floats
+use Rattle.words.proofs.word as word
 use Rattle.words.proofs.get_word as get-word
 use Rattle.words.proofs.get_words as get-words
 use Rattle.words.proofs.put_word as put-word
@@ -22,6 +23,21 @@ one-f32-bits κ a x y s t p q = p ∙ sym q
 
 pub one-f64-bits : OneReply floats.f64_bits.Reads.Learnt
 one-f64-bits κ a x y s t p q = p ∙ sym q
+
+pub one-flag-word : OneReply word.flag_word.Reads.Learnt
+one-flag-word κ a x y s t p q = p ∙ sym q
+
+pub one-flag-fits : OneReply word.flag_fits.Reads.Learnt
+one-flag-fits κ a x y s t p q = p ∙ sym q
+
+pub one-or-outside : OneReply word.or_outside.Reads.Learnt
+one-or-outside κ a x y s t p q = p ∙ sym q
+
+pub one-float-of : OneReply word.float_of.Reads.Learnt
+one-float-of κ a x y s t p q = p ∙ sym q
+
+pub one-float-word : OneReply word.float_word.Reads.Learnt
+one-float-word κ a x y s t p q = p ∙ sym q
 
 pub one-get-word : OneReply get-word.Reads.Learnt
 one-get-word κ a x y s t p q = p ∙ sym q

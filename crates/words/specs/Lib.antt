@@ -1,2 +1,3 @@
--- Words in lists of bytes.
+-- Words in lists of bytes, and what one word holds.
+pub mod Word
 pub mod Words

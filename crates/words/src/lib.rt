@@ -2,6 +2,7 @@
 // calls. These functions are no public entries: each asks that what it reads or writes lies within
 // the slice.
 pub mod float_bits;
+pub mod word;
 
 ghost use mathlib.Core.Path.{_≡_};
 ghost use Prim.Native.Nat.{_+_, _*_, _≤_, _<_};

@@ -29,4 +29,3 @@ end-spec =
     (λ c κs. search needs)
     (λ c. search needs)
     returns)
-

@@ -7,7 +7,7 @@ use native.Mathlib.Omega.{arith}
 use lib.ListN.{length, length-take}
 use lib.Seq.{sets}
 use Rattle.words.specs.Words.{allBytes}
-use Rattle.layout.specs.Sample.{ackedOf}
+use Rattle.arguments.specs.Sample.{ackedOf}
 use Rattle.dispatch.proofs.OneCall.{left-by}
 use Rattle.dispatch.proofs.one_call.start.Statement.{statement}
 use Rattle.dispatch.proofs.one_call.start.Tie as tie
@@ -47,4 +47,3 @@ start-spec =
     put-answer-requires
     (λ c. search needs)
     returns)
-

@@ -1,7 +1,7 @@
 -- `judged`: part by part. Assumes nothing.
 use mathlib.Core.Path.{refl, ap, _∙_}
 use borrow.Author.Needs.{needs}
-use Rattle.layout.specs.Word.{flagWord}
+use Rattle.words.specs.Word.{flagWord}
 use Rattle.dispatch.specs.Turn.{judgeTurn}
 use Rattle.dispatch.proofs.Parts.{turn-as}
 use Rattle.dispatch.proofs.turn.judged.Statement.{statement}
