@@ -54,7 +54,7 @@ length-event m y src at =
     (either (eqb call 3) (eventTurn w m y) ends (length-started w m)
     (either (eqb call 4) (finishTurn w m y) (otherTurn w m y) refl (length-other w m y)))
 
-length-left : (m : NetworkModel) (y : Cycle) (src : List ℕ) (at n : ℕ) → length (leftBy m y src at n) ≡ 50
+pub length-left : (m : NetworkModel) (y : Cycle) (src : List ℕ) (at n : ℕ) → length (leftBy m y src at n) ≡ 50
 unfolding leftBy
 length-left m y src at zero = round-trip .stateLength m y
 length-left m y src at (suc n) = length-left (turnAt m y src at .model) (turnAt m y src at .cycle) src (at + 392) n

@@ -5,7 +5,7 @@ ghost use lib.ListN.{length};
 ghost use lib.Seq.{sets};
 ghost use Rattle.units.specs.Reply.{number};
 ghost use Rattle.words.specs.Words.{allBytes};
-ghost use Rattle.guovssalu.specs.ModelRun.{stateIn, encodesNone, callsIn, answersTo, leftBy, answersFrom, wordsLeft, modelRow, stateOut, answersOut};
+ghost use Rattle.guovssalu.specs.ModelRun.{stateIn, encodesNone, callsIn, answersTo, leftBy, modelRow, stateOut, answersOut};
 use crate::reply::or_short;
 use dispatch::one_call::end;
 use dispatch::one_call::other;
@@ -36,7 +36,8 @@ pub extern "C" fn guovssalu_run(state: &mut [u8], calls: &[u8], answers: &mut [u
     if !reply.is_done() {
         return reply.row();
     }
-    let left = run_calls(state, calls, answers);
+    let words = state_in(state);
+    let left = run_calls(model_of(&words), cycle_of(&words), calls, answers);
     put_words(state, 0, &left);
     reply.row()
 }
@@ -70,18 +71,8 @@ fn state_in(state: &[u8]) -> [u64; 50]
     words
 }
 
-// Carries out the calls from a state, writes their answers, and gives the words of the state that they leave.
-fn run_calls(state: &[u8], calls: &[u8], answers: &mut [u8]) -> [u64; 50]
-    requires { ⌜ (length (now state) ≡ 400) × (144 * callsIn (now calls) ≤ length (now answers)) ⌝ }
-    ensures { λ r. ⌜ r ≡ wordsLeft (now (state .entry)) (now (calls .entry)) ⌝ }
-    ensures { λ _. ⌜ now (answers .exit) ≡ sets (now (answers .entry)) 0 (allBytes (answersFrom (now (state .entry)) (now (calls .entry)))) ⌝ }
-{
-    let words = state_in(state);
-    run_from(model_of(&words), cycle_of(&words), calls, answers)
-}
-
-// The same, from a model and a cycle.
-fn run_from(model: NetworkModel, cycle: Cycle, calls: &[u8], answers: &mut [u8]) -> [u64; 50]
+// Makes the calls in order from a model and a cycle, writes their answers, and gives the words of the state that they leave.
+fn run_calls(model: NetworkModel, cycle: Cycle, calls: &[u8], answers: &mut [u8]) -> [u64; 50]
     requires { ⌜ 144 * callsIn (now calls) ≤ length (now answers) ⌝ }
     ensures { λ r. ⌜ r ≡ leftBy model cycle (now (calls .entry)) 0 (callsIn (now (calls .entry))) ⌝ }
     ensures { λ _. ⌜ now (answers .exit) ≡ sets (now (answers .entry)) 0 (allBytes (answersTo model cycle (now (calls .entry)) 0 (callsIn (now (calls .entry))))) ⌝ }

@@ -1,4 +1,4 @@
--- `exports::other` meets its contract: what its calls ensure, of the words that are read. Assumes nothing.
+-- `dispatch::other` meets its contract: what its calls ensure, of the words that are read. Assumes nothing.
 use borrow.Author.Needs.{needs}
 use mathlib.Core.Path.{_≡_, ap, _∙_}
 use lib.ListN.{length}

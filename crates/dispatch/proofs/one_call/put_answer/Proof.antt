@@ -1,4 +1,4 @@
--- `exports::put_answer` meets its contract: two stores side by side are one. Assumes nothing.
+-- `dispatch::put_answer` meets its contract: two stores side by side are one. Assumes nothing.
 use borrow.Author.Needs.{needs}
 use Prim.Native.Nat.{ℕ, _+_}
 use mathlib.Core.List.{List, [], _∷_}

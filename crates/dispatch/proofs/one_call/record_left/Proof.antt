@@ -1,4 +1,4 @@
--- `exports::record_left` meets its contract: by the reply. Assumes nothing.
+-- `dispatch::record_left` meets its contract: by the reply. Assumes nothing.
 use borrow.Author.Needs.{needs}
 use mathlib.Core.Path.{_∙_}
 use Rattle.state.proofs.Settling.{done, refused}

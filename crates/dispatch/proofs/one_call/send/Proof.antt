@@ -1,4 +1,4 @@
--- `exports::send` meets its contract: what its calls ensure, of the four words that are read. Assumes nothing.
+-- `dispatch::send` meets its contract: what its calls ensure, of the four words that are read. Assumes nothing.
 use borrow.Author.Needs.{needs}
 use Prim.Native.Nat.{ℕ}
 use mathlib.Core.List.{List, _∷_}

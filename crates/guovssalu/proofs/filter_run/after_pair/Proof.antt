@@ -1,4 +1,4 @@
--- `exports::after_pair` meets its contract: the update, of the two words that are read. Assumes nothing.
+-- `guovssalu::after_pair` meets its contract: the update, of the two words that are read. Assumes nothing.
 use borrow.Author.Needs.{needs}
 use mathlib.Core.Path.{ap, ap₂, _∙_}
 use Rattle.filters.specs.WindowedFilter.{windowedNumber, windowedUpdate}

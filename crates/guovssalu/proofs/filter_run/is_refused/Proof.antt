@@ -1,4 +1,4 @@
--- `exports::is_refused` meets its contract: no time falls, or the pass tells. Assumes nothing.
+-- `guovssalu::is_refused` meets its contract: no time falls, or the pass tells. Assumes nothing.
 use borrow.Author.Needs.{needs}
 use borrow.Author.Tests.{not-true}
 use mathlib.Core.Bool.{false≢true}

@@ -1,4 +1,4 @@
--- `exports::pass` meets its contract. The invariant: the pairs that are left decide whether one is refused, and their samples, where they are
+-- `guovssalu::pass` meets its contract. The invariant: the pairs that are left decide whether one is refused, and their samples, where they are
 -- written, make the answer. Assumes nothing.
 use borrow.Author.Needs.{needs}
 use borrow.Author.Tests.{not-true, not-false}

@@ -1,4 +1,4 @@
--- `exports::put_samples` meets its contract: the three words, or nothing. Assumes nothing.
+-- `guovssalu::put_samples` meets its contract: the three words, or nothing. Assumes nothing.
 use borrow.Author.Needs.{needs}
 use mathlib.Core.Path.{_≡_, ap}
 use native.Mathlib.Omega.{arith}

@@ -1,4 +1,4 @@
--- `exports::run_reply` meets its contract: what the first pass ensures, put into the rows. Assumes nothing.
+-- `guovssalu::run_reply` meets its contract: what the first pass ensures, put into the rows. Assumes nothing.
 use borrow.Author.Needs.{needs}
 use Rattle.guovssalu.specs.FilterRun.{runRow}
 use Rattle.guovssalu.proofs.filter_run.run_reply.Statement.{statement}

@@ -1,4 +1,4 @@
--- `exports::samples_of` meets its contract: what its six calls ensure. Assumes nothing.
+-- `guovssalu::samples_of` meets its contract: what its six calls ensure. Assumes nothing.
 use borrow.Author.Needs.{needs}
 use Rattle.guovssalu.specs.FilterRun.{samples}
 use Rattle.guovssalu.proofs.filter_run.samples_of.Statement.{statement}

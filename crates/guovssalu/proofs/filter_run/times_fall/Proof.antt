@@ -1,4 +1,4 @@
--- `exports::times_fall` meets its contract. The invariant: whether a time falls is decided by the pairs that are left. Assumes nothing.
+-- `guovssalu::times_fall` meets its contract. The invariant: whether a time falls is decided by the pairs that are left. Assumes nothing.
 use Prim.Native.Nat.{_-_, _*_, _/_, _≤_}
 use mathlib.Core.Path.{_≡_}
 use native.Mathlib.Nat.{sub-zero, sub-self}

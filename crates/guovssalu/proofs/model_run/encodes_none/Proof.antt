@@ -1,4 +1,4 @@
--- `exports::encodes_none` meets its contract: by its one test. Assumes nothing.
+-- `guovssalu::encodes_none` meets its contract: by its one test. Assumes nothing.
 use borrow.Author.Needs.{needs}
 use borrow.Author.Tests.{eq-eqb, ne-eqb}
 use mathlib.Core.Bool.{not}

@@ -1,4 +1,4 @@
--- `exports::model_reply` meets its contract: what the tests ensure, put into the rows. Assumes nothing.
+-- `guovssalu::model_reply` meets its contract: what the tests ensure, put into the rows. Assumes nothing.
 use borrow.Author.Needs.{needs}
 use Rattle.guovssalu.specs.ModelRun.{modelRow}
 use Rattle.guovssalu.proofs.model_run.model_reply.Statement.{statement}

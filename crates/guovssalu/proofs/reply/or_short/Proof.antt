@@ -1,4 +1,4 @@
--- `exports::or_short` meets its contract: by its one test. Assumes nothing.
+-- `guovssalu::or_short` meets its contract: by its one test. Assumes nothing.
 use borrow.Author.Needs.{needs}
 use Rattle.guovssalu.specs.Reply.{orShort}
 use Rattle.guovssalu.proofs.reply.or_short.Statement.{statement}

@@ -1,4 +1,4 @@
--- `exports::slope_reply` meets its contract: what the two tests ensure, put into the rows. Assumes nothing.
+-- `guovssalu::slope_reply` meets its contract: what the two tests ensure, put into the rows. Assumes nothing.
 use borrow.Author.Needs.{needs}
 use Rattle.guovssalu.specs.Slope.{slopeRow}
 use Rattle.guovssalu.proofs.slope.slope_reply.Statement.{statement}

@@ -1,4 +1,4 @@
--- `exports::slope_words` meets its contract: the slope that `raised` promises has its bytes. Assumes nothing.
+-- `guovssalu::slope_words` meets its contract: the slope that `raised` promises has its bytes. Assumes nothing.
 use borrow.Author.Needs.{needs}
 use Rattle.phases.specs.Slope.{slopeRaised}
 use Rattle.guovssalu.specs.Slope.{slopeWords}

@@ -1,4 +1,4 @@
--- `exports::cycle_fits` meets its contract: test by test. Assumes nothing.
+-- `layout::cycle_fits` meets its contract: test by test. Assumes nothing.
 use borrow.Author.Needs.{needs}
 use Rattle.layout.specs.Form.{cycleFits}
 use Rattle.layout.proofs.form.cycle_fits.Statement.{statement}

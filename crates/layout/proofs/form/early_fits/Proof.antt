@@ -1,4 +1,4 @@
--- `exports::early_fits` meets its contract: test by test. Assumes nothing.
+-- `layout::early_fits` meets its contract: test by test. Assumes nothing.
 use borrow.Author.Needs.{needs}
 use Rattle.layout.specs.Form.{earlyFits}
 use Rattle.layout.proofs.form.early_fits.Statement.{statement}

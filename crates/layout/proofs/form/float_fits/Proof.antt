@@ -1,4 +1,4 @@
--- `exports::float_fits` meets its contract: its test. Assumes nothing.
+-- `layout::float_fits` meets its contract: its test. Assumes nothing.
 use mathlib.Core.Path.{refl}
 use Rattle.layout.specs.Form.{floatFits}
 use Rattle.layout.proofs.form.float_fits.Statement.{statement}

@@ -1,4 +1,4 @@
--- `exports::is_state` meets its contract: the tests of all words are those of the words that can fail. Assumes nothing.
+-- `layout::is_state` meets its contract: the tests of all words are those of the words that can fail. Assumes nothing.
 use borrow.Author.Needs.{needs}
 use mathlib.Core.Path.{sym}
 use Rattle.layout.proofs.Fits.{form}

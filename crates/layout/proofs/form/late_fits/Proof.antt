@@ -1,4 +1,4 @@
--- `exports::late_fits` meets its contract: test by test. Assumes nothing.
+-- `layout::late_fits` meets its contract: test by test. Assumes nothing.
 use borrow.Author.Needs.{needs}
 use Rattle.layout.specs.Form.{lateFits}
 use Rattle.layout.proofs.form.late_fits.Statement.{statement}

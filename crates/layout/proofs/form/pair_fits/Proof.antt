@@ -1,4 +1,4 @@
--- `exports::pair_fits` meets its contract: its test. Assumes nothing.
+-- `layout::pair_fits` meets its contract: its test. Assumes nothing.
 use mathlib.Core.Path.{refl}
 use Rattle.layout.specs.Form.{pairFits}
 use Rattle.layout.proofs.form.pair_fits.Statement.{statement}
