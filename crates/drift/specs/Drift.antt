@@ -121,7 +121,8 @@ Drift u v turn low P =
     HasValue (complement beta) false parts (2 ^ 24)
     × ((p : Params) (rtt : Duration) (now : Moment) (y : Cycle) (calls : List Call) →
     let s = started p rtt now y in
-    Along (HasBeta beta) calls s → Along P calls s →
+    Along (HasBeta beta) calls s →
+    Along P calls s →
     Follows u v parts (low (run calls s)) (exactRun turn parts calls s unset))
 
 -- inflight_lo: less than k bytes, and less than 1 / (1 - b) bytes
@@ -150,7 +151,8 @@ abbrev pub UsualDrift : (hundredths : ℕ) → (Call → State → Turn) → (St
 UsualDrift h turn low P =
     (p : Params) (rtt : Duration) (now : Moment) (y : Cycle) (calls : List Call) →
     let s = started p rtt now y in
-    Along (HasBeta usualBeta) calls s → Along P calls s →
+    Along (HasBeta usualBeta) calls s →
+    Along P calls s →
     Under h (low (run calls s)) (exactRun turn usualParts calls s unset)
 
 -- under 3.34 bytes

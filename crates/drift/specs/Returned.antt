@@ -1,6 +1,11 @@
 -- The same of the code: a run made by the public functions themselves, of which no more is known than their contracts.
 -- A contract is `Reads.Learnt` of its function, as the checker reads it: so this page cites the modules that hold them.
 -- crates/theorems/specs/Theorems.antt says more: it speaks of the bytes of the exported run, which makes these calls.
+--
+-- How to read it. The symbols are those of Drift.antt. Besides, `(x : A) × B` reads "there is an x of the kind A, of
+-- which B". A contract speaks of lifetimes κ, of the arguments in the order of the source, written (first, (second,
+-- tt)), of a reply x and of what is left at the exit, e. `a .0` is the first argument, `a .1 .0` the second, and so on.
+-- `now a` is what a lent slice a holds at the call.
 use Prim.Native.Nat.{ℕ, _^_}
 use mathlib.Core.Bool.{false}
 use mathlib.Core.List.{List, [], _∷_}
@@ -24,64 +29,90 @@ use Rattle.drift.specs.Drift.{Low, inflightLow, bandwidthLow, Follows, A
 
 -- P of some arguments and of a reply to them that the contract allows. That there is one for all arguments is what the
 -- checker proves of each function
-abbrev pub Returned : {K : Type 0} {A E : K → Type 0} {R : Type 0} →
-    ((κ : K) → A κ → R → E κ → Type 0) → ((κ : K) → A κ → R → Type 0) → Type 0
-Returned {K} {A} {E} {R} learnt P = (κ : K) × (a : A κ) × (x : R) × (e : E κ) × learnt κ a x e × P κ a x
+abbrev pub Returned : {K : Type 0} {A E : K → Type 0} {R : Type 0}
+    → (learnt : (κ : K) → A κ → R → E κ → Type 0)
+    → (P : (κ : K) → A κ → R → Type 0)
+    → Type 0
+Returned {K} {A} {E} {R} learnt P =
+    (κ : K) × (a : A κ) × (x : R) × (e : E κ)
+    × learnt κ a x e
+    × P κ a x
 
--- a reply to these arguments, which makes this state
-abbrev pub Leaves : {K : Type 0} {A E : K → Type 0} {R : Type 0} →
-    ((κ : K) → A κ → R → E κ → Type 0) → ((κ : K) → A κ) → (R → State) → State → Type 0
+-- a reply to these arguments, and t is the state that is made of it
+abbrev pub Leaves : {K : Type 0} {A E : K → Type 0} {R : Type 0}
+    → (learnt : (κ : K) → A κ → R → E κ → Type 0)
+    → (args : (κ : K) → A κ)
+    → (left : R → State)
+    → (t : State)
+    → Type 0
 Leaves learnt args left t = Returned learnt (λ κ a x. (a ≡ args κ) × (t ≡ left x))
 
--- ---- a call by the public function of its name: the state s becomes t
+-- ---- a call by the public function of its name: the state s becomes t. Each line names the function, its arguments,
+-- and the state that is made of its reply x: of what x holds, and of what the call does not change
 abbrev pub MadeOther : Other → State → State → Type 0
 MadeOther (Calls.sent time inflight packet bytes) s t =
-    Leaves changes.on_packet_sent.Reads.Learnt (λ κ. (s .model, (time, (inflight, (packet, (bytes, tt))))))
+    Leaves changes.on_packet_sent.Reads.Learnt
+    (λ κ. (s .model, (time, (inflight, (packet, (bytes, tt))))))
     (λ x. record { model = x .model; cycle = s .cycle }) t
 MadeOther (Calls.finish e) s t =
-    Leaves events.on_congestion_event_finish.Reads.Learnt (λ κ. (s .model, (e, tt)))
+    Leaves events.on_congestion_event_finish.Reads.Learnt
+    (λ κ. (s .model, (e, tt)))
     (λ x. record { model = x .model; cycle = s .cycle }) t
 MadeOther (Calls.expire p e) s t =
-    Leaves judge.maybe_expire_min_rtt.Reads.Learnt (λ κ. (s .model, (p, (e, tt))))
+    Leaves judge.maybe_expire_min_rtt.Reads.Learnt
+    (λ κ. (s .model, (p, (e, tt))))
     (λ x. record { model = x .model; cycle = s .cycle }) t
 MadeOther (Calls.growth p e) s t =
-    Leaves judge.has_bandwidth_growth.Reads.Learnt (λ κ. (s .model, (p, (e, tt))))
+    Leaves judge.has_bandwidth_growth.Reads.Learnt
+    (λ κ. (s .model, (p, (e, tt))))
     (λ x. record { model = x .model; cycle = s .cycle }) t
 MadeOther (Calls.queue p gain) s t =
-    Leaves judge.check_persistent_queue.Reads.Learnt (λ κ. (s .model, (p, (gain, tt))))
+    Leaves judge.check_persistent_queue.Reads.Learnt
+    (λ κ. (s .model, (p, (gain, tt))))
     (λ x. record { model = x .model; cycle = s .cycle }) t
 MadeOther Calls.restart s t =
-    Leaves changes.restart_round_early.Reads.Learnt (λ κ. (s .model, tt))
+    Leaves changes.restart_round_early.Reads.Learnt
+    (λ κ. (s .model, tt))
     (λ x. record { model = x .model; cycle = s .cycle }) t
 MadeOther Calls.reached s t =
-    Leaves changes.set_full_bandwidth_reached.Reads.Learnt (λ κ. (s .model, tt))
+    Leaves changes.set_full_bandwidth_reached.Reads.Learnt
+    (λ κ. (s .model, tt))
     (λ x. record { model = x .model; cycle = s .cycle }) t
 MadeOther (Calls.pacing gain) s t =
-    Leaves changes.set_pacing_gain.Reads.Learnt (λ κ. (s .model, (gain, tt)))
+    Leaves changes.set_pacing_gain.Reads.Learnt
+    (λ κ. (s .model, (gain, tt)))
     (λ x. record { model = x .model; cycle = s .cycle }) t
 MadeOther (Calls.cwnd gain) s t =
-    Leaves changes.set_cwnd_gain.Reads.Learnt (λ κ. (s .model, (gain, tt)))
+    Leaves changes.set_cwnd_gain.Reads.Learnt
+    (λ κ. (s .model, (gain, tt)))
     (λ x. record { model = x .model; cycle = s .cycle }) t
 MadeOther (Calls.high bytes) s t =
-    Leaves changes.set_inflight_hi.Reads.Learnt (λ κ. (s .model, (bytes, tt)))
+    Leaves changes.set_inflight_hi.Reads.Learnt
+    (λ κ. (s .model, (bytes, tt)))
     (λ x. record { model = x .model; cycle = s .cycle }) t
 MadeOther Calls.advance s t =
-    Leaves changes.advance_max_bandwidth_filter.Reads.Learnt (λ κ. (s .model, tt))
+    Leaves changes.advance_max_bandwidth_filter.Reads.Learnt
+    (λ κ. (s .model, tt))
     (λ x. record { model = x .model; cycle = s .cycle }) t
 MadeOther (Calls.postpone d) s t =
-    Leaves changes.postpone_min_rtt_timestamp.Reads.Learnt (λ κ. (s .model, (d, tt)))
+    Leaves changes.postpone_min_rtt_timestamp.Reads.Learnt
+    (λ κ. (s .model, (d, tt)))
     (λ x. record { model = x .model; cycle = s .cycle }) t
 MadeOther (Calls.down p hi risky time) s t =
-    Leaves phases.enter_probe_down.Reads.Learnt (λ κ. (s .model, (s .cycle, (p, (hi, (risky, (time, tt)))))))
+    Leaves phases.enter_probe_down.Reads.Learnt
+    (λ κ. (s .model, (s .cycle, (p, (hi, (risky, (time, tt)))))))
     (λ x. record { model = x .model; cycle = x .cycle }) t
 MadeOther (Calls.up time window) s t =
-    Leaves phases.enter_probe_up.Reads.Learnt (λ κ. (s .model, (s .cycle, (time, (window, tt)))))
+    Leaves phases.enter_probe_up.Reads.Learnt
+    (λ κ. (s .model, (s .cycle, (time, (window, tt)))))
     (λ x. record { model = x .model; cycle = x .cycle }) t
 MadeOther Calls.exit s t =
-    Leaves phases.exit_probe_down.Reads.Learnt (λ κ. (s .model, (s .cycle, tt)))
+    Leaves phases.exit_probe_down.Reads.Learnt
+    (λ κ. (s .model, (s .cycle, tt)))
     (λ x. record { model = x .model; cycle = x .cycle }) t
 MadeOther (Calls.slope window) s t =
-    Leaves phases.raise_inflight_high_slope.Reads.Learnt (λ κ. (s .cycle, (window, tt)))
+    Leaves phases.raise_inflight_high_slope.Reads.Learnt
+    (λ κ. (s .cycle, (window, tt)))
     (λ x. record { model = s .model; cycle = x .cycle }) t
 
 abbrev pub Made : Call → State → State → Type 0
@@ -95,30 +126,42 @@ Made (Calls.event p e y acked) s t =
     × (now (a .1 .1 .1 .1 .0) ≡ acked)
     × (t ≡ record { model = x .model; cycle = s .cycle }))
 Made (Calls.cap bytes) s t =
-    Leaves changes.cap_inflight_lo.Reads.Learnt (λ κ. (s .model, (bytes, tt)))
+    Leaves changes.cap_inflight_lo.Reads.Learnt
+    (λ κ. (s .model, (bytes, tt)))
     (λ x. record { model = x .model; cycle = s .cycle }) t
 Made Calls.clearInflight s t =
-    Leaves changes.clear_inflight_lo.Reads.Learnt (λ κ. (s .model, tt))
+    Leaves changes.clear_inflight_lo.Reads.Learnt
+    (λ κ. (s .model, tt))
     (λ x. record { model = x .model; cycle = s .cycle }) t
 Made Calls.clearBandwidth s t =
-    Leaves changes.clear_bandwidth_lo.Reads.Learnt (λ κ. (s .model, tt))
+    Leaves changes.clear_bandwidth_lo.Reads.Learnt
+    (λ κ. (s .model, tt))
     (λ x. record { model = x .model; cycle = s .cycle }) t
 Made (Calls.cruise time) s t =
-    Leaves phases.enter_probe_cruise.Reads.Learnt (λ κ. (s .model, (s .cycle, (time, tt))))
+    Leaves phases.enter_probe_cruise.Reads.Learnt
+    (λ κ. (s .model, (s .cycle, (time, tt))))
     (λ x. record { model = x .model; cycle = x .cycle }) t
 Made (Calls.refill rounds time) s t =
-    Leaves phases.enter_probe_refill.Reads.Learnt (λ κ. (s .model, (s .cycle, (rounds, (time, tt)))))
+    Leaves phases.enter_probe_refill.Reads.Learnt
+    (λ κ. (s .model, (s .cycle, (rounds, (time, tt)))))
     (λ x. record { model = x .model; cycle = x .cycle }) t
 Made (Calls.other c) s t = MadeOther c s t
 
 -- a fresh model
 abbrev pub Begun : Params → Duration → Moment → State → Type 0
-Begun p rtt time s = Returned model.new.Reads.Learnt (λ κ a x. (a ≡ (p, (rtt, (time, tt)))) × (s .model ≡ x .model))
+Begun p rtt time s =
+    Returned model.new.Reads.Learnt
+    (λ κ a x.
+    (a ≡ (p, (rtt, (time, tt))))
+    × (s .model ≡ x .model))
 
 -- ---- a run: each call on what the one before it returned
 abbrev pub Ran : List Call → State → State → Type 0
 Ran [] s t = t ≡ s
-Ran (c ∷ calls) s t = (u : State) × Made c s u × Ran calls u t
+Ran (c ∷ calls) s t =
+    (u : State)
+    × Made c s u
+    × Ran calls u t
 
 -- ---- the theorems of specs/Drift.antt, of the states that the public functions return
 abbrev pub CodeDrift : (u v : ℕ) → (Call → State → Turn) → (State → Low) → (Call → Type 0) → Type 0
@@ -127,7 +170,10 @@ CodeDrift u v turn low P =
     let parts = partsOf (complement beta) in
     HasValue (complement beta) false parts (2 ^ 24)
     × ((p : Params) (rtt : Duration) (time : Moment) (calls : List Call) (s t : State) →
-    Along (HasBeta beta) calls s → Along P calls s → Begun p rtt time s → Ran calls s t →
+    Along (HasBeta beta) calls s →
+    Along P calls s →
+    Begun p rtt time s →
+    Ran calls s t →
     Follows u v parts (low t) (exactRun turn parts calls s unset))
 
 abbrev pub CodeInflightDrift : Type 0
@@ -140,7 +186,10 @@ CodeBandwidthDrift = CodeDrift 4097 8192 bandwidthTurn bandwidthLow IsAny
 abbrev pub CodeUsualDrift : (hundredths : ℕ) → (Call → State → Turn) → (State → Low) → (Call → Type 0) → Type 0
 CodeUsualDrift h turn low P =
     (p : Params) (rtt : Duration) (time : Moment) (calls : List Call) (s t : State) →
-    Along (HasBeta usualBeta) calls s → Along P calls s → Begun p rtt time s → Ran calls s t →
+    Along (HasBeta usualBeta) calls s →
+    Along P calls s →
+    Begun p rtt time s →
+    Ran calls s t →
     Under h (low t) (exactRun turn usualParts calls s unset)
 
 abbrev pub CodeUsualInflightDrift : Type 0

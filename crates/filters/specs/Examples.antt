@@ -1,4 +1,5 @@
--- document 01, "Marked examples": 9 and 10, about the filters.
+-- document 01, "Marked examples": 9, about the windowed filter, and 10, about the max bandwidth filter. All twelve, in
+-- one list with one proof, are in crates/laws/specs/Examples.antt.
 use Prim.Native.Nat.{ℕ}
 use mathlib.Core.Bool.{Bool, true, false, _&&_}
 use mathlib.Core.List.{List, [], _∷_}
@@ -19,7 +20,14 @@ same (a ∷ l) [] = false
 -- the samples, each with its time
 abbrev held : Held → List ℕ
 held Empty = []
-held (Full e) = e .best .sample ∷ e .best .time ∷ e .second .sample ∷ e .second .time ∷ e .third .sample ∷ e .third .time ∷ []
+held (Full e) =
+    e .best .sample
+    ∷ e .best .time
+    ∷ e .second .sample
+    ∷ e .second .time
+    ∷ e .third .sample
+    ∷ e .third .time
+    ∷ []
 
 abbrev start : WindowedFilter
 start = windowedReset (windowedNew 8) 5 0

@@ -40,6 +40,10 @@ roundsNumber c acked = cond (roundsFull c acked) 5 0
 unfoldable pub roundsEnded : RoundTripCounter → List ℕ → Bool
 roundsEnded c acked = endsRound (c .end) acked && not (roundsFull c acked)
 
--- "the count rises and the end becomes the last sent number"; a refusal, and an event that ends no round, leave the counter as it is
+-- "the count rises and the end becomes the last sent number"; a refusal, and an event that ends no round, leave the
+-- counter as it is
 unfoldable pub roundsAcked : RoundTripCounter → List ℕ → RoundTripCounter
-roundsAcked c acked = cond (roundsEnded c acked) (record { count = c .count + 1; sent = c .sent; end = At (c .sent) }) c
+roundsAcked c acked =
+    cond (roundsEnded c acked)
+    (record { count = c .count + 1; sent = c .sent; end = At (c .sent) })
+    c

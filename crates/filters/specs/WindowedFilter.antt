@@ -37,7 +37,8 @@ raised e new =
     (estimates (e .best) new new)
     (cond (ltb (e .third .sample) (new .sample)) (estimates (e .best) (e .second) new) e)
 
--- step 3: "shift up, third becomes the new sample; if the new best is still too old, best takes second and second takes third, third staying"
+-- step 3: "shift up, third becomes the new sample; if the new best is still too old, best takes second and second takes
+-- third, third staying"
 unfoldable pub shifted : Estimates → Sample → ℕ → Estimates
 shifted e new w =
     cond (isOlder (e .second) w (new .time))
@@ -48,8 +49,8 @@ shifted e new w =
 unfoldable pub lingers : Sample → Sample → ℕ → ℕ → Bool
 lingers e better limit t = eqb (e .sample) (better .sample) && isOlder e limit t
 
--- step 4: "second's sample equals best's and second's age > window / 4 (whole division): second and third become new. Stop";
--- step 5: "Else if third's sample equals second's and third's age > window / 2: third becomes new"
+-- step 4: "second's sample equals best's and second's age > window / 4 (whole division): second and third become new.
+-- Stop"; step 5: "Else if third's sample equals second's and third's age > window / 2: third becomes new"
 unfoldable pub renewed : Estimates → Sample → ℕ → Estimates
 renewed e new w =
     cond (lingers (e .second) (e .best) (w / 4) (new .time))

@@ -1,4 +1,5 @@
--- The exported conversions: those of the crates below, with floats as their bits. `ofBits` reads every pattern of a NaN as a NaN. A whole number's float is none.
+-- The exported conversions: those of the crates below, with floats as their bits. `ofBits` reads every pattern of a NaN
+-- as a NaN. A whole number's float is none.
 use Prim.Native.Nat.{ℕ}
 use lib.Ieee.{binary32, binary64, ofBits, toBits}
 use Rattle.numbers.specs.IntToFloat.{intToFloat}

@@ -1,4 +1,5 @@
--- Worked calls: what the definitions say of a few inputs. The slope's are document 01's example 11; the run's first two pairs are those of example 9.
+-- Worked calls: what the definitions say of a few inputs. The slope's are document 01's example 11; the filter run's
+-- first two pairs are those of example 9.
 use Prim.Native.Nat.{ℕ}
 use mathlib.Core.Bool.{Bool}
 use mathlib.Core.List.{List, [], _∷_, _++_}
@@ -79,7 +80,7 @@ exportExamples =
     ∷ eqb (modelRow (zeros 401) [] 0) 2
     ∷ eqb (modelRow (zeros 400) (take 391 (call 12)) 144) 2
     ∷ eqb (modelRow (states 12 2) (take 391 (call 12)) 0) 1
-    -- a number that is no call's does not refuse the run: its call is refused (crates/turns/specs/Examples.antt)
+    -- a number that is no call's does not refuse the run: its call is refused (crates/dispatch/specs/Examples.antt)
     ∷ eqb (modelRow (zeros 400) (call 2) 144) 0
     ∷ eqb (modelRow (zeros 400) (call 12 ++ call 46) 288) 0
     -- a byte is missing for an answer: nothing is written

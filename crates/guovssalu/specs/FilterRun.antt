@@ -1,5 +1,5 @@
--- The exported filter run: document 01, "Order of porting, and what changes shape": "a filter run over little-endian u64 pairs (time, sample) that writes three samples per pair, u64
--- each. It starts empty."
+-- The exported filter run: document 01, "Order of porting, and what changes shape": "a filter run over little-endian
+-- u64 pairs (time, sample) that writes three samples per pair, u64 each. It starts empty."
 use Prim.Native.Nat.{ℕ, zero, suc, _+_, _*_, _/_, _%_}
 use mathlib.Core.Bool.{Bool, false, not, _||_}
 use mathlib.Core.List.{List, [], _∷_, _++_}
@@ -39,10 +39,14 @@ unfoldable pub samplesOf : WindowedFilter → List ℕ → ℕ → ℕ → List 
 samplesOf f src at zero = []
 samplesOf f src at (suc n) = samples (afterPair f src at) ++ samplesOf (afterPair f src at) src (at + 16) n
 
--- "Bytes not in whole sixteens give 2; a pair that the update would refuse, 3 for the whole run; an output under 24 bytes a pair, 7"
+-- "Bytes not in whole sixteens give 2; a pair that the update would refuse, 3 for the whole run; an output under 24
+-- bytes a pair, 7"
 unfoldable pub runRow : (window : ℕ) (src : List ℕ) (room : ℕ) → ℕ
 runRow window src room =
-    orShort (rowOf false (not (eqb (length src % 16) 0)) (refuses (windowedNew window) src 0 (pairs src)) false false) (ltb room (24 * pairs src))
+    let uneven = not (eqb (length src % 16) 0) in
+    let earlier = refuses (windowedNew window) src 0 (pairs src) in
+    orShort (rowOf false uneven earlier false false) (ltb room (24 * pairs src))
 
 unfoldable pub runOut : (window : ℕ) (src out : List ℕ) → List ℕ
-runOut window src out = answered (runRow window src (length out)) (samplesOf (windowedNew window) src 0 (pairs src)) out
+runOut window src out =
+    answered (runRow window src (length out)) (samplesOf (windowedNew window) src 0 (pairs src)) out

@@ -6,10 +6,12 @@ use lib.Dec.{eqb}
 use lib.Seq.{sets}
 use Rattle.words.specs.Words.{allBytes}
 
--- row 7, "the lent output is shorter than the answer", after the rows that `rowOf` decides: "If several refusals apply, the lowest number is given"
+-- row 7, "the lent output is shorter than the answer", after the rows that `rowOf` decides: "If several refusals apply,
+-- the lowest number is given"
 unfoldable pub orShort : ℕ → Bool → ℕ
 orShort row short = cond (eqb row 0 && short) 7 row
 
--- done, the answer's words stand in the first bytes: "Output bytes past the answer keep what they held". Refused, "lent memory keeps its bytes"
+-- done, the answer's words stand in the first bytes: "Output bytes past the answer keep what they held". Refused, "lent
+-- memory keeps its bytes"
 unfoldable pub answered : ℕ → List ℕ → List ℕ → List ℕ
 answered row answer out = cond (eqb row 0) (sets out 0 (allBytes answer)) out

@@ -1,5 +1,5 @@
--- The exported slope: document 01, "One event, in order", Slope: "growth is 2^rounds; rounds become min(rounds + 1, 30); probe_up_bytes is max(window / growth, 1300)". It is the cycle's
--- rule, on the two numbers that it reads.
+-- The exported slope: document 01, "One event, in order", Slope: "growth is 2^rounds; rounds become min(rounds + 1,
+-- 30); probe_up_bytes is max(window / growth, 1300)". It is the cycle's rule, on the two numbers that it reads.
 use Prim.Native.Nat.{ℕ}
 use mathlib.Core.Bool.{not, false}
 use mathlib.Core.List.{List, [], _∷_}
@@ -10,9 +10,11 @@ use Rattle.state.specs.Cycle.{roundsOk}
 use Rattle.phases.specs.Slope.{nextRounds, upBytes}
 use Rattle.guovssalu.specs.Reply.{orShort, answered}
 
--- "In the exported slope, rounds over 30 give 1." A window is an argument, a byte count: above 2^40 it is 2. The answer has two words
+-- "In the exported slope, rounds over 30 give 1." A window is an argument, a byte count: above 2^40 it is 2. The answer
+-- has two words
 unfoldable pub slopeRow : (rounds window room : ℕ) → ℕ
-slopeRow rounds window room = orShort (rowOf (not (roundsOk rounds)) (not (bytesOk window)) false false false) (ltb room 16)
+slopeRow rounds window room =
+    orShort (rowOf (not (roundsOk rounds)) (not (bytesOk window)) false false false) (ltb room 16)
 
 -- the next rounds, then probe_up_bytes
 unfoldable pub slopeWords : (rounds window : ℕ) → List ℕ

@@ -27,8 +27,9 @@ timesF32 b g = record { 0 = scaledF64 (b .0) (f32ToF64 g) }
 abbrev pub nanosPerByte : ℕ
 nanosPerByte = 8000000000
 
--- the largest bandwidth stands for an infinite one (bandwidth.rs, infinite), which carries 2^64 - 1 bytes in any period but an empty one;
--- another carries bits times nanoseconds over 8,000,000,000 bytes, rounded down, at most 2^64 - 1 (bandwidth.rs, to_bytes_per_period)
+-- the largest bandwidth stands for an infinite one (bandwidth.rs, infinite), which carries 2^64 - 1 bytes in any period
+-- but an empty one; another carries bits times nanoseconds over 8,000,000,000 bytes, rounded down, at most 2^64 - 1
+-- (bandwidth.rs, to_bytes_per_period)
 unfoldable pub bytesPerPeriod : Bandwidth → Duration → ℕ
 bytesPerPeriod b t =
     cond (eqb (b .0) (2 ^ 64 - 1))

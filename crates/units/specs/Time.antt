@@ -1,4 +1,5 @@
--- Moments and lengths of time in whole nanoseconds: document 01, "Replies and bounds", the clock; Rust's Instant and Duration.
+-- Moments and lengths of time in whole nanoseconds: document 01, "Replies and bounds", the clock; Rust's Instant and
+-- Duration.
 use Prim.Native.Nat.{min, _+_, _-_, _^_}
 use mathlib.Core.Bool.{Bool}
 use lib.Dec.{ltb}
@@ -9,7 +10,8 @@ use Rattle.units.specs.declared.time.Moment.{Moment}
 abbrev pub plus : Moment → Duration → Moment
 plus m d = record { 0 = min (m .0 + d .0) (2 ^ 64 - 1) }
 
--- the length of time since an earlier moment, 0 since a later one (Instant - Instant, which saturates: so does ℕ's difference)
+-- the length of time since an earlier moment, 0 since a later one (Instant - Instant, which saturates: so does ℕ's
+-- difference)
 abbrev pub since : Moment → Moment → Duration
 since m n = record { 0 = m .0 - n .0 }
 
