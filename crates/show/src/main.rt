@@ -1,6 +1,9 @@
-// Shows the library at work: conversions and scaling, and a windowed filter fed with a short sample.
+// Shows the library at work: a loss episode, conversions and scaling, and a windowed filter fed with a short sample.
+mod episode;
+mod exact;
 mod table;
 
+use episode::episode;
 use filters::WindowedFilter;
 use filters::windowed_filter::Held;
 use filters::windowed_filter::Sample;
@@ -91,7 +94,11 @@ fn windowed() {
     update(g, 6, 12);
 }
 
+// Ends where a call of the episode is refused.
 fn main() {
+    if !episode() {
+        return;
+    }
     conversions();
     windowed();
 }

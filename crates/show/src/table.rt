@@ -26,3 +26,19 @@ pub fn column(n: u64, width: usize) {
     }
     text(&digits[..k]);
 }
+
+// A number of thousandths, with three decimals.
+pub fn decimals(thousandths: u64, width: usize) {
+    if width >= 4 {
+        column(thousandths / 1_000, width - 4);
+    }
+    text(b".");
+    digit(thousandths / 100);
+    digit(thousandths / 10);
+    digit(thousandths);
+}
+
+// The last digit of a number.
+fn digit(n: u64) {
+    column(n % 10, 1);
+}
