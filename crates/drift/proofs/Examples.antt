@@ -1,8 +1,8 @@
 -- The worked runs: one list of facts, computed. Assumes nothing.
 use mathlib.Core.Bool.{true}
 use mathlib.Core.Path.{_≡_, refl}
-use Prim.Native.Nat.{_*_}
-use lib.Dec.{lit<}
+use Prim.Native.Nat.{ℕ, _+_, _*_, _^_}
+use lib.Dec.{T, ltb, lit<}
 use lib.Ieee as Ieee
 use Rattle.numbers.specs.Scaling.{scaled, scaledF64}
 use Rattle.numbers.specs.FloatToInt.{roundAway}
@@ -24,13 +24,23 @@ use Rattle.state.specs.Cycle.{cycleNew, stayFrom, freshNumber, freshCycle, cycl
 use Rattle.phases.specs.Phases.{entryNumber, restartedAt, exitModel, leftModel, leftCycle, cycleIn, cruiseModel, cruiseCycle, refillModel, refilled, refillCycle}
 use Rattle.drift.specs.Calls.{otherNumber, numberOf, otherNext, nextOf, after, run, started}
 use Rattle.drift.specs.Exact.{isReduced, inflightTurn, bandwidthTurn, exactly, exactRun}
-use Rattle.drift.specs.Drift.{inflightLow, bandwidthLow, Near, usualParts}
-use Rattle.drift.specs.Examples.{driftExamples}
+use Rattle.drift.specs.Drift.{inflightLow, bandwidthLow, Nearer}
+use Rattle.drift.specs.Examples.{driftExamples, EpisodeFollows}
 
 pub drift-examples : all driftExamples ≡ true
 unfolding driftExamples scaled scaledF64 roundAway timesF32 Ieee.round Ieee.ofBits Ieee.sub Ieee.mul Ieee.ofInt Ieee.toUnsigned Ieee.eq Ieee.le maxGet maxUpdate roundsSent endsRound roundsFull roundsEnded roundsAcked settled within paramsOk roundOk modelTests rowOf withRounds withRound withLower withMoment modelNew startNumber startModel storedNumber givenNumber sentNumber sentNext capNext clearInflightNext clearBandwidthNext withGrowth growthRestarted restartNext lowerCapped roundSent recordTests sampleTests stateAfter deliveredBy roundAfter latestRaised lowerReduced lowerAfter latestAfter recordOf recordNext mostNext roundNext lowerNext modelOf modelNext isFull eventNumber recordNumber finishNext cycleNew stayFrom freshNumber freshCycle cycleTests entryNumber restartedAt exitModel leftModel leftCycle cycleIn cruiseModel cruiseCycle refillModel refilled refillCycle otherNumber numberOf otherNext nextOf after run started isReduced inflightTurn bandwidthTurn exactly exactRun inflightLow bandwidthLow
 drift-examples = refl
 
--- one instance of the bounds, computed: 910 against 1300 b
-pub near-example : Near 1 1 usualParts 910 (1300 * usualParts) 24 1
-near-example = record { counted = lit< tt; by-count = record { not-over = lit< tt; not-short = lit< tt }; by-rate = record { not-over = lit< tt; not-short = lit< tt } }
+-- the loss episode: both bounds on each of its three numbers, computed
+nearer : {n num exponent times u v : ℕ} →
+    T (ltb (n * 2 ^ exponent * v) (num * v + times * u * 2 ^ exponent)) →
+    T (ltb (num * v) (n * 2 ^ exponent * v + times * u * 2 ^ exponent)) → Nearer n num exponent times u v
+nearer over short = record { not-over = lit< over; not-short = lit< short }
+
+pub episode-follows : EpisodeFollows
+episode-follows =
+    record {
+      first = (record { counted = lit< tt; by-count = nearer tt tt; by-rate = nearer tt tt }, nearer tt tt);
+      second = (record { counted = lit< tt; by-count = nearer tt tt; by-rate = nearer tt tt }, nearer tt tt);
+      third = (record { counted = lit< tt; by-count = nearer tt tt; by-rate = nearer tt tt }, nearer tt tt);
+    }

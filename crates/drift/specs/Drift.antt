@@ -19,9 +19,19 @@
 -- from its bits, and `HasValue x false a c` says that x is finite, not negative, and a / c in size. `unfoldable`,
 -- `abbrev` and `pub` say who may look inside a name, and add nothing to what it means.
 --
--- `Near` in numbers. inflight_lo is unset and the window is 1300 bytes. At beta 0.3 b is 11744051 / 2^24, and the
--- first reduction stores 910. The exact value is 1300 * 11744051 / 2^24 = 909.99998.., so it is `over num 24 1` with
--- num = 1300 * 11744051 = 15267266300. `by-count` says |910 * 2^24 - num| < 1 * 2^24: that is 260 < 16777216.
+-- In numbers. inflight_lo is unset, the window is 1300 bytes, and every round has a loss. At beta 0.3 b is
+-- 11744051 / 2^24. After k reductions the exact value is 1300 b^k = num / 2^(24 k), with num = 1300 * 11744051^k:
+--
+--     k   stored                         num   num / 2^(24 k)   stored - exact
+--     1      910                 15267266300   909.99998450..    0.00001549..
+--     2      637          179299554057781300   636.99997830..    0.00002169..
+--     3      445   2105703107131840534046300   445.89997721..   -0.89997721..
+--
+-- After the third, `Follows 1 1 11744051 (at 445) (over num 72 3)` is `Near 1 1 11744051 445 num 72 3`. Its `counted`
+-- is 0 < 3. Its `by-count` is 0.89997.. < 3 * 1 / 1, multiplied by 2^72: |445 * 2^72 - num| < 3 * 2^72, which is
+-- 4250022254848413951580 < 14167099448608935641088. Its `by-rate` is 0.89997.. < 1 / (1 - b) = 3.33333..: with
+-- 1 - b = 5033165 / 2^24, both sides multiplied by 2^72 * 5033165. `Under 334 (at 445) (over num 72 3)` is
+-- 0.89997.. < 3.34. The runs and these statements are computed in Examples.antt (`driftExamples`, `EpisodeFollows`).
 use Prim.Native.Nat.{ℕ, _+_, _-_, _*_, _^_, _≤_, _<_}
 use mathlib.Core.Bool.{cond, true, false}
 use mathlib.Core.List.{List, [], _∷_}

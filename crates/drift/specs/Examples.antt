@@ -13,7 +13,7 @@ use Rattle.state.specs.declared.congestion_event.Sample.{Sample}
 use Rattle.state.specs.Cycle.{freshCycle}
 use Rattle.drift.specs.Calls.{Call, event, cap, clearInflight, cruise, refill, other, sent, finish, State, run, started}
 use Rattle.drift.specs.Exact.{Exact, unset, over, inflightTurn, bandwidthTurn, exactRun}
-use Rattle.drift.specs.Drift.{Low, none, at, inflightLow, bandwidthLow, usualBeta, usualParts}
+use Rattle.drift.specs.Drift.{Low, none, at, inflightLow, bandwidthLow, Follows, Under, usualBeta, usualParts}
 
 -- ---- a run of lossy rounds: in each a packet is sent, and an event acks it and loses a byte
 abbrev params : Params
@@ -98,9 +98,18 @@ abbrev isOver : (num exponent k : ℕ) → Exact → Bool
 isOver num exponent k unset = false
 isOver num exponent k (over a e c) = eqb a num && eqb e exponent && eqb c k
 
+-- stored is n
+abbrev isAt : ℕ → Low → Bool
+isAt n none = false
+isAt n (at m) = eqb n m
+
 abbrev isUnset : Exact → Bool
 isUnset unset = true
 isUnset (over num exponent k) = false
+
+-- 1300 b^k is numerator k / 2^(24 k)
+abbrev pub numerator : ℕ → ℕ
+numerator k = 1300 * usualParts ^ k
 
 abbrev reductions : Exact → ℕ
 reductions unset = 0
@@ -142,9 +151,17 @@ driftExamples =
     ∷ isBelow 28 (low deep) (exact deep)
     -- 1300 bytes become 910 in one reduction: above the exact value
     ∷ isAbove 0 (low (lossy 1300 1 1)) (exact (lossy 1300 1 1))
-    -- the exact values after one and two reductions
-    ∷ isOver (1300 * usualParts) 24 1 (exact (lossy 1300 1 1))
-    ∷ isOver (1300 * usualParts * usualParts) 48 2 (exact (lossy 1300 1 2))
+    -- the loss episode of Drift.antt: what is stored after one, two and three reductions, the exact values, and their
+    -- numerators
+    ∷ isAt 910 (low (lossy 1300 1 1))
+    ∷ isAt 637 (low (lossy 1300 1 2))
+    ∷ isAt 445 (low (lossy 1300 1 3))
+    ∷ isOver (numerator 1) 24 1 (exact (lossy 1300 1 1))
+    ∷ isOver (numerator 2) 48 2 (exact (lossy 1300 1 2))
+    ∷ isOver (numerator 3) 72 3 (exact (lossy 1300 1 3))
+    ∷ eqb (numerator 1) 15_267_266_300
+    ∷ eqb (numerator 2) 179_299_554_057_781_300
+    ∷ eqb (numerator 3) 2_105_703_107_131_840_534_046_300
     -- 1097 bytes become 536 in two reductions: more than 1.5 bytes below, so that k - 1 is no bound
     ∷ eqb (reductions (exact (lossy 1097 1 2))) 2
     ∷ isBelow 15 (low (lossy 1097 1 2)) (exact (lossy 1097 1 2))
@@ -155,10 +172,21 @@ driftExamples =
     ∷ isOver (5 * 2 ^ 456) 456 19 (exact (deep ++ (cap 5 ∷ [])))
     -- nothing in the quiet calls is a reduction; a clear starts the count again
     ∷ eqb (reductions (exact (deep ++ quiet))) 19
-    ∷ isOver (1300 * usualParts) 24 1 (exact (deep ++ (clearInflight ∷ sends 20 ∷ acks 1300 false 20 20 1 ∷ [])))
+    ∷ isOver (numerator 1) 24 1 (exact (deep ++ (clearInflight ∷ sends 20 ∷ acks 1300 false 20 20 1 ∷ [])))
     ∷ isUnset (exact (deep ++ (refill 0 moment ∷ [])))
     -- 196,960,228,154 bits per second: after 20 reductions, of which the first two don't lower it, more than 1.4 below
     -- the exact value
     ∷ eqb (reductions (bandwidth fast)) 20
     ∷ isBelow 14 (bandwidthLow (run fast fresh)) (bandwidth fast)
     ∷ []
+
+-- what the theorems say of the loss episode's numbers, after k reductions: under k bytes, 1 / (1 - b) bytes, and 3.34
+abbrev pub FollowsAt : (k stored : ℕ) → Type 0
+FollowsAt k stored =
+    Follows 1 1 usualParts (at stored) (over (numerator k) (24 * k) k)
+    × Under 334 (at stored) (over (numerator k) (24 * k) k)
+
+pub record EpisodeFollows : Type 0 where
+  pub first : FollowsAt 1 910
+  pub second : FollowsAt 2 637
+  pub third : FollowsAt 3 445
