@@ -1,20 +1,35 @@
--- The worked calls hold of the definitions: one list of facts, one proof, which antt computes.
+-- The worked calls hold of the definitions: two lists of facts, which antt computes.
 use mathlib.Core.Bool.{true}
 use mathlib.Core.Path.{_≡_, refl}
 use Rattle.numbers.specs.Examples.{all}
 use Rattle.filters.specs.WindowedFilter.{isReplaced, raised, shifted, lingers, renewed, aged, windowedNumber, windowedUpdate}
-use Rattle.state.specs.Bounds.{rowOf}
+use Rattle.filters.specs.RoundTripCounter.{roundsSent}
+use Rattle.state.specs.Answers.{settled}
+use Rattle.state.specs.Bounds.{within, rowOf}
+use Rattle.state.specs.Params.{paramsOk}
+use Rattle.state.specs.Parts.{roundOk, roundSent}
+use Rattle.state.specs.NetworkModel.{modelTests, withRounds, withRound, withMoment, modelNew, startNumber, startModel}
+use Rattle.state.specs.Cycle.{cycleNew, stayFrom, freshNumber, freshCycle}
+use Rattle.changes.specs.Changes.{sentNumber, sentNext}
+use lib.Ieee as Ieee
 use lib.Ieee.{toBits, ofBits}
 use Rattle.words.specs.Words.{numberAt, lowBytes, wordsAt, allBytes}
 use Rattle.layout.specs.NetworkModel.{modelOf, modelWords}
 use Rattle.layout.specs.Cycle.{cycleOf, cycleWords}
-use Rattle.guovssalu.specs.Examples.{exportExamples}
+use Rattle.layout.specs.Params.{paramsOf}
+use Rattle.dispatch.specs.OneCall.{answerWords}
+use Rattle.dispatch.specs.Turn.{startTurn, sendTurn, turnOf}
+use Rattle.guovssalu.specs.Examples.{exportExamples, startExamples}
 use Rattle.guovssalu.specs.FilterRun.{afterPair, refuses, samples, samplesOf, runRow, runOut}
 use Rattle.layout.specs.StateWords.{sameWords, isState}
-use Rattle.guovssalu.specs.ModelRun.{encodesNone, answersTo, leftBy, answersFrom, wordsLeft, modelRow, answersOut, stateOut}
+use Rattle.guovssalu.specs.ModelRun.{encodesNone, turnAt, answersTo, leftBy, answersFrom, wordsLeft, modelRow, answersOut, stateOut}
 use Rattle.guovssalu.specs.Reply.{orShort, answered}
 use Rattle.guovssalu.specs.Slope.{slopeRow, slopeWords, slopeOut}
 
 pub export-examples : all exportExamples ≡ true
 unfolding all exportExamples isReplaced raised shifted lingers renewed aged windowedNumber windowedUpdate numberAt lowBytes allBytes afterPair refuses samples samplesOf runRow runOut rowOf orShort answered slopeRow slopeWords slopeOut modelRow encodesNone isState sameWords wordsAt modelOf modelWords cycleOf cycleWords leftBy wordsLeft answersTo answersFrom stateOut answersOut toBits ofBits
 export-examples = refl
+
+pub start-examples : all startExamples ≡ true
+unfolding all startExamples Ieee.ofBits Ieee.toBits Ieee.le roundsSent settled within rowOf paramsOk roundOk roundSent modelTests withRounds withRound withMoment modelNew startNumber startModel cycleNew stayFrom freshNumber freshCycle sentNumber sentNext numberAt lowBytes wordsAt allBytes modelOf modelWords cycleOf cycleWords paramsOf answerWords startTurn sendTurn turnOf sameWords isState encodesNone turnAt answersTo leftBy answersFrom wordsLeft modelRow answersOut stateOut orShort answered
+start-examples = refl

@@ -1,11 +1,12 @@
 -- Worked calls: what the definitions say of a few inputs. The slope's are document 01's example 11; the filter run's
--- first two pairs are those of example 9.
-use Prim.Native.Nat.{ℕ}
+-- first two pairs are those of example 9. The run of the model has two lists: runs on a state of zeros, and a run that
+-- begins with a start (`startExamples`). Longer ones, with an event: crates/theorems/specs/Examples.antt.
+use Prim.Native.Nat.{ℕ, _-_, _*_, _^_}
 use mathlib.Core.Bool.{Bool}
 use mathlib.Core.List.{List, [], _∷_, _++_}
 use lib.Dec.{eqb}
 use lib.ListN.{take, replicate}
-use Rattle.words.specs.Words.{allBytes}
+use Rattle.words.specs.Words.{word, allBytes}
 use Rattle.dispatch.specs.Examples.{same, zeros, with}
 use Rattle.guovssalu.specs.FilterRun.{runRow, runOut}
 use Rattle.guovssalu.specs.ModelRun.{modelRow, stateOut, answersOut}
@@ -89,4 +90,49 @@ exportExamples =
     ∷ same (answersOut (zeros 400) (call 12) (room 143)) (room 143)
     ∷ same (answersOut (states 12 2) (call 12) (room 144)) (room 144)
     ∷ same (stateOut (states 12 2) (call 12) (room 144)) (states 12 2)
+    ∷ []
+
+-- ---- a run that begins with a start (docs/LAYOUT.md has the words)
+-- words 38 to 48 of a call: beta 0.3, the other floats 1, three rounds, and the option set
+abbrev pub params : List ℕ
+params =
+    0x3e99_999a ∷ 0x3f80_0000 ∷ 0x3f80_0000 ∷ 0x3f80_0000 ∷ 0x3f80_0000 ∷ 0x3f80_0000 ∷ 3 ∷ 0 ∷ 0 ∷ 0 ∷ 1 ∷ []
+
+-- call 0, a start at moment t with a round trip
+abbrev pub starts : (t rtt : ℕ) → List ℕ
+starts t rtt = (0 ∷ t ∷ rtt ∷ []) ++ zeros 35 ++ params
+
+-- call 1, a send of packet n at moment t
+abbrev pub sends : (t n : ℕ) → List ℕ
+sends t n = (1 ∷ t ∷ 0 ∷ n ∷ 0 ∷ []) ++ zeros 44
+
+-- word i of bytes
+abbrev pub wordIn : List ℕ → ℕ → ℕ
+wordIn bytes i = word bytes (8 * i)
+
+-- on a state of zeros: a start at moment 5 with a round trip of 100, a send at 9, and a send at 8, which is earlier
+abbrev pub begins : List ℕ
+begins = allBytes (starts 5 100 ++ sends 9 7 ++ sends 8 6)
+
+abbrev pub begun : List ℕ
+begun = stateOut (zeros 400) begins (room 432)
+
+abbrev pub told : List ℕ
+told = answersOut (zeros 400) begins (room 432)
+
+unfoldable pub startExamples : List Bool
+startExamples =
+    -- the run is done: three answers of 18 words
+    eqb (modelRow (zeros 400) begins 432) 0
+    -- word 0 of each: the start and the first send are done, and the second send is refused with 3
+    ∷ eqb (wordIn told 0) 0
+    ∷ eqb (wordIn told 18) 0
+    ∷ eqb (wordIn told 36) 3
+    -- of the state left, words 1, 6, 7, 17 and 33: the packet last sent, the round trip and its moment, inflight_lo,
+    -- which is unset, and the last accepted moment
+    ∷ eqb (wordIn begun 1) 7
+    ∷ eqb (wordIn begun 6) 100
+    ∷ eqb (wordIn begun 7) 5
+    ∷ eqb (wordIn begun 17) (2 ^ 64 - 1)
+    ∷ eqb (wordIn begun 33) 9
     ∷ []

@@ -1,5 +1,5 @@
--- What parts of the code are stated with. These definitions follow the code: no exported contract and no theorem cites
--- them, and a reader need not believe them.
+-- What private functions of the filter run and of the slope answer on the way. These definitions follow the code: no
+-- exported contract and no theorem cites them, so that a reader need not believe them.
 use Prim.Native.Nat.{ℕ, zero, suc, _+_}
 use mathlib.Core.Bool.{Bool, false, cond, _||_}
 use mathlib.Core.List.{List}
@@ -7,15 +7,13 @@ use lib.Dec.{ltb}
 use lib.Seq.{sets}
 use Rattle.state.specs.declared.cycle.MaybeBytes.{MaybeBytes}
 use Rattle.state.specs.declared.cycle.MaybeBytes.the-variants.{NoBytes, Bytes}
-use Rattle.words.specs.Words.{allBytes}
-use Rattle.words.specs.Word.{word}
-use Rattle.words.specs.Words as Words
+use Rattle.words.specs.Words.{word, allBytes}
 
 -- ---- the filter run: whether one of the n times from an index on is earlier than the one before it, the first earlier
 -- than `last`
 unfoldable pub timesFall : (last : ℕ) → List ℕ → ℕ → ℕ → Bool
 timesFall last src at zero = false
-timesFall last src at (suc n) = ltb (Words.word src at) last || timesFall (Words.word src at) src (at + 16) n
+timesFall last src at (suc n) = ltb (word src at) last || timesFall (word src at) src (at + 16) n
 
 -- the bytes with words written at an index, or, where nothing is to be written, as they were
 unfoldable pub setsWhere : Bool → List ℕ → ℕ → List ℕ → List ℕ

@@ -1,4 +1,7 @@
--- The exported run of the model: calls, carried out in order on a state in lent bytes (docs/LAYOUT.md).
+-- The exported run of the model: calls, carried out in order on a state in lent bytes (docs/LAYOUT.md). `modelRow` is
+-- what it replies, `answersOut` and `stateOut` are the bytes that it leaves; one call is `turnOf` in
+-- crates/dispatch/specs/Turn.antt. A run in bytes that begins with a start is worked out in Examples.antt
+-- (`startExamples`), three that go on from each other, with events, in crates/theorems/specs/Examples.antt.
 use Prim.Native.Nat.{ℕ, zero, suc, _+_, _*_, _/_, _%_}
 use mathlib.Core.Bool.{Bool, false, not, _&&_, _||_}
 use mathlib.Core.List.{List, [], _++_}

@@ -1,5 +1,5 @@
--- document 01, "Marked examples": those about the conversions. The list goes on in the crate above, where all of it
--- has one proof.
+-- document 01, "Marked examples": those about the conversions. All twelve, in one list with one proof, are in
+-- crates/laws/specs/Examples.antt.
 use Prim.Native.Nat.{ℕ, _*_, _-_, _^_}
 use mathlib.Core.Bool.{Bool, true, false, _&&_}
 use mathlib.Core.List.{List, [], _∷_}

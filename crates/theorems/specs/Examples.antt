@@ -1,5 +1,6 @@
 -- Runs worked out in bytes, at beta 0.3, from 400 bytes of zeros, in which every call but a start is refused: what the
--- statements of Theorems.antt speak of is there. A run here is one that the definitions make.
+-- statements of Theorems.antt speak of is there. A run here is one that the definitions make. Their starts, sends and
+-- parameters are those of crates/guovssalu/specs/Examples.antt.
 use Prim.Native.Nat.{ℕ, _-_, _*_, _^_}
 use mathlib.Core.Bool.{Bool, false, _&&_}
 use mathlib.Core.List.{List, [], _∷_, _++_}
@@ -8,22 +9,12 @@ use lib.ListN.{length, replicate, take}
 use Rattle.words.specs.Words.{allBytes}
 use Rattle.dispatch.specs.Examples.{same, zeros}
 use Rattle.guovssalu.specs.ModelRun.{modelRow, stateOut, answersOut}
+use Rattle.guovssalu.specs.Examples.{params, starts, sends}
 use Rattle.drift.specs.Exact.{Exact, unset, over, inflightTurn}
 use Rattle.drift.specs.Drift.{usualParts}
 use Rattle.theorems.specs.Runs.{Run, exactAfter}
 
--- words 38 to 48: beta 0.3, the other floats 1, three rounds, and the option set
-abbrev params : List ℕ
-params =
-    0x3e99_999a ∷ 0x3f80_0000 ∷ 0x3f80_0000 ∷ 0x3f80_0000 ∷ 0x3f80_0000 ∷ 0x3f80_0000 ∷ 3 ∷ 0 ∷ 0 ∷ 0 ∷ 1 ∷ []
-
--- a start at moment 0 with round trip 0; a send of packet n at moment t; a call without arguments
-abbrev start : List ℕ
-start = zeros 38 ++ params
-
-abbrev sends : (t n : ℕ) → List ℕ
-sends t n = (1 ∷ t ∷ 0 ∷ n ∷ 0 ∷ []) ++ zeros 44
-
+-- a call without arguments
 abbrev asks : ℕ → List ℕ
 asks number = number ∷ zeros 48
 
@@ -51,7 +42,7 @@ after n lo =
     ++ ((2 ^ 64 - 1) ∷ 0x3f80_0000 ∷ 0x3f80_0000 ∷ []) ++ zeros 5 ++ (1 ∷ []) ++ zeros 4 ++ (n ∷ n ∷ []) ++ zeros 17
 
 abbrev first : Run
-first = ran (zeros 400) (allBytes (start ++ sends 0 1 ++ acks 1)) 3
+first = ran (zeros 400) (allBytes (starts 0 0 ++ sends 0 1 ++ acks 1)) 3
 
 -- a question; a number that is no call's; a send at a moment that is out of bounds; a send and an event; the question
 abbrev second : Run

@@ -135,7 +135,7 @@ pub record OneOutcome : Type 0 where
       (r .rounds ≡ q .rounds) × (r .window ≡ q .window) × (r .output ≡ q .output) →
       (r .reply ≡ q .reply) × (r .written ≡ q .written)
 
--- the seven conversions: numbers in, a number out, floats as their bits (crates/exports/specs/Conversions.antt)
+-- the seven conversions: numbers in, a number out, floats as their bits (crates/guovssalu/specs/Conversions.antt)
 pub record Conversions : Type 0 where
   pub u64-to-f32 : Gives conversions.guovssalu_u64_to_f32.Reads.Learnt (λ κ a. f32Bits (a .0))
   pub u64-to-f64 : Gives conversions.guovssalu_u64_to_f64.Reads.Learnt (λ κ a. f64Bits (a .0))

@@ -120,7 +120,7 @@ unfoldable pub exactWalk : (Call → State → X.Turn) → (parts : ℕ) → Lis
 exactWalk turn parts [] s x = x
 exactWalk turn parts (c ∷ steps) s x = exactWalk turn parts steps (afterStep c s) (exactStep turn parts c s x)
 
--- ---- a call's turn (crates/turns/specs/Turn.antt) leaves what its step leaves, and replies its number
+-- ---- a call's turn (crates/dispatch/specs/Turn.antt) leaves what its step leaves, and replies its number
 abbrev pub turnIn : List ℕ → State → Turn
 turnIn w s = turnOf w (s .model) (s .cycle)
 

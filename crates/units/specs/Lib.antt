@@ -1,4 +1,5 @@
--- What the functions of each file of src/ must answer.
+-- What the functions of time.rt, bandwidth.rt and reply.rt must answer. The contracts of saturating.rt need no
+-- definition.
 pub mod Bandwidth
 pub mod Reply
 pub mod Time
