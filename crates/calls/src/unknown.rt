@@ -3,12 +3,17 @@ ghost use mathlib.Core.Path.{_≡_};
 ghost use Rattle.units.specs.Reply.{number};
 ghost use Rattle.calls.specs.Unknown.{unknownNumber};
 use state::NetworkModel;
-use state::bounds::refusal;
+use state::refusals::Rows;
+use state::refusals::refusal;
 use units::Reply;
 
 // The reply to it.
 pub(crate) fn unknown(model: NetworkModel) -> Reply
     ensures { λ r. ⌜ number r ≡ unknownNumber model ⌝ }
 {
-    refusal(!model.ok(), true, false, false, false)
+    refusal(Rows {
+        stored: !model.ok(),
+        argument: true,
+        ..Rows::NONE
+    })
 }

@@ -1,6 +1,6 @@
 -- The calls on the model: network_model.rs, with document 01's refusals. For each call, the number of its reply and the model it leaves, or what it answers.
 use Prim.Native.Nat.{ℕ, _+_}
-use mathlib.Core.Bool.{true, false, not, _&&_}
+use mathlib.Core.Bool.{true, not, _&&_}
 use lib.Dec.{leb}
 use lib.Ieee.{Float}
 use Rattle.units.specs.declared.time.Duration.{Duration}
@@ -9,13 +9,22 @@ use Rattle.filters.specs.MinRttFilter.{minForce}
 use Rattle.filters.specs.RoundTripCounter.{roundsSent}
 use Rattle.units.specs.Time.{plus, isBefore}
 use Rattle.state.specs.declared.network_model.NetworkModel.{NetworkModel}
-use Rattle.state.specs.Bounds.{rowOf, bytesOk, lengthOk, momentOk}
+use Rattle.state.specs.declared.refusals.Rows.{Rows}
+use Rattle.state.specs.Bounds.{bytesOk, lengthOk, momentOk}
 use Rattle.state.specs.NetworkModel.{modelOk, withRounds, withLeast, withRound, withGains, withGrowth, withMoment, givenNumber}
 use Rattle.state.specs.Parts.{roundSent}
+use Rattle.state.specs.Refusals.{noRows, stored, argument, earlier, lowest}
 
 -- ---- on_packet_sent
+abbrev pub sentRows : NetworkModel → Moment → (inflight bytes : ℕ) → Rows
+sentRows m now inflight bytes =
+    stored (not (modelOk m))
+    (argument (not (momentOk now && bytesOk inflight && bytesOk bytes))
+    (earlier (isBefore now (m .moment))
+    noRows))
+
 unfoldable pub sentNumber : NetworkModel → Moment → ℕ → ℕ → ℕ
-sentNumber m now inflight bytes = rowOf (not (modelOk m)) (not (momentOk now && bytesOk inflight && bytesOk bytes)) (isBefore now (m .moment)) false false
+sentNumber m now inflight bytes = lowest (sentRows m now inflight bytes)
 
 unfoldable pub sentNext : NetworkModel → Moment → ℕ → ℕ → ℕ → NetworkModel
 sentNext m now inflight packet bytes =

@@ -14,8 +14,9 @@ use state::bounds::bytes_or_unset_ok;
 use state::bounds::gain_ok;
 use state::bounds::length_ok;
 use state::bounds::moment_ok;
-use state::bounds::refusal;
 use state::network_model::Changed;
+use state::refusals::Rows;
+use state::refusals::refusal;
 use units::Duration;
 use units::Moment;
 use units::Reply;
@@ -76,7 +77,12 @@ fn sent_reply(model: NetworkModel, fine: bool, now: Moment, inflight: u64, bytes
 {
     let moment = model.moment;
     let given = moment_ok(now) & bytes_ok(inflight) & bytes_ok(bytes);
-    refusal(!fine, !given, now.is_before(moment), false, false)
+    refusal(Rows {
+        stored: !fine,
+        argument: !given,
+        earlier: now.is_before(moment),
+        ..Rows::NONE
+    })
 }
 
 // The round begins anew before its end, uncounted.

@@ -6,7 +6,8 @@ use Rattle.numbers.specs.Examples.{all}
 use Rattle.filters.specs.MaxBandwidthFilter.{maxGet, maxUpdate, maxAdvance}
 use Rattle.filters.specs.RoundTripCounter.{endsRound, roundsFull, roundsEnded, roundsAcked, roundsRestart}
 use Rattle.state.specs.Answers.{settled}
-use Rattle.state.specs.Bounds.{within, rowOf}
+use Rattle.state.specs.Bounds.{within}
+use Rattle.state.specs.Refusals.{rowOf}
 use Rattle.state.specs.Params.{paramsOk}
 use Rattle.state.specs.Parts.{roundOk}
 use Rattle.state.specs.NetworkModel.{modelTests}

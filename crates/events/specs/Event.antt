@@ -23,8 +23,8 @@ use Rattle.state.specs.declared.parts.Lower.{Lower}
 use Rattle.state.specs.declared.parts.MaybeBandwidth.{MaybeBandwidth}
 use Rattle.state.specs.declared.parts.MaybeBandwidth.the-variants.{Unset, Set}
 use Rattle.state.specs.declared.parts.Round.{Round}
-use Rattle.state.specs.Bounds.{rowOf}
-use Rattle.state.specs.NetworkModel.{modelOk, withRound}
+use Rattle.state.specs.declared.refusals.Rows.{Rows}
+use Rattle.state.specs.NetworkModel.{modelOk, withRound, givenRows}
 use Rattle.state.specs.Params.{paramsOk}
 use Rattle.state.specs.declared.congestion_event.MaybeLength.{MaybeLength}
 use Rattle.state.specs.declared.congestion_event.MaybeLength.the-variants.{Missing, Length}
@@ -33,6 +33,7 @@ use Rattle.state.specs.declared.congestion_event.Sample.{Sample}
 use Rattle.state.specs.declared.congestion_event.SendState.{SendState}
 use Rattle.state.specs.CongestionEvent.{recordOk, sampleOk}
 use Rattle.state.specs.Parts.{roundNew}
+use Rattle.state.specs.Refusals.{noRows, stored, argument, earlier, lower, full, isMost, lowest}
 
 -- "bytes acked and lost"
 abbrev pub bytesAcked : NetworkModel → Sample → ℕ
@@ -181,15 +182,23 @@ abbrev pub isLower : NetworkModel → Sample → Bool
 isLower m s = ltb (s .totals .acked) (m .totals .acked) || ltb (s .totals .lost) (m .totals .lost)
 
 unfoldable pub isFull : NetworkModel → Sample → List ℕ → Bool
-isFull m s acked = roundsFull (m .rounds) acked || (ltb 0 (bytesLost m s) && eqb (m .round .losses) (2 ^ 64 - 1))
+isFull m s acked = roundsFull (m .rounds) acked || (ltb 0 (bytesLost m s) && isMost (m .round .losses))
+
+abbrev pub eventRows : NetworkModel → Params → Record → Sample → (acked : List ℕ) → Rows
+eventRows m p e s acked =
+    stored (not (modelOk m && paramsOk p))
+    (argument (not (recordOk e && sampleOk s))
+    (earlier (isBefore (e .time) (m .moment))
+    (lower (isLower m s)
+    (full (isFull m s acked)
+    noRows))))
 
 unfoldable pub eventNumber : NetworkModel → Params → Record → Sample → List ℕ → ℕ
-eventNumber m p e s acked = rowOf (not (modelOk m && paramsOk p)) (not (recordOk e && sampleOk s)) (isBefore (e .time) (m .moment)) (isLower m s) (isFull m s acked)
-
--- a call with a record, and one with the parameters too
-unfoldable pub recordNumber : NetworkModel → Record → ℕ
-recordNumber m e = rowOf (not (modelOk m)) (not (recordOk e)) false false false
+eventNumber m p e s acked = lowest (eventRows m p e s acked)
 
 -- ---- on_congestion_event_finish: "The finish call clears the round's sums if the round ended"
+unfoldable pub recordNumber : NetworkModel → Record → ℕ
+recordNumber m e = lowest (givenRows m (recordOk e))
+
 unfoldable pub finishNext : NetworkModel → Record → NetworkModel
 finishNext m e = cond (e .ended) (withRound m roundNew) m

@@ -16,7 +16,6 @@ use numbers::smaller;
 use state::NetworkModel;
 use state::Params;
 use state::bounds::UNSET;
-use state::bounds::refusal;
 use state::congestion_event::MaybeLength;
 use state::congestion_event::Record;
 use state::congestion_event::Sample;
@@ -27,6 +26,8 @@ use state::parts::Lower;
 use state::parts::MaybeBandwidth;
 use state::parts::Rates;
 use state::parts::Round;
+use state::refusals::Rows;
+use state::refusals::refusal;
 use units::Bandwidth;
 use units::Moment;
 use units::Reply;
@@ -394,13 +395,13 @@ fn event_reply(
 {
     let moment = model.moment;
     let time = event.time;
-    refusal(
-        !(fine & params.ok()),
-        !(event.ok() & sample.ok()),
-        time.is_before(moment),
-        is_lower(model, sample),
-        is_full(model, sample, acked),
-    )
+    refusal(Rows {
+        stored: !(fine & params.ok()),
+        argument: !(event.ok() & sample.ok()),
+        earlier: time.is_before(moment),
+        lower: is_lower(model, sample),
+        full: is_full(model, sample, acked),
+    })
 }
 
 // An event: packets acked, the record as far as it is known, and what the sampler says.
@@ -453,7 +454,11 @@ fn record_reply(model: NetworkModel, fine: bool, event: Record) -> Reply
     requires { ⌜ fine ≡ modelOk model ⌝ }
     ensures { λ r. ⌜ number r ≡ recordNumber model event ⌝ }
 {
-    refusal(!fine, !event.ok(), false, false, false)
+    refusal(Rows {
+        stored: !fine,
+        argument: !event.ok(),
+        ..Rows::NONE
+    })
 }
 
 // The event is over: the round's sums begin anew if it ended the round.

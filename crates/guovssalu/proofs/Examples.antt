@@ -5,13 +5,14 @@ use Rattle.numbers.specs.Examples.{all}
 use Rattle.filters.specs.WindowedFilter.{isReplaced, raised, shifted, lingers, renewed, aged, windowedNumber, windowedUpdate}
 use Rattle.filters.specs.RoundTripCounter.{roundsSent}
 use Rattle.state.specs.Answers.{settled}
-use Rattle.state.specs.Bounds.{within, rowOf}
+use Rattle.state.specs.Bounds.{within}
 use Rattle.state.specs.Params.{paramsOk}
 use Rattle.state.specs.Parts.{roundOk, roundSent}
 use Rattle.state.specs.NetworkModel.{modelTests, withRounds, withRound, withMoment, modelNew, startNumber, startModel}
 use Rattle.state.specs.Cycle.{cycleNew, stayFrom, freshNumber, freshCycle}
 use Rattle.changes.specs.Changes.{sentNumber, sentNext}
 use lib.Ieee as Ieee
+use Rattle.state.specs.Refusals.{rowOf}
 use lib.Ieee.{toBits, ofBits}
 use Rattle.words.specs.Words.{numberAt, lowBytes, wordsAt, allBytes}
 use Rattle.layout.specs.NetworkModel.{modelOf, modelWords}

@@ -9,7 +9,7 @@ use Rattle.filters.specs.declared.windowed_filter.Estimate.{Estimate}
 use Rattle.filters.specs.declared.windowed_filter.Estimate.the-variants.{Nothing, Value}
 use Rattle.filters.specs.declared.windowed_filter.WindowedFilter.{WindowedFilter}
 use Rattle.filters.specs.WindowedFilter.{windowedNew, windowedNumber, windowedUpdate, bestOf, secondOf, thirdOf}
-use Rattle.state.specs.Bounds.{rowOf}
+use Rattle.state.specs.Refusals.{rowOf}
 use Rattle.words.specs.Words.{word}
 use Rattle.guovssalu.specs.Reply.{orShort, answered}
 

@@ -8,7 +8,7 @@ use mathlib.Core.List.{List, [], _++_}
 use lib.Dec.{ltb, eqb}
 use lib.ListN.{length}
 use Rattle.state.specs.declared.network_model.NetworkModel.{NetworkModel}
-use Rattle.state.specs.Bounds.{rowOf}
+use Rattle.state.specs.Refusals.{rowOf}
 use Rattle.state.specs.declared.cycle.Cycle.{Cycle}
 use Rattle.words.specs.Words.{wordsAt}
 use Rattle.layout.specs.NetworkModel.{modelOf}

@@ -5,7 +5,8 @@ use mathlib.Core.Bool.{not, false}
 use mathlib.Core.List.{List, [], _∷_}
 use lib.ListN.{length}
 use lib.Dec.{ltb}
-use Rattle.state.specs.Bounds.{bytesOk, rowOf}
+use Rattle.state.specs.Bounds.{bytesOk}
+use Rattle.state.specs.Refusals.{rowOf}
 use Rattle.state.specs.Cycle.{roundsOk}
 use Rattle.phases.specs.Slope.{nextRounds, upBytes}
 use Rattle.guovssalu.specs.Reply.{orShort, answered}

@@ -12,7 +12,8 @@ use crate::reply::or_short;
 use filters::WindowedFilter;
 use filters::windowed_filter::Estimate;
 use filters::windowed_filter::Updated;
-use state::bounds::refusal;
+use state::refusals::Rows;
+use state::refusals::refusal;
 use units::Reply;
 use words::get_word;
 use words::put_words;
@@ -36,7 +37,11 @@ fn run_reply(window: u64, src: &[u8], room: usize) -> Reply
     ensures { λ r. ⌜ number r ≡ runRow window (now (src .entry)) room ⌝ }
 {
     let uneven = src.len() % 16 != 0;
-    let reply = refusal(false, uneven, is_refused(window, src), false, false);
+    let reply = refusal(Rows {
+        argument: uneven,
+        earlier: is_refused(window, src),
+        ..Rows::NONE
+    });
     or_short(reply, room < 24 * (src.len() / 16))
 }
 

@@ -17,7 +17,8 @@ use layout::network_model::model_of;
 use layout::state_words::state_words;
 use state::Cycle;
 use state::NetworkModel;
-use state::bounds::refusal;
+use state::refusals::Rows;
+use state::refusals::refusal;
 use units::Reply;
 use words::get_word;
 use words::get_words;
@@ -46,7 +47,11 @@ fn model_reply(state: &[u8], calls: &[u8], room: usize) -> Reply
     ensures { λ r. ⌜ number r ≡ modelRow (now (state .entry)) (now (calls .entry)) room ⌝ }
 {
     let uneven = (state.len() != 400) | (calls.len() % 392 != 0);
-    let reply = refusal(encodes_none(state), uneven, false, false, false);
+    let reply = refusal(Rows {
+        stored: encodes_none(state),
+        argument: uneven,
+        ..Rows::NONE
+    });
     or_short(reply, room < 144 * (calls.len() / 392))
 }
 

@@ -9,9 +9,10 @@ use crate::reply::or_short;
 use phases::slope::slope_raised;
 use state::Cycle;
 use state::bounds::bytes_ok;
-use state::bounds::refusal;
 use state::cycle::MaybeBytes;
 use state::cycle::Slope;
+use state::refusals::Rows;
+use state::refusals::refusal;
 use units::Reply;
 use words::put_words;
 
@@ -37,7 +38,11 @@ pub extern "C" fn guovssalu_raise_inflight_high_slope(
 fn slope_reply(rounds: u64, window: u64, room: usize) -> Reply
     ensures { λ r. ⌜ number r ≡ slopeRow rounds window room ⌝ }
 {
-    let reply = refusal(!rounds_ok(rounds), !bytes_ok(window), false, false, false);
+    let reply = refusal(Rows {
+        stored: !rounds_ok(rounds),
+        argument: !bytes_ok(window),
+        ..Rows::NONE
+    });
     or_short(reply, room < 16)
 }
 

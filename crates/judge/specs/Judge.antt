@@ -16,17 +16,18 @@ use Rattle.state.specs.declared.network_model.NetworkModel.{NetworkModel}
 use Rattle.state.specs.declared.params.Params.{Params}
 use Rattle.state.specs.declared.parts.Growth.{Growth}
 use Rattle.state.specs.declared.parts.Round.{Round}
-use Rattle.state.specs.Bounds.{rowOf, gainOk}
-use Rattle.state.specs.NetworkModel.{modelOk, one, bdpOf, withLeast, withGrowth}
-use Rattle.state.specs.Params.{paramsOk}
+use Rattle.state.specs.declared.refusals.Rows.{Rows}
+use Rattle.state.specs.Bounds.{gainOk}
+use Rattle.state.specs.NetworkModel.{one, bdpOf, withLeast, withGrowth, judgedRows}
 use Rattle.state.specs.declared.congestion_event.MaybeLength.{MaybeLength}
 use Rattle.state.specs.declared.congestion_event.MaybeLength.the-variants.{Missing, Length}
 use Rattle.state.specs.declared.congestion_event.Record.{Record}
 use Rattle.state.specs.declared.congestion_event.SendState.{SendState}
 use Rattle.state.specs.CongestionEvent.{recordOk}
+use Rattle.state.specs.Refusals.{isMost, lowest}
 
 unfoldable pub judgedNumber : NetworkModel → Params → Record → Bool → ℕ
-judgedNumber m p e full = rowOf (not (modelOk m && paramsOk p)) (not (recordOk e)) false false full
+judgedNumber m p e rises = lowest (judgedRows m p (recordOk e) rises)
 
 -- ---- maybe_expire_min_rtt: "Expiry needs a sample and a moment not earlier than the stored one plus the period; the sample is then forced in"
 abbrev pub isGiven : MaybeLength → Bool
@@ -68,8 +69,13 @@ growthFlat g t p = record { reached = g .reached || (t .valid && leb (p .rounds)
 unfoldable pub growthAfter : Growth → Bandwidth → SendState → Params → Growth
 growthAfter g most t p = cond (hasGrown g most p) (record { reached = g .reached; baseline = most; flat = 0; queueing = g .queueing; ignore = g .ignore }) (growthFlat g t p)
 
+-- row 5: the bandwidth has not grown, so that the round counts, and the count is full
 unfoldable pub growthFull : NetworkModel → Params → Record → Bool
-growthFull m p e = not (hasGrown (m .growth) (maxGet (m .most)) p) && countsFlat (m .growth) (e .state) && eqb (m .growth .flat) (2 ^ 64 - 1)
+growthFull m p e =
+    not (hasGrown (m .growth) (maxGet (m .most)) p) && countsFlat (m .growth) (e .state) && isMost (m .growth .flat)
+
+abbrev pub growthRows : NetworkModel → Params → Record → Rows
+growthRows m p e = judgedRows m p (recordOk e) (growthFull m p e)
 
 unfoldable pub growthNext : NetworkModel → Params → Record → NetworkModel
 growthNext m p e = withGrowth m (growthAfter (m .growth) (maxGet (m .most)) (e .state) p)
@@ -89,8 +95,12 @@ queueAfter g queueing p =
     (record { reached = g .reached || leb (p .queueing) (g .queueing + 1); baseline = g .baseline; flat = g .flat; queueing = g .queueing + 1; ignore = g .ignore })
     (record { reached = g .reached; baseline = g .baseline; flat = g .flat; queueing = 0; ignore = g .ignore })
 
+-- row 5: the round queues, and the count of such rounds is full
+abbrev pub queueRows : NetworkModel → Params → Float → Rows
+queueRows m p gain = judgedRows m p (gainOk gain) (isQueueing m gain && isMost (m .growth .queueing))
+
 unfoldable pub queueNumber : NetworkModel → Params → Float → ℕ
-queueNumber m p gain = rowOf (not (modelOk m && paramsOk p)) (not (gainOk gain)) false false (isQueueing m gain && eqb (m .growth .queueing) (2 ^ 64 - 1))
+queueNumber m p gain = lowest (queueRows m p gain)
 
 unfoldable pub queueNext : NetworkModel → Params → Float → NetworkModel
 queueNext m p gain = withGrowth m (queueAfter (m .growth) (isQueueing m gain) p)

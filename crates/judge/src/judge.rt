@@ -12,13 +12,14 @@ use state::NetworkModel;
 use state::Params;
 use state::answers::Flag;
 use state::bounds::gain_ok;
-use state::bounds::refusal;
 use state::congestion_event::MaybeLength;
 use state::congestion_event::Record;
 use state::congestion_event::SendState;
 use state::network_model::Changed;
 use state::parts::Growth;
 use state::parts::Round;
+use state::refusals::Rows;
+use state::refusals::refusal;
 use units::Bandwidth;
 use units::Duration;
 use units::Moment;
@@ -35,7 +36,12 @@ pub struct Decided {
 fn judged_reply(model: NetworkModel, params: Params, event: Record, full: bool) -> Reply
     ensures { λ r. ⌜ number r ≡ judgedNumber model params event full ⌝ }
 {
-    refusal(!(model.ok() & params.ok()), !event.ok(), false, false, full)
+    refusal(Rows {
+        stored: !(model.ok() & params.ok()),
+        argument: !event.ok(),
+        full,
+        ..Rows::NONE
+    })
 }
 
 fn is_given(sample: MaybeLength) -> bool
@@ -273,13 +279,12 @@ fn queue_reply(model: NetworkModel, params: Params, gain: f32, queueing: bool) -
     ensures { λ r. ⌜ number r ≡ queueNumber model params gain ⌝ }
 {
     let full = queueing & (model.growth.queueing == FULL);
-    refusal(
-        !(model.ok() & params.ok()),
-        !gain_ok(gain),
-        false,
-        false,
+    refusal(Rows {
+        stored: !(model.ok() & params.ok()),
+        argument: !gain_ok(gain),
         full,
-    )
+        ..Rows::NONE
+    })
 }
 
 // The round is judged for a queue that does not drain.

@@ -10,7 +10,8 @@ use Rattle.filters.specs.Examples.{filterExamples}
 use Rattle.filters.specs.MaxBandwidthFilter.{maxGet, maxAdvance}
 use Rattle.filters.specs.WindowedFilter.{isReplaced, raised, shifted, lingers, renewed, aged, windowedReset, windowedNumber, windowedUpdate}
 use Rattle.state.specs.Answers.{settled}
-use Rattle.state.specs.Bounds.{within, rowOf}
+use Rattle.state.specs.Bounds.{within}
+use Rattle.state.specs.Refusals.{rowOf}
 use Rattle.state.specs.Params.{paramsOk}
 use Rattle.state.specs.Parts.{roundOk}
 use Rattle.state.specs.NetworkModel.{modelTests}

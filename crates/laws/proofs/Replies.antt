@@ -9,7 +9,8 @@ use Rattle.units.specs.Reply.{number}
 use Rattle.filters.specs.RoundTripCounter.{endsRound, roundsFull, roundsNumber, roundsEnded, roundsAcked}
 use Rattle.filters.specs.WindowedFilter.{isAfter, windowedNumber, windowedUpdate}
 use Rattle.state.specs.Answers.{settled}
-use Rattle.state.specs.Bounds.{rowOf}
+use Rattle.state.specs.declared.refusals.Rows.{Rows}
+use Rattle.state.specs.Refusals.{isMost, rowOf, lowest}
 use Rattle.state.specs.NetworkModel.{startNumber, startModel, storedNumber, givenNumber, headroomNumber}
 use Rattle.changes.specs.Changes.{sentNumber, postponeNumber}
 use Rattle.state.proofs.Rows.{None}
@@ -18,7 +19,7 @@ use Rattle.events.specs.Event.{recordNumber}
 use Rattle.judge.specs.Judge.{judgedNumber, growthFull, queueNumber}
 use Rattle.state.specs.Cycle.{freshNumber, freshCycle}
 use Rattle.phases.specs.Phases.{entryNumber, exitNumber, slopeNumber}
-use Rattle.laws.specs.Replies.{rows, Exactly, Answered, isMost, EveryAnswer, EveryChange, EveryEvent, EveryPhase, EveryFilter, EveryReply}
+use Rattle.laws.specs.Replies.{Exactly, Answered, EveryAnswer, EveryChange, EveryEvent, EveryPhase, EveryFilter, EveryReply}
 use Rattle.laws.proofs.Contracts.{settled-both}
 
 -- ---- refusal n is given exactly when row n holds and no lower row does
@@ -51,98 +52,104 @@ row-only (suc (suc (suc (suc (suc zero))))) s a e l f h = simp (h .0, h .1, h .2
 row-only (suc (suc (suc (suc (suc (suc n)))))) s a e l f h = absurd h
 
 -- ---- the table's number
-module _ (s a e l f : Bool) where
-  given : (n k : ℕ) → n ≡ rowOf s a e l f → n ≡ k → Row k s a e l f
-  given n k p h = subst (λ (i : ℕ). Row i s a e l f) (sym p ∙ h) (row-holds s a e l f)
+module _ (r : Rows) where
+  abbrev Of : ℕ → Type 0
+  Of k = Row k (r .stored) (r .argument) (r .earlier) (r .lower) (r .full)
 
-  pub exactly : (n : ℕ) → n ≡ rowOf s a e l f → Exactly n (rows s a e l f)
+  given : (n k : ℕ) → n ≡ lowest r → n ≡ k → Of k
+  given n k p h = subst Of (sym p ∙ h) (row-holds (r .stored) (r .argument) (r .earlier) (r .lower) (r .full))
+
+  only : (n k : ℕ) → n ≡ lowest r → Of k → n ≡ k
+  only n k p h = p ∙ row-only k (r .stored) (r .argument) (r .earlier) (r .lower) (r .full) h
+
+  pub exactly : (n : ℕ) → n ≡ lowest r → Exactly n r
   exactly n p =
       record {
-        is0 = (λ h. let z = given n 0 p h in (z .stored-fine, z .argument-fine, z .in-order, z .no-lower, z .not-full), λ h. p ∙ row-only 0 s a e l f (record { stored-fine = h .0; argument-fine = h .1; in-order = h .2; no-lower = h .3; not-full = h .4 }));
-        is1 = (given n 1 p, λ h. p ∙ row-only 1 s a e l f h);
-        is2 = (given n 2 p, λ h. p ∙ row-only 2 s a e l f h);
-        is3 = (given n 3 p, λ h. p ∙ row-only 3 s a e l f h);
-        is4 = (given n 4 p, λ h. p ∙ row-only 4 s a e l f h);
-        is5 = (given n 5 p, λ h. p ∙ row-only 5 s a e l f h);
+        is0 = (λ h. let z = given n 0 p h in (z .stored-fine, z .argument-fine, z .in-order, z .no-lower, z .not-full), λ h. only n 0 p (record { stored-fine = h .0; argument-fine = h .1; in-order = h .2; no-lower = h .3; not-full = h .4 }));
+        is1 = (given n 1 p, only n 1 p);
+        is2 = (given n 2 p, only n 2 p);
+        is3 = (given n 3 p, only n 3 p);
+        is4 = (given n 4 p, only n 4 p);
+        is5 = (given n 5 p, only n 5 p);
       }
 
 -- ---- a contract says a reply's number by its rows, and what is left by that number
-pub answered : {A : Type 0} {r : Reply} {got next old : A} (s a e l f : Bool) → number r ≡ rowOf s a e l f → got ≡ settled (rowOf s a e l f) next old → Answered r (rows s a e l f) got next old
+pub answered : {A : Type 0} {reply : Reply} {got next old : A} (r : Rows) → number reply ≡ lowest r → got ≡ settled (lowest r) next old → Answered reply r got next old
 unfolding settled
-answered {A} {r} {got} {next} {old} s a e l f p q =
+answered {A} {reply} {got} {next} {old} r p q =
     record {
-      row = exactly s a e l f (number r) p;
-      done = λ h. q ∙ simp (eq-eqb (rowOf s a e l f) 0 (sym p ∙ h));
-      refused = λ h. q ∙ simp (ne-eqb (rowOf s a e l f) 0 (λ z. h (p ∙ z)));
+      row = exactly r (number reply) p;
+      done = λ h. q ∙ simp (eq-eqb (lowest r) 0 (sym p ∙ h));
+      refused = λ h. q ∙ simp (ne-eqb (lowest r) 0 (λ z. h (p ∙ z)));
     }
 
-pub answered-both : {X Y : Type 0} {r : Reply} {a x x′ : X} {b y y′ : Y} (s g e l f : Bool) → number r ≡ rowOf s g e l f → a ≡ settled (rowOf s g e l f) x x′ → b ≡ settled (rowOf s g e l f) y y′ → Answered {A = X × Y} r (rows s g e l f) (a, b) (x, y) (x′, y′)
-answered-both {X} {Y} {r} {a} {x} {x′} {b} {y} {y′} s g e l f p q t = answered s g e l f p (settled-both (rowOf s g e l f) a x x′ b y y′ q t)
+pub answered-both : {X Y : Type 0} {reply : Reply} {a x x′ : X} {b y y′ : Y} (r : Rows) → number reply ≡ lowest r → a ≡ settled (lowest r) x x′ → b ≡ settled (lowest r) y y′ → Answered {A = X × Y} reply r (a, b) (x, y) (x′, y′)
+answered-both {X} {Y} {reply} {a} {x} {x′} {b} {y} {y′} r p q t = answered r p (settled-both (lowest r) a x x′ b y y′ q t)
 
 -- ---- the calls
 answers : EveryAnswer
 unfolding storedNumber givenNumber headroomNumber judgedNumber
 answers = record {
-  bdp = λ m b gain κ x s p. answered _ _ _ _ _ (p .0) (p .1);
-  bdp1 = λ m b κ x s p. answered _ _ _ _ _ (p .0) (p .1);
-  bdp0 = λ m κ x s p. answered _ _ _ _ _ (p .0) (p .1);
-  inflightHiWithHeadroom = λ m q κ x s p. answered _ _ _ _ _ (p .0) (p .1);
-  isInflightTooHigh = λ m q e limit κ x s p. answered _ _ _ _ _ (p .0) (p .1);
-  bandwidthEstimate = λ m κ x s p. answered _ _ _ _ _ (p .0) (p .1);
-  maxBandwidth = λ m κ x s p. answered _ _ _ _ _ (p .0) (p .1);
-  minRtt = λ m κ x s p. answered _ _ _ _ _ (p .0) (p .1);
-  minRttTimestamp = λ m κ x s p. answered _ _ _ _ _ (p .0) (p .1);
-  fullBandwidthReached = λ m κ x s p. answered _ _ _ _ _ (p .0) (p .1);
-  pacingGain = λ m κ x s p. answered _ _ _ _ _ (p .0) (p .1);
-  cwndGain = λ m κ x s p. answered _ _ _ _ _ (p .0) (p .1);
-  maxBytesDeliveredInRound = λ m κ x s p. answered _ _ _ _ _ (p .0) (p .1);
-  totalBytesAcked = λ m κ x s p. answered _ _ _ _ _ (p .0) (p .1);
-  totalBytesLost = λ m κ x s p. answered _ _ _ _ _ (p .0) (p .1);
-  inflightHi = λ m κ x s p. answered _ _ _ _ _ (p .0) (p .1);
-  inflightLo = λ m κ x s p. answered _ _ _ _ _ (p .0) (p .1);
-  lossEventsInRound = λ m κ x s p. answered _ _ _ _ _ (p .0) (p .1);
-  roundsWithQueueing = λ m κ x s p. answered _ _ _ _ _ (p .0) (p .1);
-  inflightHiDefault = λ m κ x s p. answered _ _ _ _ _ (p .0) (p .1);
-  queueingThresholdExtraBytes = λ m κ x s p. answered _ _ _ _ _ (p .0) (p .1);
+  bdp = λ m b gain κ x s p. answered _ (p .0) (p .1);
+  bdp1 = λ m b κ x s p. answered _ (p .0) (p .1);
+  bdp0 = λ m κ x s p. answered _ (p .0) (p .1);
+  inflightHiWithHeadroom = λ m q κ x s p. answered _ (p .0) (p .1);
+  isInflightTooHigh = λ m q e limit κ x s p. answered _ (p .0) (p .1);
+  bandwidthEstimate = λ m κ x s p. answered _ (p .0) (p .1);
+  maxBandwidth = λ m κ x s p. answered _ (p .0) (p .1);
+  minRtt = λ m κ x s p. answered _ (p .0) (p .1);
+  minRttTimestamp = λ m κ x s p. answered _ (p .0) (p .1);
+  fullBandwidthReached = λ m κ x s p. answered _ (p .0) (p .1);
+  pacingGain = λ m κ x s p. answered _ (p .0) (p .1);
+  cwndGain = λ m κ x s p. answered _ (p .0) (p .1);
+  maxBytesDeliveredInRound = λ m κ x s p. answered _ (p .0) (p .1);
+  totalBytesAcked = λ m κ x s p. answered _ (p .0) (p .1);
+  totalBytesLost = λ m κ x s p. answered _ (p .0) (p .1);
+  inflightHi = λ m κ x s p. answered _ (p .0) (p .1);
+  inflightLo = λ m κ x s p. answered _ (p .0) (p .1);
+  lossEventsInRound = λ m κ x s p. answered _ (p .0) (p .1);
+  roundsWithQueueing = λ m κ x s p. answered _ (p .0) (p .1);
+  inflightHiDefault = λ m κ x s p. answered _ (p .0) (p .1);
+  queueingThresholdExtraBytes = λ m κ x s p. answered _ (p .0) (p .1);
 }
 
 changes : EveryChange
 unfolding startNumber startModel storedNumber givenNumber sentNumber postponeNumber
 changes = record {
-  start = λ q rtt t κ x s p. answered _ _ _ _ _ (p .0) (p .1);
-  sent = λ m t inflight packet bytes κ x s p. answered _ _ _ _ _ (p .0) (p .1);
-  restart = λ m κ x s p. answered _ _ _ _ _ (p .0) (p .1);
-  reached = λ m κ x s p. answered _ _ _ _ _ (p .0) (p .1);
-  pacing = λ m gain κ x s p. answered _ _ _ _ _ (p .0) (p .1);
-  cwnd = λ m gain κ x s p. answered _ _ _ _ _ (p .0) (p .1);
-  high = λ m bytes κ x s p. answered _ _ _ _ _ (p .0) (p .1);
-  cap = λ m bytes κ x s p. answered _ _ _ _ _ (p .0) (p .1);
-  clearInflight = λ m κ x s p. answered _ _ _ _ _ (p .0) (p .1);
-  clearBandwidth = λ m κ x s p. answered _ _ _ _ _ (p .0) (p .1);
-  advance = λ m κ x s p. answered _ _ _ _ _ (p .0) (p .1);
-  postpone = λ m d κ x s p. answered _ _ _ _ _ (p .0) (p .1);
+  start = λ q rtt t κ x s p. answered _ (p .0) (p .1);
+  sent = λ m t inflight packet bytes κ x s p. answered _ (p .0) (p .1);
+  restart = λ m κ x s p. answered _ (p .0) (p .1);
+  reached = λ m κ x s p. answered _ (p .0) (p .1);
+  pacing = λ m gain κ x s p. answered _ (p .0) (p .1);
+  cwnd = λ m gain κ x s p. answered _ (p .0) (p .1);
+  high = λ m bytes κ x s p. answered _ (p .0) (p .1);
+  cap = λ m bytes κ x s p. answered _ (p .0) (p .1);
+  clearInflight = λ m κ x s p. answered _ (p .0) (p .1);
+  clearBandwidth = λ m κ x s p. answered _ (p .0) (p .1);
+  advance = λ m κ x s p. answered _ (p .0) (p .1);
+  postpone = λ m d κ x s p. answered _ (p .0) (p .1);
 }
 
 events : EveryEvent
-unfolding eventNumber isFull roundsFull recordNumber judgedNumber growthFull queueNumber
+unfolding eventNumber recordNumber judgedNumber growthFull queueNumber
 events = record {
-  starts = λ κ a x s p. answered-both _ _ _ _ _ (p .0) (p .1 .0) (p .1 .1);
-  finish = λ m e κ x s p. answered _ _ _ _ _ (p .0) (p .1);
-  expire = λ m q e κ x s p. answered-both _ _ _ _ _ (p .0) (p .1 .0) (p .1 .1);
-  growth = λ m q e κ x s p. answered-both _ _ _ _ _ (p .0) (p .1 .0) (p .1 .1);
-  queue = λ m q gain κ x s p. answered _ _ _ _ _ (p .0) (p .1);
+  starts = λ κ a x s p. answered-both _ (p .0) (p .1 .0) (p .1 .1);
+  finish = λ m e κ x s p. answered _ (p .0) (p .1);
+  expire = λ m q e κ x s p. answered-both _ (p .0) (p .1 .0) (p .1 .1);
+  growth = λ m q e κ x s p. answered-both _ (p .0) (p .1 .0) (p .1 .1);
+  queue = λ m q gain κ x s p. answered _ (p .0) (p .1);
 }
 
 entries : EveryPhase
 unfolding freshNumber freshCycle entryNumber exitNumber slopeNumber
 entries = record {
-  fresh = λ t κ x s p. answered _ _ _ _ _ (p .0) (p .1);
-  down = λ m c q high risky t κ x s p. answered-both _ _ _ _ _ (p .0) (p .1 .0) (p .1 .1);
-  cruise = λ m c t κ x s p. answered-both _ _ _ _ _ (p .0) (p .1 .0) (p .1 .1);
-  refill = λ m c upRounds t κ x s p. answered-both _ _ _ _ _ (p .0) (p .1 .0) (p .1 .1);
-  up = λ m c t window κ x s p. answered-both _ _ _ _ _ (p .0) (p .1 .0) (p .1 .1);
-  exit = λ m c κ x s p. answered-both _ _ _ _ _ (p .0) (p .1 .0) (p .1 .1);
-  slope = λ c window κ x s p. answered _ _ _ _ _ (p .0) (p .1);
+  fresh = λ t κ x s p. answered _ (p .0) (p .1);
+  down = λ m c q high risky t κ x s p. answered-both _ (p .0) (p .1 .0) (p .1 .1);
+  cruise = λ m c t κ x s p. answered-both _ (p .0) (p .1 .0) (p .1 .1);
+  refill = λ m c upRounds t κ x s p. answered-both _ (p .0) (p .1 .0) (p .1 .1);
+  up = λ m c t window κ x s p. answered-both _ (p .0) (p .1 .0) (p .1 .1);
+  exit = λ m c κ x s p. answered-both _ (p .0) (p .1 .0) (p .1 .1);
+  slope = λ c window κ x s p. answered _ (p .0) (p .1);
 }
 
 -- what a refusing test leaves: of the windowed filter; of the count of rounds, and whether one ended
@@ -166,11 +173,11 @@ ended false most = refl
 filters : EveryFilter
 unfolding rowOf windowedNumber windowedUpdate roundsNumber roundsFull roundsEnded roundsAcked
 filters = record {
-  windowedUpdates = λ f sample time κ x s p. answered false false _ false false (p .0) (p .1 ∙ stays (isAfter (f .held) time) _ f);
+  windowedUpdates = λ f sample time κ x s p. answered _ (p .0) (p .1 ∙ stays (isAfter (f .held) time) _ f);
   roundsAck = λ κ a x s p.
       let ends = endsRound (a .0 .end) (now (a .1 .0)) in
       let most = isMost (a .0 .count) in
-      answered-both false false false false _ (p .0) (p .1 .0 ∙ counts ends most _ (a .0)) (p .1 .1 ∙ ended ends most);
+      answered-both _ (p .0) (p .1 .0 ∙ counts ends most _ (a .0)) (p .1 .1 ∙ ended ends most);
 }
 
 pub every-reply : EveryReply

@@ -13,11 +13,9 @@
 -- source, written (first, (second, tt)), of a reply x and of what is left at the exit. `now a` is what a lent slice a
 -- holds at the call.
 use Prim.Native.Nat.{ℕ, _-_, _*_, _^_}
-use mathlib.Core.Bool.{Bool, true, false, not, _&&_, _||_}
-use mathlib.Core.List.{List}
+use mathlib.Core.Bool.{Bool, true, false, _&&_}
 use mathlib.Core.Logic.{_↔_}
 use mathlib.Core.Path.{_≡_}
-use lib.Dec.{ltb, eqb}
 use lib.Ieee.{Float}
 use denote.Ref.{now}
 use Rattle.units.specs.declared.bandwidth.Bandwidth.{Bandwidth}
@@ -29,26 +27,25 @@ use Rattle.filters.specs.declared.windowed_filter.WindowedFilter.{WindowedFilte
 use Rattle.filters.specs.MaxBandwidthFilter.{maxGet}
 use Rattle.units.specs.Reply.{number}
 use Rattle.filters.specs.RoundTripCounter.{endsRound, roundsAcked, roundsEnded}
-use Rattle.units.specs.Time.{isBefore}
 use Rattle.filters.specs.WindowedFilter.{isAfter, windowedUpdate}
 use Rattle.state.specs.declared.network_model.NetworkModel.{NetworkModel}
 use Rattle.state.specs.declared.params.Params.{Params}
 use Rattle.state.specs.Answers.{noBandwidth, noLength, noMoment, noGain}
-use Rattle.state.specs.NetworkModel.{modelOk}
+use Rattle.state.specs.declared.refusals.Rows.{Rows}
+use Rattle.state.specs.Refusals.{noRows, earlier, full, isMost}
 use Rattle.state.specs.Params.{paramsOk}
 use Rattle.state.specs.Bounds.{bytesOk, bytesOrUnsetOk, bandwidthOk, lengthOk, momentOk, gainOk}
-use Rattle.state.specs.NetworkModel.{one, modelNew, restartNext, withHigh, capNext, clearInflightNext, clearBandwidthNext, advanceNext, bdpOf}
-use Rattle.changes.specs.Changes.{sentNext, reachedNext, pacingNext, cwndNext, postponed, postponeNext}
+use Rattle.state.specs.NetworkModel.{startRows, storedRows, givenRows, judgedRows, one, modelNew, restartNext, withHigh, capNext, clearInflightNext, clearBandwidthNext, advanceNext, bdpOf}
+use Rattle.changes.specs.Changes.{sentRows, sentNext, reachedNext, pacingNext, cwndNext, postponed, postponeNext}
 use Rattle.reads.specs.Reads.{estimateOf, headroomOf}
 use Rattle.state.specs.declared.congestion_event.Record.{Record}
 use Rattle.state.specs.declared.congestion_event.Sample.{Sample}
-use Rattle.state.specs.CongestionEvent.{recordOk, sampleOk}
-use Rattle.events.specs.Event.{bytesLost, modelNext, recordNext}
-use Rattle.events.specs.Event.{finishNext}
-use Rattle.judge.specs.Judge.{isExpired, expireNext, isTooHigh, hasGrown, countsFlat, growthNext, isQueueing, queueNext}
+use Rattle.state.specs.CongestionEvent.{recordOk}
+use Rattle.events.specs.Event.{eventRows, modelNext, recordNext, finishNext}
+use Rattle.judge.specs.Judge.{isExpired, expireNext, isTooHigh, hasGrown, growthRows, growthNext, queueRows, queueNext}
 use Rattle.state.specs.declared.cycle.Cycle.{Cycle}
-use Rattle.state.specs.Cycle.{cycleOk, roundsOk, cycleNew}
-use Rattle.phases.specs.Phases.{restartedAt, downCycle, cruiseModel, cruiseCycle, refillModel, refillCycle, upCycle, exitModel, exitCycle, slopeCycle}
+use Rattle.state.specs.Cycle.{roundsOk, freshRows, cycleNew}
+use Rattle.phases.specs.Phases.{entryRows, exitRows, slopeRows, restartedAt, downCycle, cruiseModel, cruiseCycle, refillModel, refillCycle, upCycle, exitModel, exitCycle, slopeCycle}
 use Rattle.filters.proofs.round_trip_counter.RoundTripCounter as rounds
 use Rattle.filters.proofs.windowed_filter.WindowedFilter as windowed
 use Rattle.state.proofs.network_model.NetworkModel as model
@@ -59,23 +56,8 @@ use Rattle.judge.proofs.judge as judge
 use Rattle.state.proofs.cycle.Cycle as cycle
 use Rattle.phases.proofs.phases as phases
 
--- ---- the table: for one call, which of its rows hold. A row that is `false` is none of this call's
-pub record Rows : Type 0 where
-  -- 1: "a stored number or a parameter is outside the bounds below"
-  pub stored : Bool
-  -- 2: "an argument is outside its bounds, .. or a postponed moment would exceed 2^62"
-  pub argument : Bool
-  -- 3: "the moment given is earlier than the last accepted one; for the windowed filter, earlier than any of its three
-  -- stored times"
-  pub earlier : Bool
-  -- 4: "the total acked or the total lost is lower than the one stored"
-  pub lower : Bool
-  -- 5: "the call's rule adds 1 to a counter that is 2^64 - 1"
-  pub full : Bool
-
-abbrev pub rows : (stored argument earlier lower full : Bool) → Rows
-rows a b c d e = record { stored = a; argument = b; earlier = c; lower = d; full = e }
-
+-- ---- the table: `Rows` has a test for each row. Those of a call are its `..Rows`, beside the call's definition;
+-- crates/state/specs/Refusals.antt says each row in document 01's words
 abbrev pub Holds : Bool → Type 0
 Holds test = test ≡ true
 
@@ -108,60 +90,6 @@ Every {K} {A} {E} {R} learnt args P = (κ : K) (x : R) (s : E κ) → learnt κ 
 abbrev pub EveryLent : {K : Type 0} {A E : K → Type 0} {R : Type 0} →
     ((κ : K) → A κ → R → E κ → Type 0) → ((κ : K) → A κ → R → Type 0) → Type 0
 EveryLent {K} {A} {E} {R} learnt P = (κ : K) (a : A κ) (x : R) (s : E κ) → learnt κ a x s → P κ a x
-
--- "a counter that is 2^64 - 1"
-abbrev pub isMost : ℕ → Bool
-isMost n = eqb n (2 ^ 64 - 1)
-
--- ---- the rows of the calls. One that is given nothing: the stored numbers alone are tested
-abbrev pub storedRows : NetworkModel → Rows
-storedRows m = rows (not (modelOk m)) false false false false
-
--- one that is given something, of which `fine` says whether it is within its bounds
-abbrev pub givenRows : NetworkModel → (fine : Bool) → Rows
-givenRows m fine = rows (not (modelOk m)) (not fine) false false false
-
--- one that takes the parameters; `full` says whether its rule adds 1 to a counter that is full
-abbrev pub judgedRows : NetworkModel → Params → (fine full : Bool) → Rows
-judgedRows m p fine full = rows (not (modelOk m && paramsOk p)) (not fine) false false full
-
-abbrev pub startRows : Params → Duration → Moment → Rows
-startRows p rtt t = rows (not (paramsOk p)) (not (lengthOk rtt && momentOk t)) false false false
-
-abbrev pub sentRows : NetworkModel → Moment → (inflight bytes : ℕ) → Rows
-sentRows m t inflight bytes =
-    rows (not (modelOk m)) (not (momentOk t && bytesOk inflight && bytesOk bytes)) (isBefore t (m .moment)) false false
-
--- an event. Row 4: a total below the stored one. Row 5: a round ends and the count of rounds is full, or bytes were
--- lost and the count of loss events is
-abbrev pub eventRows : NetworkModel → Params → Record → Sample → (acked : List ℕ) → Rows
-eventRows m p e y acked =
-    rows (not (modelOk m && paramsOk p)) (not (recordOk e && sampleOk y)) (isBefore (e .time) (m .moment))
-    (ltb (y .totals .acked) (m .totals .acked) || ltb (y .totals .lost) (m .totals .lost))
-    ((endsRound (m .rounds .end) acked && isMost (m .rounds .count))
-    || (ltb 0 (bytesLost m y) && isMost (m .round .losses)))
-
--- row 5: the bandwidth has not grown, so that the round counts, and the count is full
-abbrev pub growthRows : NetworkModel → Params → Record → Rows
-growthRows m p e =
-    judgedRows m p (recordOk e)
-    (not (hasGrown (m .growth) (maxGet (m .most)) p) && countsFlat (m .growth) (e .state) && isMost (m .growth .flat))
-
--- row 5: the round queues, and the count of such rounds is full
-abbrev pub queueRows : NetworkModel → Params → Float → Rows
-queueRows m p gain = judgedRows m p (gainOk gain) (isQueueing m gain && isMost (m .growth .queueing))
-
--- an entry into a phase, where `params` and `argument` say whether the parameters and the other arguments are within
--- their bounds: "sends, events and phase entries share" the last accepted moment
-abbrev pub entryRows : NetworkModel → Cycle → (params argument : Bool) → Moment → Rows
-entryRows m c params argument t =
-    rows (not (modelOk m && cycleOk c && params)) (not (momentOk t && argument)) (isBefore t (m .moment)) false false
-
-abbrev pub exitRows : NetworkModel → Cycle → Rows
-exitRows m c = rows (not (modelOk m && cycleOk c)) false false false false
-
-abbrev pub slopeRows : Cycle → (window : ℕ) → Rows
-slopeRows c window = rows (not (cycleOk c)) (not (bytesOk window)) false false false
 
 -- ---- calls that only answer
 pub record EveryAnswer : Type 0 where
@@ -307,7 +235,7 @@ pub record EveryPhase : Type 0 where
   -- a refused fresh cycle is one at moment 0
   pub fresh : (t : Moment) →
       Every cycle.new.Reads.Learnt (λ κ. (t, tt))
-      (λ x. Answered (x .reply) (rows false (not (momentOk t)) false false false) (x .cycle)
+      (λ x. Answered (x .reply) (freshRows t) (x .cycle)
       (cycleNew t) (cycleNew noMoment))
   pub down : (m : NetworkModel) (c : Cycle) (p : Params) (high risky : Bool) (t : Moment) →
       Every phases.enter_probe_down.Reads.Learnt (λ κ. (m, (c, (p, (high, (risky, (t, tt)))))))
@@ -338,7 +266,7 @@ pub record EveryPhase : Type 0 where
 pub record EveryFilter : Type 0 where
   pub windowedUpdates : (f : WindowedFilter) (sample time : ℕ) →
       Every windowed.update.Reads.Learnt (λ κ. (f, (sample, (time, tt))))
-      (λ x. Answered (x .reply) (rows false false (isAfter (f .held) time) false false) (x .filter)
+      (λ x. Answered (x .reply) (earlier (isAfter (f .held) time) noRows) (x .filter)
       (windowedUpdate f sample time) f)
   pub roundsAck :
       EveryLent rounds.on_packets_acked.Reads.Learnt
@@ -346,7 +274,7 @@ pub record EveryFilter : Type 0 where
       let c = a .0 in
       let acked = now (a .1 .0) in
       Answered {A = RoundTripCounter × Bool} (x .reply)
-      (rows false false false false (endsRound (c .end) acked && isMost (c .count)))
+      (full (endsRound (c .end) acked && isMost (c .count)) noRows)
       (x .counter, x .ended) (roundsAcked c acked, roundsEnded c acked) (c, false))
 
 -- ---- every public call

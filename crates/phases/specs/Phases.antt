@@ -6,7 +6,9 @@ use Rattle.units.specs.declared.time.Moment.{Moment}
 use Rattle.units.specs.Time.{isBefore}
 use Rattle.state.specs.declared.network_model.NetworkModel.{NetworkModel}
 use Rattle.state.specs.declared.params.Params.{Params}
-use Rattle.state.specs.Bounds.{rowOf, bytesOk, momentOk}
+use Rattle.state.specs.declared.refusals.Rows.{Rows}
+use Rattle.state.specs.Bounds.{bytesOk, momentOk}
+use Rattle.state.specs.Refusals.{noRows, stored, argument, earlier, lowest}
 use Rattle.state.specs.NetworkModel.{modelOk}
 use Rattle.state.specs.Params.{paramsOk}
 use Rattle.state.specs.NetworkModel.{withMoment, restartNext, capNext, clearInflightNext, clearBandwidthNext, advanceNext}
@@ -19,17 +21,26 @@ use Rattle.state.specs.Cycle.{cycleOk, roundsOk, stayFrom}
 use Rattle.phases.specs.Slope.{slopeRaised}
 
 -- ---- the refusal of an entry: the table's rows 1 to 3, with whether the parameters and the other arguments are within their bounds
-unfoldable pub entryNumber : NetworkModel → Cycle → (params argument : Bool) → Moment → ℕ
-entryNumber m c params argument now =
-    rowOf (not (modelOk m && cycleOk c && params)) (not (momentOk now && argument)) (isBefore now (m .moment)) false false
+abbrev pub entryRows : NetworkModel → Cycle → (params given : Bool) → Moment → Rows
+entryRows m c params given now =
+    stored (not (modelOk m && cycleOk c && params))
+    (argument (not (momentOk now && given))
+    (earlier (isBefore now (m .moment))
+    noRows))
+
+unfoldable pub entryNumber : NetworkModel → Cycle → (params given : Bool) → Moment → ℕ
+entryNumber m c params given now = lowest (entryRows m c params given now)
 
 -- an entry that ends with restart_round_early; "sends, events and phase entries share" the last accepted moment
 unfoldable pub restartedAt : NetworkModel → Moment → NetworkModel
 restartedAt m now = withMoment (restartNext m) now
 
 -- ---- exit_probe_down: "if !self.cycle.has_advanced_max_bw", the filter advances and the flag is set; the phase isn't looked at
+abbrev pub exitRows : NetworkModel → Cycle → Rows
+exitRows m c = stored (not (modelOk m && cycleOk c)) noRows
+
 unfoldable pub exitNumber : NetworkModel → Cycle → ℕ
-exitNumber m c = rowOf (not (modelOk m && cycleOk c)) false false false false
+exitNumber m c = lowest (exitRows m c)
 
 unfoldable pub exitModel : NetworkModel → Cycle → NetworkModel
 exitModel m c = cond (c .advanced) m (advanceNext m)
@@ -52,8 +63,11 @@ unfoldable pub leftCycle : Cycle → Cycle
 leftCycle c = cond (isDown (c .stay .phase)) (exitCycle c) c
 
 -- ---- raise_inflight_high_slope, which reads the cycle alone
+abbrev pub slopeRows : Cycle → (window : ℕ) → Rows
+slopeRows c window = stored (not (cycleOk c)) (argument (not (bytesOk window)) noRows)
+
 unfoldable pub slopeNumber : Cycle → ℕ → ℕ
-slopeNumber c window = rowOf (not (cycleOk c)) (not (bytesOk window)) false false false
+slopeNumber c window = lowest (slopeRows c window)
 
 unfoldable pub slopeCycle : Cycle → ℕ → Cycle
 slopeCycle c window = record { stay = c .stay; wait = c .wait; slope = slopeRaised (c .slope) window; advanced = c .advanced; probing = c .probing; last = c .last }

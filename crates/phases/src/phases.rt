@@ -13,7 +13,6 @@ use state::NetworkModel;
 use state::Params;
 use state::bounds::bytes_ok;
 use state::bounds::moment_ok;
-use state::bounds::refusal;
 use state::cycle::Last;
 use state::cycle::MaybeBytes;
 use state::cycle::MaybeLength;
@@ -21,6 +20,8 @@ use state::cycle::Slope;
 use state::cycle::Stay;
 use state::cycle::Turned;
 use state::cycle::Wait;
+use state::refusals::Rows;
+use state::refusals::refusal;
 use units::Duration;
 use units::Moment;
 use units::Reply;
@@ -47,7 +48,12 @@ fn entry_reply(
     let moment = model.moment;
     let stored = model.ok() & cycle.ok() & params;
     let given = moment_ok(now) & argument;
-    refusal(!stored, !given, now.is_before(moment), false, false)
+    refusal(Rows {
+        stored: !stored,
+        argument: !given,
+        earlier: now.is_before(moment),
+        ..Rows::NONE
+    })
 }
 
 // What a call leaves: the next model and cycle where it is done, these where it is refused.
@@ -125,7 +131,10 @@ fn exit_reply(model: NetworkModel, cycle: Cycle) -> Reply
     ensures { λ r. ⌜ number r ≡ exitNumber model cycle ⌝ }
 {
     let stored = model.ok() & cycle.ok();
-    refusal(!stored, false, false, false, false)
+    refusal(Rows {
+        stored: !stored,
+        ..Rows::NONE
+    })
 }
 
 fn exit_model(model: NetworkModel, cycle: Cycle) -> NetworkModel
@@ -208,7 +217,11 @@ pub fn raise_inflight_high_slope(cycle: Cycle, window: u64) -> Turned
 fn slope_reply(cycle: Cycle, window: u64) -> Reply
     ensures { λ r. ⌜ number r ≡ slopeNumber cycle window ⌝ }
 {
-    refusal(!cycle.ok(), !bytes_ok(window), false, false, false)
+    refusal(Rows {
+        stored: !cycle.ok(),
+        argument: !bytes_ok(window),
+        ..Rows::NONE
+    })
 }
 
 fn slope_cycle(cycle: Cycle, window: u64) -> Cycle

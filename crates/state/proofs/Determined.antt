@@ -34,6 +34,7 @@ use Rattle.state.proofs.network_model.NetworkModel as network-model-net
 use Rattle.state.proofs.params.Params as params-params
 use Rattle.state.proofs.parts.Round as parts-round
 use Rattle.state.proofs.parts.Totals as parts-totals
+use Rattle.state.proofs.refusals as refusals
 
 pub changed :
     {a a′ : Reply} {b b′ : NetworkModel} → a ≡ a′ → b ≡ b′ →
@@ -117,8 +118,8 @@ one-bounds-maybe-ok κ a x y s t p q = p ∙ sym q
 pub one-bounds-gain-ok : OneReply bounds.gain_ok.Reads.Learnt
 one-bounds-gain-ok κ a x y s t p q = p ∙ sym q
 
-pub one-bounds-refusal : OneReply bounds.refusal.Reads.Learnt
-one-bounds-refusal κ a x y s t p q = number-injective _ _ (p ∙ sym q)
+pub one-refusals-refusal : OneReply refusals.refusal.Reads.Learnt
+one-refusals-refusal κ a x y s t p q = number-injective _ _ (p ∙ sym q)
 
 pub one-congestion-event-record-ok : OneReply congestion-event-record.ok.Reads.Learnt
 one-congestion-event-record-ok κ a x y s t p q = p ∙ sym q

@@ -6,7 +6,8 @@ use mathlib.Core.Path.{_≡_, refl, sym, subst, _∙_}
 use native.Mathlib.Omega.{arith}
 use lib.ListN.{getD, set}
 use borrow.Author.Tests.{not-false}
-use Rattle.state.specs.Bounds.{rowOf, all, allFrom}
+use Rattle.state.specs.Bounds.{all, allFrom}
+use Rattle.state.specs.Refusals.{rowOf}
 
 -- no row holds
 pub record None (stored argument earlier lower full : Bool) : Type 0 where

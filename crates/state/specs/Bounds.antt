@@ -1,6 +1,6 @@
--- document 01, "Replies and bounds": the bounds as tests, and the table of refusals.
+-- document 01, "Replies and bounds": the bounds as tests.
 use Prim.Native.Nat.{ℕ, _-_, _^_}
-use mathlib.Core.Bool.{Bool, true, cond, _&&_, _||_}
+use mathlib.Core.Bool.{Bool, true, _&&_, _||_}
 use mathlib.Core.List.{List, [], _∷_}
 use lib.Dec.{leb, eqb}
 use lib.Ieee.{Float, binary32, ofBits, le}
@@ -54,7 +54,3 @@ allFrom so-far (test ∷ tests) = allFrom (so-far && test) tests
 
 abbrev pub all : List Bool → Bool
 all tests = allFrom true tests
-
--- the table: "If several refusals apply, the lowest number is given." One test for each row
-unfoldable pub rowOf : (stored argument earlier lower full : Bool) → ℕ
-rowOf stored argument earlier lower full = cond stored 1 (cond argument 2 (cond earlier 3 (cond lower 4 (cond full 5 0))))

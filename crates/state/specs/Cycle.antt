@@ -5,7 +5,8 @@ use mathlib.Core.List.{List, [], _∷_}
 use lib.Dec.{leb}
 use Rattle.units.specs.declared.time.Moment.{Moment}
 use Rattle.state.specs.Answers.{settled, noMoment}
-use Rattle.state.specs.Bounds.{all, bytesOk, momentOk, rowOf}
+use Rattle.state.specs.Bounds.{all, bytesOk, momentOk}
+use Rattle.state.specs.Refusals.{noRows, argument, lowest}
 use Rattle.state.specs.declared.cycle.Cycle.{Cycle}
 use Rattle.state.specs.declared.cycle.CyclePhase.{CyclePhase}
 use Rattle.state.specs.declared.cycle.CyclePhase.the-variants.{NotStarted}
@@ -14,6 +15,7 @@ use Rattle.state.specs.declared.cycle.MaybeBytes.the-variants.{NoBytes, 
 use Rattle.state.specs.declared.cycle.MaybeLength.{MaybeLength}
 use Rattle.state.specs.declared.cycle.MaybeLength.the-variants.{NoLength, Length}
 use Rattle.state.specs.declared.cycle.Stay.{Stay}
+use Rattle.state.specs.declared.refusals.Rows.{Rows}
 
 -- ---- the bounds: document 01, "Replies and bounds"
 -- "lengths of time 2^36 ns (the stored probe wait 500,000 ns more)"
@@ -61,8 +63,11 @@ cycleNew now =
     }
 
 -- its moment is an argument; a refused one is fresh at moment 0, as a refused start's model is
+abbrev pub freshRows : Moment → Rows
+freshRows now = argument (not (momentOk now)) noRows
+
 unfoldable pub freshNumber : Moment → ℕ
-freshNumber now = rowOf false (not (momentOk now)) false false false
+freshNumber now = lowest (freshRows now)
 
 unfoldable pub freshCycle : Moment → Cycle
 freshCycle now = settled (freshNumber now) (cycleNew now) (cycleNew noMoment)

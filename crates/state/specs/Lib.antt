@@ -6,3 +6,4 @@ pub mod Cycle
 pub mod NetworkModel
 pub mod Params
 pub mod Parts
+pub mod Refusals

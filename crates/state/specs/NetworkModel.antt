@@ -1,6 +1,6 @@
 -- document 01, "Replies and bounds": the bounds as tests, and the table of refusals.
 use Prim.Native.Nat.{ℕ, _-_, _^_}
-use mathlib.Core.Bool.{Bool, false, _&&_, not}
+use mathlib.Core.Bool.{Bool, true, false, _&&_, not}
 use mathlib.Core.List.{List, [], _∷_}
 use lib.Ieee.{Float, binary32, ofBits}
 use Rattle.units.specs.declared.bandwidth.Bandwidth.{Bandwidth}
@@ -15,7 +15,9 @@ use Rattle.state.specs.declared.parts.Growth.{Growth}
 use Rattle.state.specs.declared.parts.Lower.{Lower}
 use Rattle.state.specs.declared.parts.Round.{Round}
 use Rattle.state.specs.declared.parts.MaybeBandwidth.the-variants.{Unset}
-use Rattle.state.specs.Bounds.{bytesOrUnsetOk, momentOk, lengthOk, all, rowOf}
+use Rattle.state.specs.declared.refusals.Rows.{Rows}
+use Rattle.state.specs.Bounds.{bytesOrUnsetOk, momentOk, lengthOk, all}
+use Rattle.state.specs.Refusals.{noRows, stored, argument, full, lowest}
 use Rattle.state.specs.Params.{paramsOk}
 use Rattle.state.specs.Parts.{mostOk, leastOk, roundOk, latestOk, lowerOk, gainsOk, growthOk, ratesOk, totalsOk, roundNew, lowerCapped}
 use Rattle.filters.specs.declared.round_trip_counter.RoundTripCounter.{RoundTripCounter}
@@ -91,8 +93,11 @@ modelNew cwnd pacing ignore rtt now =
       moment = now;
     }
 
+abbrev pub startRows : Params → Duration → Moment → Rows
+startRows p rtt now = stored (not (paramsOk p)) (argument (not (lengthOk rtt && momentOk now)) noRows)
+
 unfoldable pub startNumber : Params → Duration → Moment → ℕ
-startNumber p rtt now = rowOf (not (paramsOk p)) (not (lengthOk rtt && momentOk now)) false false false
+startNumber p rtt now = lowest (startRows p rtt now)
 
 -- "it returns a fresh one at moment 0 with round trip 0, both gains 1 and the app-limited option off"
 abbrev pub one : Float
@@ -101,16 +106,27 @@ one = ofBits binary32 0x3f80_0000
 unfoldable pub startModel : Params → Duration → Moment → NetworkModel
 startModel p rtt now = settled (startNumber p rtt now) (modelNew (p .cwnd) (p .pacing) (p .ignore) rtt now) (modelNew one one false noLength noMoment)
 
--- ---- a call with no argument: only the stored numbers are tested
+-- ---- a call that is given nothing: the stored numbers alone are tested
+abbrev pub storedRows : NetworkModel → Rows
+storedRows m = stored (not (modelOk m)) noRows
+
 unfoldable pub storedNumber : NetworkModel → ℕ
-storedNumber m = rowOf (not (modelOk m)) false false false false
+storedNumber m = lowest (storedRows m)
 
-unfoldable pub headroomNumber : NetworkModel → Params → ℕ
-headroomNumber m p = rowOf (not (modelOk m && paramsOk p)) false false false false
+-- one that is given something, of which `fine` says whether it is within its bounds
+abbrev pub givenRows : NetworkModel → (fine : Bool) → Rows
+givenRows m fine = stored (not (modelOk m)) (argument (not fine) noRows)
 
--- a call with one argument, of which `fine` says whether it is within its bounds
 unfoldable pub givenNumber : NetworkModel → Bool → ℕ
-givenNumber m fine = rowOf (not (modelOk m)) (not fine) false false false
+givenNumber m fine = lowest (givenRows m fine)
+
+-- one that takes the parameters; `rises` says whether its rule adds 1 to a counter that is 2^64 - 1
+abbrev pub judgedRows : NetworkModel → Params → (fine rises : Bool) → Rows
+judgedRows m p fine rises = stored (not (modelOk m && paramsOk p)) (argument (not fine) (full rises noRows))
+
+-- inflight_hi_with_headroom, which takes the parameters alone
+unfoldable pub headroomNumber : NetworkModel → Params → ℕ
+headroomNumber m p = lowest (judgedRows m p true false)
 
 -- ---- restart_round_early: the round's sums begin anew, the round's end is the last sent number, and rounds_with_queueing is 0
 unfoldable pub growthRestarted : Growth → Growth

@@ -1,12 +1,10 @@
-// Document 01's bounds, and the one place that decides a refusal.
+// Document 01's bounds.
 ghost use mathlib.Core.Path.{_≡_};
-ghost use Rattle.units.specs.Reply.{number};
-ghost use Rattle.state.specs.Bounds.{bytesOk, bytesOrUnsetOk, totalOk, momentOk, lengthOk, bandwidthOk, maybeOk, fractionOk, gainOk, rowOf};
+ghost use Rattle.state.specs.Bounds.{bytesOk, bytesOrUnsetOk, totalOk, momentOk, lengthOk, bandwidthOk, maybeOk, fractionOk, gainOk};
 use crate::parts::MaybeBandwidth;
 use units::Bandwidth;
 use units::Duration;
 use units::Moment;
-use units::Reply;
 
 pub const MOST_BYTES: u64 = 0x100_0000_0000;
 
@@ -80,26 +78,4 @@ pub fn gain_ok(x: f32) -> bool
     ensures { λ r. ⌜ r ≡ gainOk x ⌝ }
 {
     (0.0009765625 <= x) & (x <= 8.0)
-}
-
-// The reply with the lowest number among the rows that hold, or `Done`.
-pub fn refusal(stored: bool, argument: bool, earlier: bool, lower: bool, full: bool) -> Reply
-    ensures { λ r. ⌜ number r ≡ rowOf stored argument earlier lower full ⌝ }
-{
-    if stored {
-        return Reply::OutOfBounds;
-    }
-    if argument {
-        return Reply::BadArgument;
-    }
-    if earlier {
-        return Reply::EarlierMoment;
-    }
-    if lower {
-        return Reply::LowerTotal;
-    }
-    if full {
-        return Reply::FullCounter;
-    }
-    Reply::Done
 }

@@ -5,7 +5,8 @@ ghost use Rattle.state.specs.Cycle.{waitOk, upBytesOk, cycleOk, stayFrom
 use crate::bounds::MOST_LENGTH;
 use crate::bounds::bytes_ok;
 use crate::bounds::moment_ok;
-use crate::bounds::refusal;
+use crate::refusals::Rows;
+use crate::refusals::refusal;
 use units::Duration;
 use units::Moment;
 use units::Reply;
@@ -111,7 +112,10 @@ impl Stay {
 fn fresh_reply(now: Moment) -> Reply
     ensures { λ r. ⌜ number r ≡ freshNumber now ⌝ }
 {
-    refusal(false, !moment_ok(now), false, false, false)
+    refusal(Rows {
+        argument: !moment_ok(now),
+        ..Rows::NONE
+    })
 }
 
 impl Cycle {

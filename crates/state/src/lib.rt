@@ -6,6 +6,7 @@ pub mod cycle;
 pub mod network_model;
 pub mod params;
 pub mod parts;
+pub mod refusals;
 
 pub use cycle::Cycle;
 pub use cycle::CyclePhase;

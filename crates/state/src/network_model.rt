@@ -11,7 +11,6 @@ use crate::bounds::bandwidth_ok;
 use crate::bounds::bytes_or_unset_ok;
 use crate::bounds::length_ok;
 use crate::bounds::moment_ok;
-use crate::bounds::refusal;
 use crate::parts::Gains;
 use crate::parts::Growth;
 use crate::parts::Latest;
@@ -20,6 +19,8 @@ use crate::parts::MaybeBandwidth;
 use crate::parts::Rates;
 use crate::parts::Round;
 use crate::parts::Totals;
+use crate::refusals::Rows;
+use crate::refusals::refusal;
 use filters::MaxBandwidthFilter;
 use filters::MinRttFilter;
 use filters::RoundTripCounter;
@@ -73,7 +74,11 @@ fn start_reply(params: Params, rtt: Duration, now: Moment) -> Reply
     ensures { λ r. ⌜ number r ≡ startNumber params rtt now ⌝ }
 {
     let fine = length_ok(rtt) & moment_ok(now);
-    refusal(!params.ok(), !fine, false, false, false)
+    refusal(Rows {
+        stored: !params.ok(),
+        argument: !fine,
+        ..Rows::NONE
+    })
 }
 
 impl NetworkModel {
@@ -161,21 +166,31 @@ impl NetworkModel {
     pub fn stored(self) -> Reply
         ensures { λ r. ⌜ number r ≡ storedNumber self ⌝ }
     {
-        refusal(!self.ok(), false, false, false, false)
+        refusal(Rows {
+            stored: !self.ok(),
+            ..Rows::NONE
+        })
     }
 
     // The reply of a call that is given the parameters alone.
     pub fn stored_with(self, params: Params) -> Reply
         ensures { λ r. ⌜ number r ≡ headroomNumber self params ⌝ }
     {
-        refusal(!(self.ok() & params.ok()), false, false, false, false)
+        refusal(Rows {
+            stored: !(self.ok() & params.ok()),
+            ..Rows::NONE
+        })
     }
 
     // The reply of a call that is given one thing, which is fine or not.
     pub fn given(self, fine: bool) -> Reply
         ensures { λ r. ⌜ number r ≡ givenNumber self fine ⌝ }
     {
-        refusal(!self.ok(), !fine, false, false, false)
+        refusal(Rows {
+            stored: !self.ok(),
+            argument: !fine,
+            ..Rows::NONE
+        })
     }
 
     // The next model where the call is done; this one where it is refused.

@@ -7,7 +7,7 @@ use mathlib.Core.Path.{_≡_, refl, sym, subst, _∙_}
 use lib.Dec.{eqb}
 use lib.ListN.{length}
 use borrow.Author.Tests.{eq-eqb, ne-eqb, eqb-true}
-use Rattle.state.specs.Bounds.{rowOf}
+use Rattle.state.specs.Refusals.{rowOf}
 use Rattle.state.proofs.Rows.{and-left, and-right}
 use Rattle.guovssalu.specs.Reply.{orShort, answered}
 use Rattle.guovssalu.specs.FilterRun.{pairs, runRow, runOut}

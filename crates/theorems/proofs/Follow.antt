@@ -14,7 +14,7 @@ use Rattle.units.specs.declared.time.Moment.{Moment}
 use Rattle.state.specs.declared.network_model.NetworkModel.{NetworkModel}
 use Rattle.state.specs.declared.params.Params.{Params}
 use Rattle.state.specs.Answers.{settled}
-use Rattle.state.specs.Bounds.{rowOf}
+use Rattle.state.specs.Refusals.{rowOf}
 use Rattle.state.specs.NetworkModel.{modelOk}
 use Rattle.state.specs.NetworkModel.{storedNumber}
 use Rattle.state.specs.declared.congestion_event.Record.{Record}

@@ -19,7 +19,8 @@ use Rattle.state.specs.declared.network_model.NetworkModel.{NetworkModel}
 use Rattle.state.specs.declared.params.Params.{Params}
 use Rattle.state.specs.declared.parts.Growth.{Growth}
 use Rattle.state.specs.Answers.{settled, noLength, noMoment}
-use Rattle.state.specs.Bounds.{bytesOrUnsetOk, gainOk, within, rowOf}
+use Rattle.state.specs.Bounds.{bytesOrUnsetOk, gainOk, within}
+use Rattle.state.specs.Refusals.{rowOf}
 use Rattle.state.specs.Parts.{roundOk}
 use Rattle.state.specs.NetworkModel.{modelTests, modelOk}
 use Rattle.state.specs.Parts.{roundNew, roundSent}

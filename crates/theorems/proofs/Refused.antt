@@ -8,7 +8,7 @@ use lib.ListN.{getD}
 use borrow.Author.Tests.{ne-eqb, eqb-true}
 use Rattle.state.specs.declared.network_model.NetworkModel.{NetworkModel}
 use Rattle.state.specs.Answers.{settled}
-use Rattle.state.specs.Bounds.{rowOf}
+use Rattle.state.specs.Refusals.{rowOf}
 use Rattle.state.specs.NetworkModel.{startModel}
 use Rattle.state.specs.declared.cycle.Cycle.{Cycle}
 use Rattle.state.specs.Cycle.{freshNumber, freshCycle}

@@ -1,5 +1,5 @@
 -- The rows of document 01's table for a call of a run, by the number of the call (docs/LAYOUT.md): those of
--- crates/laws/specs/Replies.antt, of what the call's words are read as. Definitions only. `ltb a b` tests whether a
+-- the call's definition, of what its words are read as. Definitions only. `ltb a b` tests whether a
 -- is below b, `&&` is "and" of tests, `not` the opposite; the rest as in Steps.antt.
 use Prim.Native.Nat.{ℕ}
 use mathlib.Core.Bool.{Bool, true, false, cond, _&&_, _||_}
@@ -8,10 +8,14 @@ use lib.Dec.{leb, eqb}
 use Rattle.units.specs.declared.bandwidth.Bandwidth.{Bandwidth}
 use Rattle.state.specs.Params.{paramsOk}
 use Rattle.state.specs.Bounds.{bytesOk, bytesOrUnsetOk, bandwidthOk, lengthOk, momentOk, gainOk}
-use Rattle.changes.specs.Changes.{postponed}
+use Rattle.changes.specs.Changes.{sentRows, postponed}
 use Rattle.state.specs.CongestionEvent.{recordOk}
 use Rattle.state.specs.Cycle.{roundsOk}
-use Rattle.laws.specs.Replies.{Rows, storedRows, givenRows, judgedRows, startRows, sentRows, eventRows, growthRows, queueRows, entryRows, exitRows, slopeRows}
+use Rattle.state.specs.declared.refusals.Rows.{Rows}
+use Rattle.state.specs.NetworkModel.{startRows, storedRows, givenRows, judgedRows}
+use Rattle.events.specs.Event.{eventRows}
+use Rattle.judge.specs.Judge.{growthRows, queueRows}
+use Rattle.phases.specs.Phases.{entryRows, exitRows, slopeRows}
 use Rattle.words.specs.Word.{word, floatOf}
 use Rattle.arguments.specs.Params.{paramsOf}
 use Rattle.arguments.specs.Record.{recordOf}

@@ -1,0 +1,52 @@
+-- document 01, "Replies and bounds": the table of refusals. A call says by name which of its rows hold (`Rows`,
+-- src/refusals.rt), and the lowest of them is its reply's number.
+use Prim.Native.Nat.{ℕ, _-_, _^_}
+use mathlib.Core.Bool.{Bool, false, cond}
+use lib.Dec.{eqb}
+use Rattle.state.specs.declared.refusals.Rows.{Rows}
+
+-- a call has only some of the rows; the others never hold
+abbrev pub noRows : Rows
+noRows = record { stored = false; argument = false; earlier = false; lower = false; full = false }
+
+-- row 1: "a stored number or a parameter is outside the bounds below"
+abbrev pub stored : Bool → Rows → Rows
+stored holds r =
+    record { stored = holds; argument = r .argument; earlier = r .earlier; lower = r .lower; full = r .full }
+
+-- row 2: "an argument is outside its bounds, a byte list has a wrong length, or a postponed moment would exceed 2^62"
+abbrev pub argument : Bool → Rows → Rows
+argument holds r =
+    record { stored = r .stored; argument = holds; earlier = r .earlier; lower = r .lower; full = r .full }
+
+-- row 3: "the moment given is earlier than the last accepted one; for the windowed filter, earlier than any of its
+-- three stored times"
+abbrev pub earlier : Bool → Rows → Rows
+earlier holds r =
+    record { stored = r .stored; argument = r .argument; earlier = holds; lower = r .lower; full = r .full }
+
+-- row 4: "the total acked or the total lost is lower than the one stored"
+abbrev pub lower : Bool → Rows → Rows
+lower holds r =
+    record { stored = r .stored; argument = r .argument; earlier = r .earlier; lower = holds; full = r .full }
+
+-- row 5: "the call's rule adds 1 to a counter that is 2^64 - 1"
+abbrev pub isMost : ℕ → Bool
+isMost n = eqb n (2 ^ 64 - 1)
+
+abbrev pub full : Bool → Rows → Rows
+full holds r =
+    record { stored = r .stored; argument = r .argument; earlier = r .earlier; lower = r .lower; full = holds }
+
+-- "If several refusals apply, the lowest number is given"; 0, done, where none does
+unfoldable pub rowOf : (stored argument earlier lower full : Bool) → ℕ
+rowOf stored argument earlier lower full =
+    cond stored 1
+    (cond argument 2
+    (cond earlier 3
+    (cond lower 4
+    (cond full 5
+    0))))
+
+abbrev pub lowest : Rows → ℕ
+lowest r = rowOf (r .stored) (r .argument) (r .earlier) (r .lower) (r .full)

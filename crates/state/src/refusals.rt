@@ -1,0 +1,52 @@
+// Document 01's table of refusals: which rows of it hold for a call, and the reply that they give.
+ghost use mathlib.Core.Path.{_≡_};
+ghost use Rattle.units.specs.Reply.{number};
+ghost use Rattle.state.specs.Refusals.{lowest};
+use units::Reply;
+
+// For one call, which of the table's rows hold.
+pub struct Rows {
+    // 1: "a stored number or a parameter is outside the bounds below".
+    pub stored: bool,
+    // 2: "an argument is outside its bounds, .. or a postponed moment would exceed 2^62".
+    pub argument: bool,
+    // 3: "the moment given is earlier than the last accepted one".
+    pub earlier: bool,
+    // 4: "the total acked or the total lost is lower than the one stored".
+    pub lower: bool,
+    // 5: "the call's rule adds 1 to a counter that is 2^64 - 1".
+    pub full: bool,
+}
+
+impl Rows {
+    // None of the rows holds.
+    pub const NONE: Rows = Rows {
+        stored: false,
+        argument: false,
+        earlier: false,
+        lower: false,
+        full: false,
+    };
+}
+
+// The reply with the lowest number among the rows that hold, or `Done`.
+pub fn refusal(rows: Rows) -> Reply
+    ensures { λ r. ⌜ number r ≡ lowest rows ⌝ }
+{
+    if rows.stored {
+        return Reply::OutOfBounds;
+    }
+    if rows.argument {
+        return Reply::BadArgument;
+    }
+    if rows.earlier {
+        return Reply::EarlierMoment;
+    }
+    if rows.lower {
+        return Reply::LowerTotal;
+    }
+    if rows.full {
+        return Reply::FullCounter;
+    }
+    Reply::Done
+}
