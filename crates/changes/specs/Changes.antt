@@ -1,4 +1,5 @@
--- The calls on the model: network_model.rs, with document 01's refusals. For each call, the number of its reply and the model it leaves, or what it answers.
+-- The calls that send, set or put off: network_model.rs, with document 01's refusals. For each, the number of its reply
+-- and the model that it leaves; those that cap, clear, restart or advance are in crates/state/specs/NetworkModel.antt.
 use Prim.Native.Nat.{ℕ, _+_}
 use mathlib.Core.Bool.{true, not, _&&_}
 use lib.Dec.{leb}
@@ -28,11 +29,20 @@ sentNumber m now inflight bytes = lowest (sentRows m now inflight bytes)
 
 unfoldable pub sentNext : NetworkModel → Moment → ℕ → ℕ → ℕ → NetworkModel
 sentNext m now inflight packet bytes =
-    withMoment (withRounds (withRound m (roundSent (m .round) inflight (leb (m .high) (inflight + bytes)))) (roundsSent (m .rounds) packet)) now
+    let reaches = leb (m .high) (inflight + bytes) in
+    withMoment (withRounds (withRound m (roundSent (m .round) inflight reaches)) (roundsSent (m .rounds) packet)) now
 
 -- ---- setters, caps and clears
 unfoldable pub reachedNext : NetworkModel → NetworkModel
-reachedNext m = withGrowth m (record { reached = true; baseline = m .growth .baseline; flat = m .growth .flat; queueing = m .growth .queueing; ignore = m .growth .ignore })
+reachedNext m =
+    withGrowth m
+    (record {
+      reached = true;
+      baseline = m .growth .baseline;
+      flat = m .growth .flat;
+      queueing = m .growth .queueing;
+      ignore = m .growth .ignore;
+    })
 
 unfoldable pub pacingNext : NetworkModel → Float → NetworkModel
 pacingNext m g = withGains m (record { cwnd = m .gains .cwnd; pacing = g })

@@ -41,7 +41,9 @@ pub fn on_packet_sent(
     bytes: u64,
 ) -> Changed
     ensures reply { λ r. ⌜ number (r .reply) ≡ sentNumber model now inflight bytes ⌝ }
-    ensures model { λ r. ⌜ r .model ≡ settled (sentNumber model now inflight bytes) (sentNext model now inflight packet bytes) model ⌝ }
+    ensures model { λ r. ⌜ r .model ≡ settled (sentNumber model now inflight bytes)
+        (sentNext model now inflight packet bytes)
+        model ⌝ }
 {
     sent_tested(model, model.ok(), now, inflight, packet, bytes)
 }
@@ -57,7 +59,9 @@ pub fn sent_tested(
 ) -> Changed
     requires { ⌜ fine ≡ modelOk model ⌝ }
     ensures reply { λ r. ⌜ number (r .reply) ≡ sentNumber model now inflight bytes ⌝ }
-    ensures model { λ r. ⌜ r .model ≡ settled (sentNumber model now inflight bytes) (sentNext model now inflight packet bytes) model ⌝ }
+    ensures model { λ r. ⌜ r .model ≡ settled (sentNumber model now inflight bytes)
+        (sentNext model now inflight packet bytes)
+        model ⌝ }
 {
     let reply = sent_reply(model, fine, now, inflight, bytes);
     let round = model.round;
@@ -147,7 +151,9 @@ fn windowed(model: NetworkModel, gain: f32) -> NetworkModel
 
 pub fn set_inflight_hi(model: NetworkModel, bytes: u64) -> Changed
     ensures reply { λ r. ⌜ number (r .reply) ≡ givenNumber model (bytesOrUnsetOk bytes) ⌝ }
-    ensures model { λ r. ⌜ r .model ≡ settled (givenNumber model (bytesOrUnsetOk bytes)) (withHigh model bytes) model ⌝ }
+    ensures model { λ r. ⌜ r .model ≡ settled (givenNumber model (bytesOrUnsetOk bytes))
+        (withHigh model bytes)
+        model ⌝ }
 {
     model.settle(model.given(bytes_or_unset_ok(bytes)), topped(model, bytes))
 }

@@ -1,5 +1,6 @@
--- One event, in order: document 01, "One event, in order"; network_model.rs, on_congestion_event_start and adapt_lower_bounds in BwLoMode::Default. m is the model before the event, e its record as
--- handed in, s what the sampler says to it, and `acked` the packet numbers acked.
+-- One event, in order: document 01, "One event, in order"; network_model.rs, on_congestion_event_start and
+-- adapt_lower_bounds in BwLoMode::Default. m is the model before the event, e its record as handed in, s what the
+-- sampler says to it, and `acked` the packet numbers acked.
 use Prim.Native.Nat.{ℕ, min, max, _+_, _-_, _^_}
 use mathlib.Core.Bool.{Bool, false, cond, not, _&&_, _||_}
 use mathlib.Core.List.{List}
@@ -93,7 +94,11 @@ raisedBandwidth was Unset = was
 raisedBandwidth was (Set b) = largerOf was b
 
 unfoldable pub latestRaised : Latest → Sample → Latest
-latestRaised l s = record { bandwidth = raisedBandwidth (l .bandwidth) (s .bandwidth); inflight = max (l .inflight) (s .inflight) }
+latestRaised l s =
+    record {
+      bandwidth = raisedBandwidth (l .bandwidth) (s .bandwidth);
+      inflight = max (l .inflight) (s .inflight);
+    }
 
 -- "Lower bounds act only at a round's end, when not probing, with bytes lost in the round above 0"
 abbrev pub acts : Bool → Bool → ℕ → Bool
@@ -122,9 +127,13 @@ lowerAfter l reduces most latest window beta = cond reduces (lowerReduced l most
 abbrev pub newestOf : ℕ → ℕ → ℕ
 newestOf was sample = cond (ltb 0 sample) sample was
 
--- "then, at a round's end only, latest bandwidth takes the sample if there is one and latest inflight the sample if above 0"
+-- "then, at a round's end only, latest bandwidth takes the sample if there is one and latest inflight the sample if
+-- above 0"
 unfoldable pub latestAfter : Latest → Bool → Sample → Latest
-latestAfter l ended s = cond ended (record { bandwidth = seedOf (s .bandwidth) (l .bandwidth); inflight = newestOf (l .inflight) (s .inflight) }) l
+latestAfter l ended s =
+    cond ended
+    (record { bandwidth = seedOf (s .bandwidth) (l .bandwidth); inflight = newestOf (l .inflight) (s .inflight) })
+    l
 
 -- ---- the record after the event; `ended` says whether a round ended
 unfoldable pub recordOf : NetworkModel → Record → Sample → Bool → Record
@@ -151,10 +160,14 @@ unfoldable pub mostNext : NetworkModel → Sample → MaxBandwidthFilter
 mostNext m s = mostAfter (m .most) (s .bandwidth) (isChanged m s) (s .limited)
 
 unfoldable pub roundNext : NetworkModel → Record → Sample → Round
-roundNext m after s = roundAfter (m .round) (after .lost) (deliveredBy (after .state) (after .acked) (s .totals .acked)) (after .inflight)
+roundNext m after s =
+    let delivered = deliveredBy (after .state) (after .acked) (s .totals .acked) in
+    roundAfter (m .round) (after .lost) delivered (after .inflight)
 
 unfoldable pub lowerNext : NetworkModel → Params → Record → Sample → MaxBandwidthFilter → ℕ → Lower
-lowerNext m p after s most lost = lowerAfter (m .lower) (acts (after .ended) (after .probing) lost) (maxGet most) (latestRaised (m .latest) s) (after .window) (p .beta)
+lowerNext m p after s most lost =
+    let reduces = acts (after .ended) (after .probing) lost in
+    lowerAfter (m .lower) reduces (maxGet most) (latestRaised (m .latest) s) (after .window) (p .beta)
 
 unfoldable pub modelOf : NetworkModel → Params → Record → Sample → RoundTripCounter → NetworkModel
 modelOf m p after s counter =
@@ -177,10 +190,11 @@ modelOf m p after s counter =
 unfoldable pub modelNext : NetworkModel → Params → Record → Sample → List ℕ → NetworkModel
 modelNext m p e s acked = modelOf m p (recordNext m e s acked) s (roundsAcked (m .rounds) acked)
 
--- ---- the refusals: row 4, "the total acked or the total lost is lower than the one stored"; row 5, the round count or the count of loss events is full and would rise
+-- ---- the refusals. Row 4: "the total acked or the total lost is lower than the one stored"
 abbrev pub isLower : NetworkModel → Sample → Bool
 isLower m s = ltb (s .totals .acked) (m .totals .acked) || ltb (s .totals .lost) (m .totals .lost)
 
+-- row 5: a round ends and the count of rounds is full, or bytes were lost and the count of loss events is
 unfoldable pub isFull : NetworkModel → Sample → List ℕ → Bool
 isFull m s acked = roundsFull (m .rounds) acked || (ltb 0 (bytesLost m s) && isMost (m .round .losses))
 

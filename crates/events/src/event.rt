@@ -278,7 +278,8 @@ fn most_next(model: NetworkModel, sample: Sample) -> MaxBandwidthFilter
 }
 
 fn round_next(model: NetworkModel, after: Record, sample: Sample) -> Round
-    requires { ⌜ (model .round .lost + after .lost < 2 ^ 64) × (ltb 0 (after .lost) ≡ true → eqb (model .round .losses) (2 ^ 64 - 1) ≡ false) ⌝ }
+    requires { ⌜ (model .round .lost + after .lost < 2 ^ 64)
+        × (ltb 0 (after .lost) ≡ true → eqb (model .round .losses) (2 ^ 64 - 1) ≡ false) ⌝ }
     ensures { λ r. ⌜ r ≡ roundNext model after sample ⌝ }
 {
     let round = model.round;
@@ -337,7 +338,8 @@ fn model_of(
     sample: Sample,
     counter: RoundTripCounter,
 ) -> NetworkModel
-    requires { ⌜ (model .round .lost + after .lost < 2 ^ 64) × (ltb 0 (after .lost) ≡ true → eqb (model .round .losses) (2 ^ 64 - 1) ≡ false) ⌝ }
+    requires { ⌜ (model .round .lost + after .lost < 2 ^ 64)
+        × (ltb 0 (after .lost) ≡ true → eqb (model .round .losses) (2 ^ 64 - 1) ≡ false) ⌝ }
     ensures { λ r. ⌜ r ≡ modelOf model params after sample counter ⌝ }
 {
     let most = most_next(model, sample);
@@ -413,8 +415,12 @@ pub fn on_congestion_event_start(
     acked: &[u64],
 ) -> Event
     ensures reply { λ r. ⌜ number (r .reply) ≡ eventNumber model params event sample (now (acked .entry)) ⌝ }
-    ensures model { λ r. ⌜ r .model ≡ settled (eventNumber model params event sample (now (acked .entry))) (modelNext model params event sample (now (acked .entry))) model ⌝ }
-    ensures record { λ r. ⌜ r .record ≡ settled (eventNumber model params event sample (now (acked .entry))) (recordNext model event sample (now (acked .entry))) event ⌝ }
+    ensures model { λ r. ⌜ r .model ≡ settled (eventNumber model params event sample (now (acked .entry)))
+        (modelNext model params event sample (now (acked .entry)))
+        model ⌝ }
+    ensures record { λ r. ⌜ r .record ≡ settled (eventNumber model params event sample (now (acked .entry)))
+        (recordNext model event sample (now (acked .entry)))
+        event ⌝ }
 {
     start_tested(model, model.ok(), params, event, sample, acked)
 }
@@ -430,8 +436,12 @@ pub fn start_tested(
 ) -> Event
     requires { ⌜ fine ≡ modelOk model ⌝ }
     ensures reply { λ r. ⌜ number (r .reply) ≡ eventNumber model params event sample (now (acked .entry)) ⌝ }
-    ensures model { λ r. ⌜ r .model ≡ settled (eventNumber model params event sample (now (acked .entry))) (modelNext model params event sample (now (acked .entry))) model ⌝ }
-    ensures record { λ r. ⌜ r .record ≡ settled (eventNumber model params event sample (now (acked .entry))) (recordNext model event sample (now (acked .entry))) event ⌝ }
+    ensures model { λ r. ⌜ r .model ≡ settled (eventNumber model params event sample (now (acked .entry)))
+        (modelNext model params event sample (now (acked .entry)))
+        model ⌝ }
+    ensures record { λ r. ⌜ r .record ≡ settled (eventNumber model params event sample (now (acked .entry)))
+        (recordNext model event sample (now (acked .entry)))
+        event ⌝ }
 {
     let reply = event_reply(model, fine, params, event, sample, acked);
     let mut next = model;

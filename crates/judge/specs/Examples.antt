@@ -16,7 +16,20 @@ use Rattle.judge.specs.Judge.{hasGrown, growthFull, judgedNumber}
 
 -- parameters with the threshold 1.25
 abbrev usual : Params
-usual = record { beta = ofBits binary32 0x3e99_999a; loss = one; headroom = one; growth = ofBits binary32 0x3fa0_0000; cwnd = one; pacing = one; rounds = 3; queueing = 0; period = record { 0 = 0 }; base = record { 0 = 0 }; ignore = true }
+usual =
+    record {
+      beta = ofBits binary32 0x3e99_999a;
+      loss = one;
+      headroom = one;
+      growth = ofBits binary32 0x3fa0_0000;
+      cwnd = one;
+      pacing = one;
+      rounds = 3;
+      queueing = 0;
+      period = record { 0 = 0 };
+      base = record { 0 = 0 };
+      ignore = true;
+    }
 
 abbrev fresh : NetworkModel
 fresh = startModel usual (record { 0 = 0 }) (record { 0 = 0 })

@@ -1,7 +1,9 @@
--- The other calls that carry an event, or count rounds: network_model.rs, with document 01's refusals.
+-- The calls that judge the round, by an event's record or by the parameters: network_model.rs, with document 01's
+-- refusals. For each, the number of its reply, the model that it leaves and what it answers.
 use Prim.Native.Nat.{ℕ, max, _+_, _-_, _*_, _^_}
 use mathlib.Core.Bool.{Bool, true, false, cond, not, _&&_, _||_}
-use lib.Dec.{ltb, leb, eqb}
+use mathlib.Core.List.{[], _∷_}
+use lib.Dec.{ltb, leb}
 use lib.Ieee.{Float}
 use Rattle.units.specs.declared.bandwidth.Bandwidth.{Bandwidth}
 use Rattle.filters.specs.declared.min_rtt_filter.MinRttFilter.{MinRttFilter}
@@ -17,7 +19,7 @@ use Rattle.state.specs.declared.params.Params.{Params}
 use Rattle.state.specs.declared.parts.Growth.{Growth}
 use Rattle.state.specs.declared.parts.Round.{Round}
 use Rattle.state.specs.declared.refusals.Rows.{Rows}
-use Rattle.state.specs.Bounds.{gainOk}
+use Rattle.state.specs.Bounds.{all, gainOk}
 use Rattle.state.specs.NetworkModel.{one, bdpOf, withLeast, withGrowth, judgedRows}
 use Rattle.state.specs.declared.congestion_event.MaybeLength.{MaybeLength}
 use Rattle.state.specs.declared.congestion_event.MaybeLength.the-variants.{Missing, Length}
@@ -29,7 +31,8 @@ use Rattle.state.specs.Refusals.{isMost, lowest}
 unfoldable pub judgedNumber : NetworkModel → Params → Record → Bool → ℕ
 judgedNumber m p e rises = lowest (judgedRows m p (recordOk e) rises)
 
--- ---- maybe_expire_min_rtt: "Expiry needs a sample and a moment not earlier than the stored one plus the period; the sample is then forced in"
+-- ---- maybe_expire_min_rtt: "Expiry needs a sample and a moment not earlier than the stored one plus the period; the
+-- sample is then forced in"
 abbrev pub isGiven : MaybeLength → Bool
 isGiven Missing = false
 isGiven (Length d) = true
@@ -47,9 +50,17 @@ leastExpired (Length d) now f period = cond (isDue now f period) (minForce d now
 unfoldable pub expireNext : NetworkModel → Params → Record → NetworkModel
 expireNext m p e = withLeast m (leastExpired (e .rtt) (e .time) (m .least) (p .period))
 
--- ---- is_inflight_too_high: a valid state, loss events at least the limit, inflight at send above 0, bytes lost above 0 and strictly above scale(inflight, threshold)
+-- ---- is_inflight_too_high: a valid state, loss events at least the limit, inflight at send above 0, bytes lost above
+-- 0 and strictly above scale(inflight, threshold)
 unfoldable pub isTooHigh : Round → SendState → ℕ → Float → Bool
-isTooHigh r t limit threshold = t .valid && leb limit (r .losses) && ltb 0 (t .inflight) && ltb 0 (r .lost) && ltb (scaled (t .inflight) threshold) (r .lost)
+isTooHigh r t limit threshold =
+    all
+    (t .valid
+    ∷ leb limit (r .losses)
+    ∷ ltb 0 (t .inflight)
+    ∷ ltb 0 (r .lost)
+    ∷ ltb (scaled (t .inflight) threshold) (r .lost)
+    ∷ [])
 
 -- ---- has_bandwidth_growth: the maximum is at least the baseline times the threshold
 unfoldable pub hasGrown : Growth → Bandwidth → Params → Bool
@@ -64,10 +75,20 @@ flatAfter g t = cond (countsFlat g t) (g .flat + 1) (g .flat)
 
 -- "full_bandwidth_reached is only set to true when not app-limited"
 unfoldable pub growthFlat : Growth → SendState → Params → Growth
-growthFlat g t p = record { reached = g .reached || (t .valid && leb (p .rounds) (flatAfter g t) && not (t .limited)); baseline = g .baseline; flat = flatAfter g t; queueing = g .queueing; ignore = g .ignore }
+growthFlat g t p =
+    record {
+      reached = g .reached || (t .valid && leb (p .rounds) (flatAfter g t) && not (t .limited));
+      baseline = g .baseline;
+      flat = flatAfter g t;
+      queueing = g .queueing;
+      ignore = g .ignore;
+    }
 
 unfoldable pub growthAfter : Growth → Bandwidth → SendState → Params → Growth
-growthAfter g most t p = cond (hasGrown g most p) (record { reached = g .reached; baseline = most; flat = 0; queueing = g .queueing; ignore = g .ignore }) (growthFlat g t p)
+growthAfter g most t p =
+    cond (hasGrown g most p)
+    (record { reached = g .reached; baseline = most; flat = 0; queueing = g .queueing; ignore = g .ignore })
+    (growthFlat g t p)
 
 -- row 5: the bandwidth has not grown, so that the round counts, and the count is full
 unfoldable pub growthFull : NetworkModel → Params → Record → Bool
@@ -92,7 +113,13 @@ isQueueing m gain = not (ltb (m .round .least) (queueTarget m gain))
 unfoldable pub queueAfter : Growth → Bool → Params → Growth
 queueAfter g queueing p =
     cond queueing
-    (record { reached = g .reached || leb (p .queueing) (g .queueing + 1); baseline = g .baseline; flat = g .flat; queueing = g .queueing + 1; ignore = g .ignore })
+    (record {
+      reached = g .reached || leb (p .queueing) (g .queueing + 1);
+      baseline = g .baseline;
+      flat = g .flat;
+      queueing = g .queueing + 1;
+      ignore = g .ignore;
+    })
     (record { reached = g .reached; baseline = g .baseline; flat = g .flat; queueing = 0; ignore = g .ignore })
 
 -- row 5: the round queues, and the count of such rounds is full

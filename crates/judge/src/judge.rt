@@ -92,8 +92,12 @@ fn expired(model: NetworkModel, params: Params, event: Record) -> NetworkModel
 // Whether the minimum round trip has expired; the event's sample then takes its place.
 pub fn maybe_expire_min_rtt(model: NetworkModel, params: Params, event: Record) -> Decided
     ensures reply { λ r. ⌜ number (r .reply) ≡ judgedNumber model params event false ⌝ }
-    ensures model { λ r. ⌜ r .model ≡ settled (judgedNumber model params event false) (expireNext model params event) model ⌝ }
-    ensures yes { λ r. ⌜ r .yes ≡ settled (judgedNumber model params event false) (isExpired (event .rtt) (event .time) (model .least) (params .period)) false ⌝ }
+    ensures model { λ r. ⌜ r .model ≡ settled (judgedNumber model params event false)
+        (expireNext model params event)
+        model ⌝ }
+    ensures yes { λ r. ⌜ r .yes ≡ settled (judgedNumber model params event false)
+        (isExpired (event .rtt) (event .time) (model .least) (params .period))
+        false ⌝ }
 {
     let rtt = event.rtt;
     let yes = is_given(rtt) & is_due(event.time, model.least, params.period);
@@ -138,7 +142,9 @@ fn too_high(round: Round, state: SendState, limit: u64, threshold: f32) -> bool
 // Whether the round lost more than the threshold allows of what was in flight at the send.
 pub fn is_inflight_too_high(model: NetworkModel, params: Params, event: Record, limit: u64) -> Flag
     ensures reply { λ r. ⌜ number (r .reply) ≡ judgedNumber model params event false ⌝ }
-    ensures yes { λ r. ⌜ r .yes ≡ settled (judgedNumber model params event false) (isTooHigh (model .round) (event .state) limit (params .loss)) false ⌝ }
+    ensures yes { λ r. ⌜ r .yes ≡ settled (judgedNumber model params event false)
+        (isTooHigh (model .round) (event .state) limit (params .loss))
+        false ⌝ }
 {
     let round = model.round;
     let state = event.state;
@@ -187,7 +193,8 @@ fn growth_flat(growth: Growth, state: SendState, params: Params) -> Growth
 
 // The growth after the maximum is compared with the baseline.
 fn growth_after(growth: Growth, most: Bandwidth, state: SendState, params: Params) -> Growth
-    requires { ⌜ (hasGrown growth most params ≡ false → countsFlat growth state ≡ true → eqb (growth .flat) (2 ^ 64 - 1) ≡ false) ⌝ }
+    requires { ⌜ (hasGrown growth most params ≡ false → countsFlat growth state ≡ true
+        → eqb (growth .flat) (2 ^ 64 - 1) ≡ false) ⌝ }
     ensures { λ r. ⌜ r ≡ growthAfter growth most state params ⌝ }
 {
     if has_grown(growth, most, params) {
@@ -212,8 +219,12 @@ fn growth_full(model: NetworkModel, params: Params, event: Record) -> bool
 // Whether the maximum bandwidth has grown past the threshold since the baseline was set.
 pub fn has_bandwidth_growth(model: NetworkModel, params: Params, event: Record) -> Decided
     ensures reply { λ r. ⌜ number (r .reply) ≡ judgedNumber model params event (growthFull model params event) ⌝ }
-    ensures model { λ r. ⌜ r .model ≡ settled (judgedNumber model params event (growthFull model params event)) (growthNext model params event) model ⌝ }
-    ensures yes { λ r. ⌜ r .yes ≡ settled (judgedNumber model params event (growthFull model params event)) (hasGrown (model .growth) (maxGet (model .most)) params) false ⌝ }
+    ensures model { λ r. ⌜ r .model ≡ settled (judgedNumber model params event (growthFull model params event))
+        (growthNext model params event)
+        model ⌝ }
+    ensures yes { λ r. ⌜ r .yes ≡ settled (judgedNumber model params event (growthFull model params event))
+        (hasGrown (model .growth) (maxGet (model .most)) params)
+        false ⌝ }
 {
     let full = growth_full(model, params, event);
     let reply = judged_reply(model, params, event, full);

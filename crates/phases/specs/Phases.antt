@@ -1,5 +1,5 @@
--- The phase entries, exit_probe_down and raise_inflight_high_slope: probe_bw.rs in BwLoMode::Default, with document 01's refusals. For each call, the number of its reply, and the model
--- and the cycle that it leaves.
+-- The phase entries, exit_probe_down and raise_inflight_high_slope: probe_bw.rs in BwLoMode::Default, with document
+-- 01's refusals. For each call, the number of its reply, and the model and the cycle that it leaves.
 use Prim.Native.Nat.{ℕ, _+_}
 use mathlib.Core.Bool.{Bool, true, false, cond, not, _&&_}
 use Rattle.units.specs.declared.time.Moment.{Moment}
@@ -20,7 +20,8 @@ use Rattle.state.specs.declared.cycle.MaybeLength.the-variants.{Length}
 use Rattle.state.specs.Cycle.{cycleOk, roundsOk, stayFrom}
 use Rattle.phases.specs.Slope.{slopeRaised}
 
--- ---- the refusal of an entry: the table's rows 1 to 3, with whether the parameters and the other arguments are within their bounds
+-- ---- an entry's rows. `params` and `given` say whether the parameters and the arguments beside the moment are within
+-- their bounds
 abbrev pub entryRows : NetworkModel → Cycle → (params given : Bool) → Moment → Rows
 entryRows m c params given now =
     stored (not (modelOk m && cycleOk c && params))
@@ -35,7 +36,8 @@ entryNumber m c params given now = lowest (entryRows m c params given now)
 unfoldable pub restartedAt : NetworkModel → Moment → NetworkModel
 restartedAt m now = withMoment (restartNext m) now
 
--- ---- exit_probe_down: "if !self.cycle.has_advanced_max_bw", the filter advances and the flag is set; the phase isn't looked at
+-- ---- exit_probe_down: "if !self.cycle.has_advanced_max_bw", the filter advances and the flag is set; the phase isn't
+-- looked at
 abbrev pub exitRows : NetworkModel → Cycle → Rows
 exitRows m c = stored (not (modelOk m && cycleOk c)) noRows
 
@@ -46,7 +48,16 @@ unfoldable pub exitModel : NetworkModel → Cycle → NetworkModel
 exitModel m c = cond (c .advanced) m (advanceNext m)
 
 unfoldable pub exitCycle : Cycle → Cycle
-exitCycle c = cond (c .advanced) c (record { stay = c .stay; wait = c .wait; slope = c .slope; advanced = true; probing = c .probing; last = c .last })
+exitCycle c =
+    cond (c .advanced) c
+    (record {
+      stay = c .stay;
+      wait = c .wait;
+      slope = c .slope;
+      advanced = true;
+      probing = c .probing;
+      last = c .last;
+    })
 
 -- "if self.cycle.phase == CyclePhase::Down { self.exit_probe_down(); }"
 abbrev pub isDown : CyclePhase → Bool
@@ -70,7 +81,15 @@ unfoldable pub slopeNumber : Cycle → ℕ → ℕ
 slopeNumber c window = lowest (slopeRows c window)
 
 unfoldable pub slopeCycle : Cycle → ℕ → Cycle
-slopeCycle c window = record { stay = c .stay; wait = c .wait; slope = slopeRaised (c .slope) window; advanced = c .advanced; probing = c .probing; last = c .last }
+slopeCycle c window =
+    record {
+      stay = c .stay;
+      wait = c .wait;
+      slope = slopeRaised (c .slope) window;
+      advanced = c .advanced;
+      probing = c .probing;
+      last = c .last;
+    }
 
 -- ---- enter_probe_down: the flags, the phase, the cycle's start, the wait, no probe_up_bytes; then restart_round_early
 abbrev pub downNumber : NetworkModel → Cycle → Params → Moment → ℕ
@@ -89,7 +108,15 @@ downCycle c p high risky now =
 
 -- phase, phase_start_time, rounds_in_phase and is_sample_from_probing, which the other three entries set
 unfoldable pub cycleIn : Cycle → CyclePhase → Moment → Bool → Cycle
-cycleIn c phase now probing = record { stay = stayFrom phase now; wait = c .wait; slope = c .slope; advanced = c .advanced; probing = probing; last = c .last }
+cycleIn c phase now probing =
+    record {
+      stay = stayFrom phase now;
+      wait = c .wait;
+      slope = c .slope;
+      advanced = c .advanced;
+      probing = probing;
+      last = c .last;
+    }
 
 -- ---- enter_probe_cruise: out of Down, cap_inflight_lo(inflight_hi), the phase; the round isn't restarted
 abbrev pub cruiseNumber : NetworkModel → Cycle → Moment → ℕ
@@ -104,7 +131,8 @@ cruiseModel m c now = withMoment (cappedByHigh (leftModel m c)) now
 unfoldable pub cruiseCycle : Cycle → Moment → Cycle
 cruiseCycle c now = cycleIn (leftCycle c) Cruise now false
 
--- ---- enter_probe_refill: out of Down, the phase, no risky probe, both lower bounds cleared, probe_up_rounds given, probe_up_acked 0; then restart_round_early
+-- ---- enter_probe_refill: out of Down, the phase, no risky probe, both lower bounds cleared, probe_up_rounds given,
+-- probe_up_acked 0; then restart_round_early
 abbrev pub refillNumber : NetworkModel → Cycle → ℕ → Moment → ℕ
 refillNumber m c rounds now = entryNumber m c true (roundsOk rounds) now
 

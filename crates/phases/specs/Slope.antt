@@ -1,9 +1,9 @@
--- The cycle: mode.rs, Cycle, with document 01's bounds; probe_bw.rs, raise_inflight_high_slope.
+-- The slope of a probe for more bandwidth: document 01, "Slope"; probe_bw.rs, raise_inflight_high_slope.
 use Prim.Native.Nat.{ℕ, min, max, _+_, _/_, _^_}
 use Rattle.state.specs.declared.cycle.MaybeBytes.the-variants.{Bytes}
 use Rattle.state.specs.declared.cycle.Slope.{Slope}
 
--- ---- raise_inflight_high_slope: "growth is 2^rounds; rounds become min(rounds + 1, 30); probe_up_bytes is max(window / growth, 1300)"
+-- "growth is 2^rounds; rounds become min(rounds + 1, 30); probe_up_bytes is max(window / growth, 1300)"
 abbrev pub nextRounds : ℕ → ℕ
 nextRounds rounds = min (rounds + 1) 30
 
@@ -11,4 +11,10 @@ abbrev pub upBytes : ℕ → ℕ → ℕ
 upBytes window rounds = max (window / 2 ^ rounds) 1300
 
 unfoldable pub slopeRaised : Slope → ℕ → Slope
-slopeRaised s window = record { rounds = nextRounds (s .rounds); bytes = Bytes (upBytes window (s .rounds)); acked = s .acked; limited = s .limited }
+slopeRaised s window =
+    record {
+      rounds = nextRounds (s .rounds);
+      bytes = Bytes (upBytes window (s .rounds));
+      acked = s .acked;
+      limited = s .limited;
+    }

@@ -247,7 +247,9 @@ pub fn enter_probe_down(
 ) -> Entered
     ensures reply { λ r. ⌜ number (r .reply) ≡ downNumber model cycle params now ⌝ }
     ensures model { λ r. ⌜ r .model ≡ settled (downNumber model cycle params now) (restartedAt model now) model ⌝ }
-    ensures cycle { λ r. ⌜ r .cycle ≡ settled (downNumber model cycle params now) (downCycle cycle params high risky now) cycle ⌝ }
+    ensures cycle { λ r. ⌜ r .cycle ≡ settled (downNumber model cycle params now)
+        (downCycle cycle params high risky now)
+        cycle ⌝ }
 {
     let reply = down_reply(model, cycle, params, now);
     if reply.is_done() {
@@ -337,8 +339,12 @@ fn cruise_cycle(cycle: Cycle, now: Moment) -> Cycle
 // The lower bounds go, so that the pipe fills before the next probe.
 pub fn enter_probe_refill(model: NetworkModel, cycle: Cycle, rounds: u64, now: Moment) -> Entered
     ensures reply { λ r. ⌜ number (r .reply) ≡ refillNumber model cycle rounds now ⌝ }
-    ensures model { λ r. ⌜ r .model ≡ settled (refillNumber model cycle rounds now) (refillModel model cycle now) model ⌝ }
-    ensures cycle { λ r. ⌜ r .cycle ≡ settled (refillNumber model cycle rounds now) (refillCycle cycle rounds now) cycle ⌝ }
+    ensures model { λ r. ⌜ r .model ≡ settled (refillNumber model cycle rounds now)
+        (refillModel model cycle now)
+        model ⌝ }
+    ensures cycle { λ r. ⌜ r .cycle ≡ settled (refillNumber model cycle rounds now)
+        (refillCycle cycle rounds now)
+        cycle ⌝ }
 {
     let reply = entry_reply(model, cycle, true, rounds <= Cycle::MOST_ROUNDS, now);
     settle(

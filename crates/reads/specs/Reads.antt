@@ -1,4 +1,5 @@
--- The calls on the model: network_model.rs, with document 01's refusals. For each call, the number of its reply and the model it leaves, or what it answers.
+-- What the calls that only answer make of the stored numbers: network_model.rs. The other reads answer one number as it
+-- is stored, and the products are `bdpOf` (crates/state/specs/NetworkModel.antt).
 use Prim.Native.Nat.{ℕ, _-_}
 use lib.Ieee.{Float}
 use Rattle.units.specs.declared.bandwidth.Bandwidth.{Bandwidth}

@@ -34,7 +34,9 @@ fn estimate(lo: MaybeBandwidth, most: Bandwidth) -> Bandwidth
 // The bytes that a bandwidth times a gain carries in the minimum round trip.
 pub fn bdp(model: NetworkModel, bandwidth: Bandwidth, gain: f32) -> Number
     ensures reply { λ r. ⌜ number (r .reply) ≡ givenNumber model (bandwidthOk bandwidth && gainOk gain) ⌝ }
-    ensures value { λ r. ⌜ r .value ≡ settled (givenNumber model (bandwidthOk bandwidth && gainOk gain)) (bdpOf model bandwidth gain) 0 ⌝ }
+    ensures value { λ r. ⌜ r .value ≡ settled (givenNumber model (bandwidthOk bandwidth && gainOk gain))
+        (bdpOf model bandwidth gain)
+        0 ⌝ }
 {
     Number::of(
         model.given(bandwidth_ok(bandwidth) & gain_ok(gain)),
@@ -45,7 +47,9 @@ pub fn bdp(model: NetworkModel, bandwidth: Bandwidth, gain: f32) -> Number
 // The same with a gain of 1.
 pub fn bdp1(model: NetworkModel, bandwidth: Bandwidth) -> Number
     ensures reply { λ r. ⌜ number (r .reply) ≡ givenNumber model (bandwidthOk bandwidth) ⌝ }
-    ensures value { λ r. ⌜ r .value ≡ settled (givenNumber model (bandwidthOk bandwidth)) (bdpOf model bandwidth one) 0 ⌝ }
+    ensures value { λ r. ⌜ r .value ≡ settled (givenNumber model (bandwidthOk bandwidth))
+        (bdpOf model bandwidth one)
+        0 ⌝ }
 {
     Number::of(
         model.given(bandwidth_ok(bandwidth)),
@@ -65,7 +69,9 @@ pub fn bdp0(model: NetworkModel) -> Number
 // inflight_hi less the headroom that the parameters ask for.
 pub fn inflight_hi_with_headroom(model: NetworkModel, params: Params) -> Number
     ensures reply { λ r. ⌜ number (r .reply) ≡ headroomNumber model params ⌝ }
-    ensures value { λ r. ⌜ r .value ≡ settled (headroomNumber model params) (headroomOf (model .high) (params .headroom)) 0 ⌝ }
+    ensures value { λ r. ⌜ r .value ≡ settled (headroomNumber model params)
+        (headroomOf (model .high) (params .headroom))
+        0 ⌝ }
 {
     Number::of(
         model.stored_with(params),
@@ -76,7 +82,9 @@ pub fn inflight_hi_with_headroom(model: NetworkModel, params: Params) -> Number
 // The smaller of bandwidth_lo, if it is set, and the maximum.
 pub fn bandwidth_estimate(model: NetworkModel) -> BandwidthRead
     ensures reply { λ r. ⌜ number (r .reply) ≡ storedNumber model ⌝ }
-    ensures bandwidth { λ r. ⌜ r .bandwidth ≡ settled (storedNumber model) (estimateOf (model .lower .bandwidth) (maxGet (model .most))) noBandwidth ⌝ }
+    ensures bandwidth { λ r. ⌜ r .bandwidth ≡ settled (storedNumber model)
+        (estimateOf (model .lower .bandwidth) (maxGet (model .most)))
+        noBandwidth ⌝ }
 {
     let most = model.most;
     let lower = model.lower;

@@ -1,5 +1,5 @@
--- One event, in order: document 01, "One event, in order"; network_model.rs, on_congestion_event_start and adapt_lower_bounds in BwLoMode::Default. m is the model before the event, e its record as
--- handed in, s what the sampler says to it, and `acked` the packet numbers acked.
+-- An event's record and what the sampler says to it (src/congestion_event.rt): document 01, "Replies and bounds", the
+-- bounds of what is handed in. All numbers are tested, those of a send state that is not valid too.
 use mathlib.Core.Bool.{Bool, true, _&&_}
 use mathlib.Core.List.{List, [], _∷_}
 use Rattle.state.specs.Bounds.{all, bytesOk, totalOk, momentOk, lengthOk, maybeOk}
@@ -10,7 +10,6 @@ use Rattle.state.specs.declared.congestion_event.Record.{Record}
 use Rattle.state.specs.declared.congestion_event.Sample.{Sample}
 use Rattle.state.specs.declared.congestion_event.SendState.{SendState}
 
--- ---- the bounds of what is handed in: all numbers are tested, those of a send state that is not valid too
 abbrev pub maybeLengthOk : MaybeLength → Bool
 maybeLengthOk Missing = true
 maybeLengthOk (Length d) = lengthOk d

@@ -1,4 +1,4 @@
--- The cycle: mode.rs, Cycle, with document 01's bounds; probe_bw.rs, raise_inflight_high_slope.
+-- The cycle of probing for bandwidth: mode.rs, Cycle, with document 01's bounds, and what a fresh one is.
 use Prim.Native.Nat.{ℕ, _+_, _^_}
 use mathlib.Core.Bool.{Bool, true, false, not}
 use mathlib.Core.List.{List, [], _∷_}
@@ -32,7 +32,8 @@ upBytesOk (Bytes n) = bytesOk n
 abbrev pub roundsOk : ℕ → Bool
 roundsOk n = leb n 30
 
--- probe_up_acked is a byte count: the rest of the bytes acked after whole probe_up_bytes are taken off. "Counters .. are free": rounds_in_phase, rounds_since_probe
+-- probe_up_acked is a byte count: the rest of the bytes acked after whole probe_up_bytes are taken off. "Counters ..
+-- are free": rounds_in_phase, rounds_since_probe
 unfoldable pub cycleTests : Cycle → List Bool
 cycleTests c =
     momentOk (c .stay .entered)

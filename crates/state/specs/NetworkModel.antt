@@ -1,4 +1,6 @@
--- document 01, "Replies and bounds": the bounds as tests, and the table of refusals.
+-- The network model: network_model.rs, BBRv2NetworkModel in BwLoMode::Default, with document 01's bounds and refusals.
+-- Which models are within their bounds, what a fresh one is (`new`), which rows of the table the calls share, and what
+-- those calls leave that several others make use of.
 use Prim.Native.Nat.{ℕ, _-_, _^_}
 use mathlib.Core.Bool.{Bool, true, false, _&&_, not}
 use mathlib.Core.List.{List, [], _∷_}
@@ -27,7 +29,7 @@ use Rattle.filters.specs.MinRttFilter.{minForce}
 use Rattle.filters.specs.RoundTripCounter.{roundsNew, roundsRestart}
 use Rattle.state.specs.Answers.{settled, noLength, noMoment}
 
--- "Counters and packet numbers are free"
+-- ---- the bounds, part by part. "Counters and packet numbers are free"
 unfoldable pub modelTests : NetworkModel → List Bool
 modelTests m =
     mostOk (m .most)
@@ -48,31 +50,166 @@ modelOk m = all (modelTests m)
 
 -- ---- the model with one part put anew
 unfoldable pub withRounds : NetworkModel → RoundTripCounter → NetworkModel
-withRounds m x = record { rounds = x; most = m .most; least = m .least; round = m .round; latest = m .latest; lower = m .lower; high = m .high; gains = m .gains; limited = m .limited; growth = m .growth; rates = m .rates; totals = m .totals; moment = m .moment }
+withRounds m x =
+    record {
+      rounds = x;
+      most = m .most;
+      least = m .least;
+      round = m .round;
+      latest = m .latest;
+      lower = m .lower;
+      high = m .high;
+      gains = m .gains;
+      limited = m .limited;
+      growth = m .growth;
+      rates = m .rates;
+      totals = m .totals;
+      moment = m .moment;
+    }
 
 unfoldable pub withMost : NetworkModel → MaxBandwidthFilter → NetworkModel
-withMost m x = record { rounds = m .rounds; most = x; least = m .least; round = m .round; latest = m .latest; lower = m .lower; high = m .high; gains = m .gains; limited = m .limited; growth = m .growth; rates = m .rates; totals = m .totals; moment = m .moment }
+withMost m x =
+    record {
+      rounds = m .rounds;
+      most = x;
+      least = m .least;
+      round = m .round;
+      latest = m .latest;
+      lower = m .lower;
+      high = m .high;
+      gains = m .gains;
+      limited = m .limited;
+      growth = m .growth;
+      rates = m .rates;
+      totals = m .totals;
+      moment = m .moment;
+    }
 
 unfoldable pub withLeast : NetworkModel → MinRttFilter → NetworkModel
-withLeast m x = record { rounds = m .rounds; most = m .most; least = x; round = m .round; latest = m .latest; lower = m .lower; high = m .high; gains = m .gains; limited = m .limited; growth = m .growth; rates = m .rates; totals = m .totals; moment = m .moment }
+withLeast m x =
+    record {
+      rounds = m .rounds;
+      most = m .most;
+      least = x;
+      round = m .round;
+      latest = m .latest;
+      lower = m .lower;
+      high = m .high;
+      gains = m .gains;
+      limited = m .limited;
+      growth = m .growth;
+      rates = m .rates;
+      totals = m .totals;
+      moment = m .moment;
+    }
 
 unfoldable pub withRound : NetworkModel → Round → NetworkModel
-withRound m x = record { rounds = m .rounds; most = m .most; least = m .least; round = x; latest = m .latest; lower = m .lower; high = m .high; gains = m .gains; limited = m .limited; growth = m .growth; rates = m .rates; totals = m .totals; moment = m .moment }
+withRound m x =
+    record {
+      rounds = m .rounds;
+      most = m .most;
+      least = m .least;
+      round = x;
+      latest = m .latest;
+      lower = m .lower;
+      high = m .high;
+      gains = m .gains;
+      limited = m .limited;
+      growth = m .growth;
+      rates = m .rates;
+      totals = m .totals;
+      moment = m .moment;
+    }
 
 unfoldable pub withLower : NetworkModel → Lower → NetworkModel
-withLower m x = record { rounds = m .rounds; most = m .most; least = m .least; round = m .round; latest = m .latest; lower = x; high = m .high; gains = m .gains; limited = m .limited; growth = m .growth; rates = m .rates; totals = m .totals; moment = m .moment }
+withLower m x =
+    record {
+      rounds = m .rounds;
+      most = m .most;
+      least = m .least;
+      round = m .round;
+      latest = m .latest;
+      lower = x;
+      high = m .high;
+      gains = m .gains;
+      limited = m .limited;
+      growth = m .growth;
+      rates = m .rates;
+      totals = m .totals;
+      moment = m .moment;
+    }
 
 unfoldable pub withHigh : NetworkModel → ℕ → NetworkModel
-withHigh m x = record { rounds = m .rounds; most = m .most; least = m .least; round = m .round; latest = m .latest; lower = m .lower; high = x; gains = m .gains; limited = m .limited; growth = m .growth; rates = m .rates; totals = m .totals; moment = m .moment }
+withHigh m x =
+    record {
+      rounds = m .rounds;
+      most = m .most;
+      least = m .least;
+      round = m .round;
+      latest = m .latest;
+      lower = m .lower;
+      high = x;
+      gains = m .gains;
+      limited = m .limited;
+      growth = m .growth;
+      rates = m .rates;
+      totals = m .totals;
+      moment = m .moment;
+    }
 
 unfoldable pub withGains : NetworkModel → Gains → NetworkModel
-withGains m x = record { rounds = m .rounds; most = m .most; least = m .least; round = m .round; latest = m .latest; lower = m .lower; high = m .high; gains = x; limited = m .limited; growth = m .growth; rates = m .rates; totals = m .totals; moment = m .moment }
+withGains m x =
+    record {
+      rounds = m .rounds;
+      most = m .most;
+      least = m .least;
+      round = m .round;
+      latest = m .latest;
+      lower = m .lower;
+      high = m .high;
+      gains = x;
+      limited = m .limited;
+      growth = m .growth;
+      rates = m .rates;
+      totals = m .totals;
+      moment = m .moment;
+    }
 
 unfoldable pub withGrowth : NetworkModel → Growth → NetworkModel
-withGrowth m x = record { rounds = m .rounds; most = m .most; least = m .least; round = m .round; latest = m .latest; lower = m .lower; high = m .high; gains = m .gains; limited = m .limited; growth = x; rates = m .rates; totals = m .totals; moment = m .moment }
+withGrowth m x =
+    record {
+      rounds = m .rounds;
+      most = m .most;
+      least = m .least;
+      round = m .round;
+      latest = m .latest;
+      lower = m .lower;
+      high = m .high;
+      gains = m .gains;
+      limited = m .limited;
+      growth = x;
+      rates = m .rates;
+      totals = m .totals;
+      moment = m .moment;
+    }
 
 unfoldable pub withMoment : NetworkModel → Moment → NetworkModel
-withMoment m x = record { rounds = m .rounds; most = m .most; least = m .least; round = m .round; latest = m .latest; lower = m .lower; high = m .high; gains = m .gains; limited = m .limited; growth = m .growth; rates = m .rates; totals = m .totals; moment = x }
+withMoment m x =
+    record {
+      rounds = m .rounds;
+      most = m .most;
+      least = m .least;
+      round = m .round;
+      latest = m .latest;
+      lower = m .lower;
+      high = m .high;
+      gains = m .gains;
+      limited = m .limited;
+      growth = m .growth;
+      rates = m .rates;
+      totals = m .totals;
+      moment = x;
+    }
 
 -- ---- start: BBRv2NetworkModel::new
 unfoldable pub modelNew : Float → Float → Bool → Duration → Moment → NetworkModel
@@ -104,7 +241,10 @@ abbrev pub one : Float
 one = ofBits binary32 0x3f80_0000
 
 unfoldable pub startModel : Params → Duration → Moment → NetworkModel
-startModel p rtt now = settled (startNumber p rtt now) (modelNew (p .cwnd) (p .pacing) (p .ignore) rtt now) (modelNew one one false noLength noMoment)
+startModel p rtt now =
+    settled (startNumber p rtt now)
+    (modelNew (p .cwnd) (p .pacing) (p .ignore) rtt now)
+    (modelNew one one false noLength noMoment)
 
 -- ---- a call that is given nothing: the stored numbers alone are tested
 abbrev pub storedRows : NetworkModel → Rows
@@ -128,13 +268,21 @@ judgedRows m p fine rises = stored (not (modelOk m && paramsOk p)) (argument (no
 unfoldable pub headroomNumber : NetworkModel → Params → ℕ
 headroomNumber m p = lowest (judgedRows m p true false)
 
--- ---- restart_round_early: the round's sums begin anew, the round's end is the last sent number, and rounds_with_queueing is 0
+-- ---- restart_round_early: the round's sums begin anew, its end is the last sent number, rounds_with_queueing is 0
 unfoldable pub growthRestarted : Growth → Growth
-growthRestarted g = record { reached = g .reached; baseline = g .baseline; flat = g .flat; queueing = 0; ignore = g .ignore }
+growthRestarted g =
+    record {
+      reached = g .reached;
+      baseline = g .baseline;
+      flat = g .flat;
+      queueing = 0;
+      ignore = g .ignore;
+    }
 
 unfoldable pub restartNext : NetworkModel → NetworkModel
 restartNext m = withGrowth (withRounds (withRound m roundNew) (roundsRestart (m .rounds))) (growthRestarted (m .growth))
 
+-- ---- cap_inflight_lo, clear_inflight_lo, clear_bandwidth_lo, advance_max_bandwidth_filter
 unfoldable pub capNext : NetworkModel → ℕ → NetworkModel
 capNext m cap = withLower m (lowerCapped (m .lower) cap)
 

@@ -1,6 +1,8 @@
--- document 01, "Replies and bounds": the bounds as tests, and the table of refusals.
+-- The model's state, part by part (src/parts.rt): document 01's bounds of each, and what a round's start, a send and a
+-- cap make of it (network_model.rs).
 use Prim.Native.Nat.{ℕ, _-_, _^_, min}
 use mathlib.Core.Bool.{Bool, false, cond, _&&_, _||_}
+use mathlib.Core.List.{[], _∷_}
 use lib.Dec.{leb, eqb}
 use Rattle.filters.specs.declared.max_bandwidth_filter.MaxBandwidthFilter.{MaxBandwidthFilter}
 use Rattle.filters.specs.declared.min_rtt_filter.MinRttFilter.{MinRttFilter}
@@ -11,7 +13,7 @@ use Rattle.state.specs.declared.parts.Lower.{Lower}
 use Rattle.state.specs.declared.parts.Rates.{Rates}
 use Rattle.state.specs.declared.parts.Round.{Round}
 use Rattle.state.specs.declared.parts.Totals.{Totals}
-use Rattle.state.specs.Bounds.{bytesOk, bytesOrUnsetOk, totalOk, momentOk, lengthOk, bandwidthOk, maybeOk, gainOk}
+use Rattle.state.specs.Bounds.{all, bytesOk, bytesOrUnsetOk, totalOk, momentOk, lengthOk, bandwidthOk, maybeOk, gainOk}
 
 -- ---- the stored numbers
 abbrev pub mostOk : MaxBandwidthFilter → Bool
@@ -20,9 +22,17 @@ mostOk f = bandwidthOk (f .slot0) && bandwidthOk (f .slot1)
 abbrev pub leastOk : MinRttFilter → Bool
 leastOk f = lengthOk (f .rtt) && momentOk (f .timestamp)
 
--- "Bytes lost in the round must not exceed the stored total lost, nor bytes delivered in the round the stored total acked"
+-- "Bytes lost in the round must not exceed the stored total lost, nor bytes delivered in the round the stored total
+-- acked"
 unfoldable pub roundOk : Round → Totals → Bool
-roundOk s t = totalOk (s .lost) && totalOk (s .delivered) && bytesOrUnsetOk (s .least) && leb (s .lost) (t .lost) && leb (s .delivered) (t .acked)
+roundOk s t =
+    all
+    (totalOk (s .lost)
+    ∷ totalOk (s .delivered)
+    ∷ bytesOrUnsetOk (s .least)
+    ∷ leb (s .lost) (t .lost)
+    ∷ leb (s .delivered) (t .acked)
+    ∷ [])
 
 abbrev pub latestOk : Latest → Bool
 latestOk l = bandwidthOk (l .bandwidth) && bytesOk (l .inflight)
@@ -48,8 +58,16 @@ roundNew = record { lost = 0; losses = 0; delivered = 0; least = 2 ^ 64 - 1; lim
 
 -- on_packet_sent: the minimum takes the bytes in flight before the packet; the flag is set where inflight_hi is reached
 unfoldable pub roundSent : Round → ℕ → Bool → Round
-roundSent s inflight hit = record { lost = s .lost; losses = s .losses; delivered = s .delivered; least = min (s .least) inflight; limited = s .limited || hit }
+roundSent s inflight hit =
+    record {
+      lost = s .lost;
+      losses = s .losses;
+      delivered = s .delivered;
+      least = min (s .least) inflight;
+      limited = s .limited || hit;
+    }
 
 -- cap_inflight_lo: "An unset inflight_lo is left unset by a cap"
 unfoldable pub lowerCapped : Lower → ℕ → Lower
-lowerCapped l cap = cond (eqb (l .inflight) (2 ^ 64 - 1)) l (record { bandwidth = l .bandwidth; inflight = min cap (l .inflight) })
+lowerCapped l cap =
+    cond (eqb (l .inflight) (2 ^ 64 - 1)) l (record { bandwidth = l .bandwidth; inflight = min cap (l .inflight) })
