@@ -21,17 +21,6 @@ use units::Duration;
 use units::Moment;
 use units::Reply;
 
-// Whether inflight and bytes together reach the bound.
-fn reaches(high: u64, inflight: u64, bytes: u64) -> bool
-    ensures { λ r. ⌜ r ≡ leb high (inflight + bytes) ⌝ }
-{
-    if high <= inflight {
-        true
-    } else {
-        high - inflight <= bytes
-    }
-}
-
 // A packet is sent, of so many bytes, while so many were in flight.
 pub fn on_packet_sent(
     model: NetworkModel,
@@ -87,6 +76,17 @@ fn sent_reply(model: NetworkModel, fine: bool, now: Moment, inflight: u64, bytes
         earlier: now.is_before(moment),
         ..Rows::NONE
     })
+}
+
+// Whether inflight and bytes together reach the bound.
+fn reaches(high: u64, inflight: u64, bytes: u64) -> bool
+    ensures { λ r. ⌜ r ≡ leb high (inflight + bytes) ⌝ }
+{
+    if high <= inflight {
+        true
+    } else {
+        high - inflight <= bytes
+    }
 }
 
 // The round begins anew before its end, uncounted.
@@ -203,14 +203,6 @@ pub fn postpone_min_rtt_timestamp(model: NetworkModel, length: Duration) -> Chan
     model.settle(postpone_reply(model, length), put_off(model, length))
 }
 
-fn later(model: NetworkModel, length: Duration) -> Moment
-    ensures { λ r. ⌜ r ≡ postponed model length ⌝ }
-{
-    let least = model.least;
-    let timestamp = least.timestamp;
-    timestamp.plus(length)
-}
-
 fn postpone_reply(model: NetworkModel, length: Duration) -> Reply
     ensures { λ r. ⌜ number r ≡ postponeNumber model length ⌝ }
 {
@@ -225,4 +217,12 @@ fn put_off(model: NetworkModel, length: Duration) -> NetworkModel
     let mut next = model;
     next.least = filter;
     next
+}
+
+fn later(model: NetworkModel, length: Duration) -> Moment
+    ensures { λ r. ⌜ r ≡ postponed model length ⌝ }
+{
+    let least = model.least;
+    let timestamp = least.timestamp;
+    timestamp.plus(length)
 }

@@ -39,372 +39,7 @@ pub struct Event {
     pub record: Record,
 }
 
-fn limited_after(was: bool, extra: u64, prior: u64, window: u64) -> bool
-    ensures { λ r. ⌜ r ≡ limitedAfter was extra prior window ⌝ }
-{
-    if extra == 0 { window <= prior } else { was }
-}
-
-fn state_after(was: SendState, new: SendState) -> SendState
-    ensures { λ r. ⌜ r ≡ stateAfter was new ⌝ }
-{
-    if new.valid { new } else { was }
-}
-
-fn most_after(
-    filter: MaxBandwidthFilter,
-    sample: MaybeBandwidth,
-    changed: bool,
-    limited: bool,
-) -> MaxBandwidthFilter
-    ensures { λ r. ⌜ r ≡ mostAfter filter sample changed limited ⌝ }
-{
-    let MaybeBandwidth::Set(bandwidth) = sample else {
-        return filter;
-    };
-    let most = filter.get();
-    if changed & (!limited | (most.0 < bandwidth.0)) {
-        filter.update(bandwidth)
-    } else {
-        filter
-    }
-}
-
-fn bandwidth_after(was: MaybeBandwidth, sample: MaybeBandwidth, changed: bool) -> MaybeBandwidth
-    ensures { λ r. ⌜ r ≡ bandwidthAfter was sample changed ⌝ }
-{
-    let MaybeBandwidth::Set(bandwidth) = sample else {
-        return was;
-    };
-    if changed {
-        MaybeBandwidth::Set(bandwidth)
-    } else {
-        was
-    }
-}
-
-fn least_after(filter: MinRttFilter, sample: MaybeLength, now: Moment) -> MinRttFilter
-    ensures { λ r. ⌜ r ≡ leastAfter filter sample now ⌝ }
-{
-    let MaybeLength::Length(rtt) = sample else {
-        return filter;
-    };
-    filter.update(rtt, now)
-}
-
-fn rtt_after(was: MaybeLength, sample: MaybeLength) -> MaybeLength
-    ensures { λ r. ⌜ r ≡ rttAfter was sample ⌝ }
-{
-    let MaybeLength::Length(rtt) = sample else {
-        return was;
-    };
-    MaybeLength::Length(rtt)
-}
-
-// What the event delivered since the packet was sent, or 0 where that is not known.
-fn delivered_by(state: SendState, acked: u64, total: u64) -> u64
-    ensures { λ r. ⌜ r ≡ deliveredBy state acked total ⌝ }
-{
-    if (0 < acked) & state.valid & (state.acked < total) {
-        less(total, state.acked)
-    } else {
-        0
-    }
-}
-
-// The round's sums after an event that lost so many bytes and left so many in flight.
-fn round_after(round: Round, lost: u64, delivered: u64, inflight: u64) -> Round
-    requires { ⌜ (round .lost + lost < 2 ^ 64) × (ltb 0 lost ≡ true → eqb (round .losses) (2 ^ 64 - 1) ≡ false) ⌝ }
-    ensures { λ r. ⌜ r ≡ roundAfter round lost delivered inflight ⌝ }
-{
-    let most = larger(round.delivered, delivered);
-    let least = smaller(round.least, inflight);
-    if 0 < lost {
-        Round {
-            lost: round.lost + lost,
-            losses: round.losses + 1,
-            delivered: most,
-            least,
-            limited: round.limited,
-        }
-    } else {
-        Round {
-            lost: round.lost,
-            losses: round.losses,
-            delivered: most,
-            least,
-            limited: round.limited,
-        }
-    }
-}
-
-fn raised_bandwidth(was: Bandwidth, sample: MaybeBandwidth) -> Bandwidth
-    ensures { λ r. ⌜ r ≡ raisedBandwidth was sample ⌝ }
-{
-    let MaybeBandwidth::Set(bandwidth) = sample else {
-        return was;
-    };
-    was.max(bandwidth)
-}
-
-fn latest_raised(latest: Latest, sample: Sample) -> Latest
-    ensures { λ r. ⌜ r ≡ latestRaised latest sample ⌝ }
-{
-    let was = latest.bandwidth;
-    let seen = sample.bandwidth;
-    Latest {
-        bandwidth: raised_bandwidth(was, seen),
-        inflight: larger(latest.inflight, sample.inflight),
-    }
-}
-
-// bandwidth_lo, or the maximum where it is unset.
-fn seed_of(lo: MaybeBandwidth, most: Bandwidth) -> Bandwidth
-    ensures { λ r. ⌜ r ≡ seedOf lo most ⌝ }
-{
-    let MaybeBandwidth::Set(bandwidth) = lo else {
-        return most;
-    };
-    bandwidth
-}
-
-// inflight_lo, or the window where it is unset.
-fn start_of(lo: u64, window: u64) -> u64
-    ensures { λ r. ⌜ r ≡ startOf lo window ⌝ }
-{
-    if lo == UNSET { window } else { lo }
-}
-
-// The lower bounds after a reduction by the factor b.
-fn lower_reduced(lower: Lower, most: Bandwidth, latest: Latest, window: u64, b: f32) -> Lower
-    ensures { λ r. ⌜ r ≡ lowerReduced lower most latest window b ⌝ }
-{
-    let lo = lower.bandwidth;
-    let fastest = latest.bandwidth;
-    let seed = seed_of(lo, most);
-    let slower = fastest.max(seed.mul_f32(b));
-    Lower {
-        bandwidth: MaybeBandwidth::Set(slower),
-        inflight: larger(
-            latest.inflight,
-            numbers::scale(start_of(lower.inflight, window), b),
-        ),
-    }
-}
-
-fn lower_after(
-    lower: Lower,
-    reduces: bool,
-    most: Bandwidth,
-    latest: Latest,
-    window: u64,
-    beta: f32,
-) -> Lower
-    ensures { λ r. ⌜ r ≡ lowerAfter lower reduces most latest window beta ⌝ }
-{
-    if reduces {
-        lower_reduced(lower, most, latest, window, 1.0 - beta)
-    } else {
-        lower
-    }
-}
-
-// The sample, if it is above 0.
-fn newest(was: u64, sample: u64) -> u64
-    ensures { λ r. ⌜ r ≡ newestOf was sample ⌝ }
-{
-    if 0 < sample { sample } else { was }
-}
-
-fn latest_after(latest: Latest, ended: bool, sample: Sample) -> Latest
-    ensures { λ r. ⌜ r ≡ latestAfter latest ended sample ⌝ }
-{
-    if ended {
-        let was = latest.bandwidth;
-        let seen = sample.bandwidth;
-        Latest {
-            bandwidth: seed_of(seen, was),
-            inflight: newest(latest.inflight, sample.inflight),
-        }
-    } else {
-        latest
-    }
-}
-
-fn is_changed(model: NetworkModel, sample: Sample) -> bool
-    ensures { λ r. ⌜ r ≡ isChanged model sample ⌝ }
-{
-    model.totals.acked != sample.totals.acked
-}
-
-// The record after the event.
-fn record_of(model: NetworkModel, event: Record, sample: Sample, ended: bool) -> Record
-    ensures { λ r. ⌜ r ≡ recordOf model event sample ended ⌝ }
-{
-    let changed = is_changed(model, sample);
-    let acked = less(sample.totals.acked, model.totals.acked);
-    let lost = less(sample.totals.lost, model.totals.lost);
-    let was = event.bandwidth;
-    let seen = sample.bandwidth;
-    let bandwidth = bandwidth_after(was, seen, changed);
-    let old = event.rtt;
-    let new = sample.rtt;
-    let rtt = rtt_after(old, new);
-    let before = event.state;
-    let since = sample.state;
-    let state = state_after(before, since);
-    let time = event.time;
-    Record {
-        time,
-        window: event.window,
-        prior: event.prior,
-        inflight: less(less(event.prior, acked), lost),
-        acked,
-        lost,
-        ended,
-        probing: event.probing,
-        bandwidth,
-        rtt,
-        state,
-    }
-}
-
-fn most_next(model: NetworkModel, sample: Sample) -> MaxBandwidthFilter
-    ensures { λ r. ⌜ r ≡ mostNext model sample ⌝ }
-{
-    let filter = model.most;
-    let bandwidth = sample.bandwidth;
-    most_after(filter, bandwidth, is_changed(model, sample), sample.limited)
-}
-
-fn round_next(model: NetworkModel, after: Record, sample: Sample) -> Round
-    requires { ⌜ (model .round .lost + after .lost < 2 ^ 64)
-        × (ltb 0 (after .lost) ≡ true → eqb (model .round .losses) (2 ^ 64 - 1) ≡ false) ⌝ }
-    ensures { λ r. ⌜ r ≡ roundNext model after sample ⌝ }
-{
-    let round = model.round;
-    let state = after.state;
-    round_after(
-        round,
-        after.lost,
-        delivered_by(state, after.acked, sample.totals.acked),
-        after.inflight,
-    )
-}
-
-fn lower_next(
-    model: NetworkModel,
-    params: Params,
-    after: Record,
-    sample: Sample,
-    most: MaxBandwidthFilter,
-    lost: u64,
-) -> Lower
-    ensures { λ r. ⌜ r ≡ lowerNext model params after sample most lost ⌝ }
-{
-    let lower = model.lower;
-    let latest = model.latest;
-    let reduces = after.ended & !after.probing & (0 < lost);
-    lower_after(
-        lower,
-        reduces,
-        most.get(),
-        latest_raised(latest, sample),
-        after.window,
-        params.beta,
-    )
-}
-
-fn latest_next(model: NetworkModel, after: Record, sample: Sample) -> Latest
-    ensures { λ r. ⌜ r ≡ latestAfter (latestRaised (model .latest) sample) (after .ended) sample ⌝ }
-{
-    let latest = model.latest;
-    latest_after(latest_raised(latest, sample), after.ended, sample)
-}
-
-fn least_next(model: NetworkModel, after: Record, sample: Sample) -> MinRttFilter
-    ensures { λ r. ⌜ r ≡ leastAfter (model .least) (sample .rtt) (after .time) ⌝ }
-{
-    let filter = model.least;
-    let rtt = sample.rtt;
-    least_after(filter, rtt, after.time)
-}
-
-// The model after the event.
-fn model_of(
-    model: NetworkModel,
-    params: Params,
-    after: Record,
-    sample: Sample,
-    counter: RoundTripCounter,
-) -> NetworkModel
-    requires { ⌜ (model .round .lost + after .lost < 2 ^ 64)
-        × (ltb 0 (after .lost) ≡ true → eqb (model .round .losses) (2 ^ 64 - 1) ≡ false) ⌝ }
-    ensures { λ r. ⌜ r ≡ modelOf model params after sample counter ⌝ }
-{
-    let most = most_next(model, sample);
-    let least = least_next(model, after, sample);
-    let round = round_next(model, after, sample);
-    let latest = latest_next(model, after, sample);
-    let lower = lower_next(model, params, after, sample, most, round.lost);
-    let limited = limited_after(model.limited, sample.extra, after.prior, after.window);
-    let send = sample.send;
-    let ack = sample.ack;
-    let rates = Rates { send, ack };
-    let totals = sample.totals;
-    let time = after.time;
-    let mut next = model;
-    next.rounds = counter;
-    next.most = most;
-    next.least = least;
-    next.round = round;
-    next.latest = latest;
-    next.lower = lower;
-    next.limited = limited;
-    next.rates = rates;
-    next.totals = totals;
-    next.moment = time;
-    next
-}
-
-fn is_lower(model: NetworkModel, sample: Sample) -> bool
-    ensures { λ r. ⌜ r ≡ isLower model sample ⌝ }
-{
-    (sample.totals.acked < model.totals.acked) | (sample.totals.lost < model.totals.lost)
-}
-
-// Whether the event would raise a counter that is full.
-fn is_full(model: NetworkModel, sample: Sample, acked: &[u64]) -> bool
-    ensures { λ r. ⌜ r ≡ isFull model sample (now (acked .entry)) ⌝ }
-{
-    let rounds = model.rounds;
-    let answer = rounds.on_packets_acked(acked);
-    let reply = answer.reply;
-    let lost = less(sample.totals.lost, model.totals.lost);
-    !reply.is_done() | ((0 < lost) & (model.round.losses == FULL))
-}
-
-fn event_reply(
-    model: NetworkModel,
-    fine: bool,
-    params: Params,
-    event: Record,
-    sample: Sample,
-    acked: &[u64],
-) -> Reply
-    requires { ⌜ fine ≡ modelOk model ⌝ }
-    ensures { λ r. ⌜ number r ≡ eventNumber model params event sample (now (acked .entry)) ⌝ }
-{
-    let moment = model.moment;
-    let time = event.time;
-    refusal(Rows {
-        stored: !(fine & params.ok()),
-        argument: !(event.ok() & sample.ok()),
-        earlier: time.is_before(moment),
-        lower: is_lower(model, sample),
-        full: is_full(model, sample, acked),
-    })
-}
+// ---- the start: the table is asked, the round is counted, the record and the model are put anew
 
 // An event: packets acked, the record as far as it is known, and what the sampler says.
 pub fn on_congestion_event_start(
@@ -460,16 +95,386 @@ pub fn start_tested(
     }
 }
 
-fn record_reply(model: NetworkModel, fine: bool, event: Record) -> Reply
+// ---- check
+
+fn event_reply(
+    model: NetworkModel,
+    fine: bool,
+    params: Params,
+    event: Record,
+    sample: Sample,
+    acked: &[u64],
+) -> Reply
     requires { ⌜ fine ≡ modelOk model ⌝ }
-    ensures { λ r. ⌜ number r ≡ recordNumber model event ⌝ }
+    ensures { λ r. ⌜ number r ≡ eventNumber model params event sample (now (acked .entry)) ⌝ }
 {
+    let moment = model.moment;
+    let time = event.time;
     refusal(Rows {
-        stored: !fine,
-        argument: !event.ok(),
-        ..Rows::NONE
+        stored: !(fine & params.ok()),
+        argument: !(event.ok() & sample.ok()),
+        earlier: time.is_before(moment),
+        lower: is_lower(model, sample),
+        full: is_full(model, sample, acked),
     })
 }
+
+fn is_lower(model: NetworkModel, sample: Sample) -> bool
+    ensures { λ r. ⌜ r ≡ isLower model sample ⌝ }
+{
+    (sample.totals.acked < model.totals.acked) | (sample.totals.lost < model.totals.lost)
+}
+
+// Whether the event would raise a counter that is full.
+fn is_full(model: NetworkModel, sample: Sample, acked: &[u64]) -> bool
+    ensures { λ r. ⌜ r ≡ isFull model sample (now (acked .entry)) ⌝ }
+{
+    let rounds = model.rounds;
+    let answer = rounds.on_packets_acked(acked);
+    let reply = answer.reply;
+    let lost = less(sample.totals.lost, model.totals.lost);
+    !reply.is_done() | ((0 < lost) & (model.round.losses == FULL))
+}
+
+// ---- the record after the event, and from it the model, by parts
+
+// The record after the event.
+fn record_of(model: NetworkModel, event: Record, sample: Sample, ended: bool) -> Record
+    ensures { λ r. ⌜ r ≡ recordOf model event sample ended ⌝ }
+{
+    let changed = is_changed(model, sample);
+    let acked = less(sample.totals.acked, model.totals.acked);
+    let lost = less(sample.totals.lost, model.totals.lost);
+    let was = event.bandwidth;
+    let seen = sample.bandwidth;
+    let bandwidth = bandwidth_after(was, seen, changed);
+    let old = event.rtt;
+    let new = sample.rtt;
+    let rtt = rtt_after(old, new);
+    let before = event.state;
+    let since = sample.state;
+    let state = state_after(before, since);
+    let time = event.time;
+    Record {
+        time,
+        window: event.window,
+        prior: event.prior,
+        inflight: less(less(event.prior, acked), lost),
+        acked,
+        lost,
+        ended,
+        probing: event.probing,
+        bandwidth,
+        rtt,
+        state,
+    }
+}
+
+// The model after the event.
+fn model_of(
+    model: NetworkModel,
+    params: Params,
+    after: Record,
+    sample: Sample,
+    counter: RoundTripCounter,
+) -> NetworkModel
+    requires { ⌜ (model .round .lost + after .lost < 2 ^ 64)
+        × (ltb 0 (after .lost) ≡ true → eqb (model .round .losses) (2 ^ 64 - 1) ≡ false) ⌝ }
+    ensures { λ r. ⌜ r ≡ modelOf model params after sample counter ⌝ }
+{
+    let most = most_next(model, sample);
+    let least = least_next(model, after, sample);
+    let round = round_next(model, after, sample);
+    let latest = latest_next(model, after, sample);
+    let lower = lower_next(model, params, after, sample, most, round.lost);
+    let limited = limited_after(model.limited, sample.extra, after.prior, after.window);
+    let send = sample.send;
+    let ack = sample.ack;
+    let rates = Rates { send, ack };
+    let totals = sample.totals;
+    let time = after.time;
+    let mut next = model;
+    next.rounds = counter;
+    next.most = most;
+    next.least = least;
+    next.round = round;
+    next.latest = latest;
+    next.lower = lower;
+    next.limited = limited;
+    next.rates = rates;
+    next.totals = totals;
+    next.moment = time;
+    next
+}
+
+// ---- the sample: the maximum and the minimum
+
+fn most_next(model: NetworkModel, sample: Sample) -> MaxBandwidthFilter
+    ensures { λ r. ⌜ r ≡ mostNext model sample ⌝ }
+{
+    let filter = model.most;
+    let bandwidth = sample.bandwidth;
+    most_after(filter, bandwidth, is_changed(model, sample), sample.limited)
+}
+
+fn least_next(model: NetworkModel, after: Record, sample: Sample) -> MinRttFilter
+    ensures { λ r. ⌜ r ≡ leastAfter (model .least) (sample .rtt) (after .time) ⌝ }
+{
+    let filter = model.least;
+    let rtt = sample.rtt;
+    least_after(filter, rtt, after.time)
+}
+
+// ---- the round's sums
+
+fn round_next(model: NetworkModel, after: Record, sample: Sample) -> Round
+    requires { ⌜ (model .round .lost + after .lost < 2 ^ 64)
+        × (ltb 0 (after .lost) ≡ true → eqb (model .round .losses) (2 ^ 64 - 1) ≡ false) ⌝ }
+    ensures { λ r. ⌜ r ≡ roundNext model after sample ⌝ }
+{
+    let round = model.round;
+    let state = after.state;
+    round_after(
+        round,
+        after.lost,
+        delivered_by(state, after.acked, sample.totals.acked),
+        after.inflight,
+    )
+}
+
+// ---- the bounds: the lower ones, then the latest
+
+fn lower_next(
+    model: NetworkModel,
+    params: Params,
+    after: Record,
+    sample: Sample,
+    most: MaxBandwidthFilter,
+    lost: u64,
+) -> Lower
+    ensures { λ r. ⌜ r ≡ lowerNext model params after sample most lost ⌝ }
+{
+    let lower = model.lower;
+    let latest = model.latest;
+    let reduces = after.ended & !after.probing & (0 < lost);
+    lower_after(
+        lower,
+        reduces,
+        most.get(),
+        latest_raised(latest, sample),
+        after.window,
+        params.beta,
+    )
+}
+
+fn latest_next(model: NetworkModel, after: Record, sample: Sample) -> Latest
+    ensures { λ r. ⌜ r ≡ latestAfter (latestRaised (model .latest) sample) (after .ended) sample ⌝ }
+{
+    let latest = model.latest;
+    latest_after(latest_raised(latest, sample), after.ended, sample)
+}
+
+// ---- what the steps are made of, in the same order
+
+fn limited_after(was: bool, extra: u64, prior: u64, window: u64) -> bool
+    ensures { λ r. ⌜ r ≡ limitedAfter was extra prior window ⌝ }
+{
+    if extra == 0 { window <= prior } else { was }
+}
+
+fn is_changed(model: NetworkModel, sample: Sample) -> bool
+    ensures { λ r. ⌜ r ≡ isChanged model sample ⌝ }
+{
+    model.totals.acked != sample.totals.acked
+}
+
+fn bandwidth_after(was: MaybeBandwidth, sample: MaybeBandwidth, changed: bool) -> MaybeBandwidth
+    ensures { λ r. ⌜ r ≡ bandwidthAfter was sample changed ⌝ }
+{
+    let MaybeBandwidth::Set(bandwidth) = sample else {
+        return was;
+    };
+    if changed {
+        MaybeBandwidth::Set(bandwidth)
+    } else {
+        was
+    }
+}
+
+fn rtt_after(was: MaybeLength, sample: MaybeLength) -> MaybeLength
+    ensures { λ r. ⌜ r ≡ rttAfter was sample ⌝ }
+{
+    let MaybeLength::Length(rtt) = sample else {
+        return was;
+    };
+    MaybeLength::Length(rtt)
+}
+
+fn state_after(was: SendState, new: SendState) -> SendState
+    ensures { λ r. ⌜ r ≡ stateAfter was new ⌝ }
+{
+    if new.valid { new } else { was }
+}
+
+fn most_after(
+    filter: MaxBandwidthFilter,
+    sample: MaybeBandwidth,
+    changed: bool,
+    limited: bool,
+) -> MaxBandwidthFilter
+    ensures { λ r. ⌜ r ≡ mostAfter filter sample changed limited ⌝ }
+{
+    let MaybeBandwidth::Set(bandwidth) = sample else {
+        return filter;
+    };
+    let most = filter.get();
+    if changed & (!limited | (most.0 < bandwidth.0)) {
+        filter.update(bandwidth)
+    } else {
+        filter
+    }
+}
+
+fn least_after(filter: MinRttFilter, sample: MaybeLength, now: Moment) -> MinRttFilter
+    ensures { λ r. ⌜ r ≡ leastAfter filter sample now ⌝ }
+{
+    let MaybeLength::Length(rtt) = sample else {
+        return filter;
+    };
+    filter.update(rtt, now)
+}
+
+// What the event delivered since the packet was sent, or 0 where that is not known.
+fn delivered_by(state: SendState, acked: u64, total: u64) -> u64
+    ensures { λ r. ⌜ r ≡ deliveredBy state acked total ⌝ }
+{
+    if (0 < acked) & state.valid & (state.acked < total) {
+        less(total, state.acked)
+    } else {
+        0
+    }
+}
+
+// The round's sums after an event that lost so many bytes and left so many in flight.
+fn round_after(round: Round, lost: u64, delivered: u64, inflight: u64) -> Round
+    requires { ⌜ (round .lost + lost < 2 ^ 64) × (ltb 0 lost ≡ true → eqb (round .losses) (2 ^ 64 - 1) ≡ false) ⌝ }
+    ensures { λ r. ⌜ r ≡ roundAfter round lost delivered inflight ⌝ }
+{
+    let most = larger(round.delivered, delivered);
+    let least = smaller(round.least, inflight);
+    if 0 < lost {
+        Round {
+            lost: round.lost + lost,
+            losses: round.losses + 1,
+            delivered: most,
+            least,
+            limited: round.limited,
+        }
+    } else {
+        Round {
+            lost: round.lost,
+            losses: round.losses,
+            delivered: most,
+            least,
+            limited: round.limited,
+        }
+    }
+}
+
+fn latest_raised(latest: Latest, sample: Sample) -> Latest
+    ensures { λ r. ⌜ r ≡ latestRaised latest sample ⌝ }
+{
+    let was = latest.bandwidth;
+    let seen = sample.bandwidth;
+    Latest {
+        bandwidth: raised_bandwidth(was, seen),
+        inflight: larger(latest.inflight, sample.inflight),
+    }
+}
+
+fn raised_bandwidth(was: Bandwidth, sample: MaybeBandwidth) -> Bandwidth
+    ensures { λ r. ⌜ r ≡ raisedBandwidth was sample ⌝ }
+{
+    let MaybeBandwidth::Set(bandwidth) = sample else {
+        return was;
+    };
+    was.max(bandwidth)
+}
+
+fn lower_after(
+    lower: Lower,
+    reduces: bool,
+    most: Bandwidth,
+    latest: Latest,
+    window: u64,
+    beta: f32,
+) -> Lower
+    ensures { λ r. ⌜ r ≡ lowerAfter lower reduces most latest window beta ⌝ }
+{
+    if reduces {
+        lower_reduced(lower, most, latest, window, 1.0 - beta)
+    } else {
+        lower
+    }
+}
+
+// The lower bounds after a reduction by the factor b.
+fn lower_reduced(lower: Lower, most: Bandwidth, latest: Latest, window: u64, b: f32) -> Lower
+    ensures { λ r. ⌜ r ≡ lowerReduced lower most latest window b ⌝ }
+{
+    let lo = lower.bandwidth;
+    let fastest = latest.bandwidth;
+    let seed = seed_of(lo, most);
+    let slower = fastest.max(seed.mul_f32(b));
+    Lower {
+        bandwidth: MaybeBandwidth::Set(slower),
+        inflight: larger(
+            latest.inflight,
+            numbers::scale(start_of(lower.inflight, window), b),
+        ),
+    }
+}
+
+// bandwidth_lo, or the maximum where it is unset.
+fn seed_of(lo: MaybeBandwidth, most: Bandwidth) -> Bandwidth
+    ensures { λ r. ⌜ r ≡ seedOf lo most ⌝ }
+{
+    let MaybeBandwidth::Set(bandwidth) = lo else {
+        return most;
+    };
+    bandwidth
+}
+
+// inflight_lo, or the window where it is unset.
+fn start_of(lo: u64, window: u64) -> u64
+    ensures { λ r. ⌜ r ≡ startOf lo window ⌝ }
+{
+    if lo == UNSET { window } else { lo }
+}
+
+fn latest_after(latest: Latest, ended: bool, sample: Sample) -> Latest
+    ensures { λ r. ⌜ r ≡ latestAfter latest ended sample ⌝ }
+{
+    if ended {
+        let was = latest.bandwidth;
+        let seen = sample.bandwidth;
+        Latest {
+            bandwidth: seed_of(seen, was),
+            inflight: newest(latest.inflight, sample.inflight),
+        }
+    } else {
+        latest
+    }
+}
+
+// The sample, if it is above 0.
+fn newest(was: u64, sample: u64) -> u64
+    ensures { λ r. ⌜ r ≡ newestOf was sample ⌝ }
+{
+    if 0 < sample { sample } else { was }
+}
+
+// ---- the finish
 
 // The event is over: the round's sums begin anew if it ended the round.
 pub fn on_congestion_event_finish(model: NetworkModel, event: Record) -> Changed
@@ -491,4 +496,15 @@ pub fn finish_tested(model: NetworkModel, fine: bool, event: Record) -> Changed
         next.round = Round::new();
     }
     Changed { reply, model: next }
+}
+
+fn record_reply(model: NetworkModel, fine: bool, event: Record) -> Reply
+    requires { ⌜ fine ≡ modelOk model ⌝ }
+    ensures { λ r. ⌜ number r ≡ recordNumber model event ⌝ }
+{
+    refusal(Rows {
+        stored: !fine,
+        argument: !event.ok(),
+        ..Rows::NONE
+    })
 }

@@ -33,61 +33,7 @@ pub struct Decided {
     pub yes: bool,
 }
 
-fn judged_reply(model: NetworkModel, params: Params, event: Record, full: bool) -> Reply
-    ensures { λ r. ⌜ number r ≡ judgedNumber model params event full ⌝ }
-{
-    refusal(Rows {
-        stored: !(model.ok() & params.ok()),
-        argument: !event.ok(),
-        full,
-        ..Rows::NONE
-    })
-}
-
-fn is_given(sample: MaybeLength) -> bool
-    ensures { λ r. ⌜ r ≡ isGiven sample ⌝ }
-{
-    match sample {
-        MaybeLength::Missing => false,
-        MaybeLength::Length(_) => true,
-    }
-}
-
-// Whether the stored minimum is at least a period old.
-fn is_due(now: Moment, filter: MinRttFilter, period: Duration) -> bool
-    ensures { λ r. ⌜ r ≡ isDue now filter period ⌝ }
-{
-    let timestamp = filter.timestamp;
-    !now.is_before(timestamp.plus(period))
-}
-
-fn least_expired(
-    sample: MaybeLength,
-    now: Moment,
-    filter: MinRttFilter,
-    period: Duration,
-) -> MinRttFilter
-    ensures { λ r. ⌜ r ≡ leastExpired sample now filter period ⌝ }
-{
-    let MaybeLength::Length(rtt) = sample else {
-        return filter;
-    };
-    if is_due(now, filter, period) {
-        filter.force_update(rtt, now)
-    } else {
-        filter
-    }
-}
-
-fn expired(model: NetworkModel, params: Params, event: Record) -> NetworkModel
-    ensures { λ r. ⌜ r ≡ expireNext model params event ⌝ }
-{
-    let rtt = event.rtt;
-    let filter = least_expired(rtt, event.time, model.least, params.period);
-    let mut next = model;
-    next.least = filter;
-    next
-}
+// ---- maybe_expire_min_rtt
 
 // Whether the minimum round trip has expired; the event's sample then takes its place.
 pub fn maybe_expire_min_rtt(model: NetworkModel, params: Params, event: Record) -> Decided
@@ -109,35 +55,52 @@ pub fn maybe_expire_min_rtt(model: NetworkModel, params: Params, event: Record) 
     )
 }
 
-fn decide(reply: Reply, model: NetworkModel, next: NetworkModel, yes: bool) -> Decided
-    ensures reply { λ r. ⌜ r .reply ≡ reply ⌝ }
-    ensures model { λ r. ⌜ r .model ≡ settled (number reply) next model ⌝ }
-    ensures yes { λ r. ⌜ r .yes ≡ settled (number reply) yes false ⌝ }
+fn expired(model: NetworkModel, params: Params, event: Record) -> NetworkModel
+    ensures { λ r. ⌜ r ≡ expireNext model params event ⌝ }
 {
-    if reply.is_done() {
-        Decided {
-            reply,
-            model: next,
-            yes,
-        }
+    let rtt = event.rtt;
+    let filter = least_expired(rtt, event.time, model.least, params.period);
+    let mut next = model;
+    next.least = filter;
+    next
+}
+
+fn least_expired(
+    sample: MaybeLength,
+    now: Moment,
+    filter: MinRttFilter,
+    period: Duration,
+) -> MinRttFilter
+    ensures { λ r. ⌜ r ≡ leastExpired sample now filter period ⌝ }
+{
+    let MaybeLength::Length(rtt) = sample else {
+        return filter;
+    };
+    if is_due(now, filter, period) {
+        filter.force_update(rtt, now)
     } else {
-        Decided {
-            reply,
-            model,
-            yes: false,
-        }
+        filter
     }
 }
 
-fn too_high(round: Round, state: SendState, limit: u64, threshold: f32) -> bool
-    ensures { λ r. ⌜ r ≡ isTooHigh round state limit threshold ⌝ }
+fn is_given(sample: MaybeLength) -> bool
+    ensures { λ r. ⌜ r ≡ isGiven sample ⌝ }
 {
-    state.valid
-        & (limit <= round.losses)
-        & (0 < state.inflight)
-        & (0 < round.lost)
-        & (numbers::scale(state.inflight, threshold) < round.lost)
+    match sample {
+        MaybeLength::Missing => false,
+        MaybeLength::Length(_) => true,
+    }
 }
+
+// Whether the stored minimum is at least a period old.
+fn is_due(now: Moment, filter: MinRttFilter, period: Duration) -> bool
+    ensures { λ r. ⌜ r ≡ isDue now filter period ⌝ }
+{
+    let timestamp = filter.timestamp;
+    !now.is_before(timestamp.plus(period))
+}
+
+// ---- is_inflight_too_high
 
 // Whether the round lost more than the threshold allows of what was in flight at the send.
 pub fn is_inflight_too_high(model: NetworkModel, params: Params, event: Record, limit: u64) -> Flag
@@ -154,67 +117,17 @@ pub fn is_inflight_too_high(model: NetworkModel, params: Params, event: Record, 
     )
 }
 
-fn has_grown(growth: Growth, most: Bandwidth, params: Params) -> bool
-    ensures { λ r. ⌜ r ≡ hasGrown growth most params ⌝ }
+fn too_high(round: Round, state: SendState, limit: u64, threshold: f32) -> bool
+    ensures { λ r. ⌜ r ≡ isTooHigh round state limit threshold ⌝ }
 {
-    let baseline = growth.baseline;
-    let threshold = baseline.mul_f32(params.growth);
-    threshold.0 <= most.0
+    state.valid
+        & (limit <= round.losses)
+        & (0 < state.inflight)
+        & (0 < round.lost)
+        & (numbers::scale(state.inflight, threshold) < round.lost)
 }
 
-fn counts_flat(growth: Growth, state: SendState) -> bool
-    ensures { λ r. ⌜ r ≡ countsFlat growth state ⌝ }
-{
-    state.valid & !(growth.ignore & state.limited)
-}
-
-// rounds_without_bandwidth_growth after a round without growth.
-fn flat_after(growth: Growth, state: SendState) -> u64
-    requires { ⌜ (countsFlat growth state ≡ true → eqb (growth .flat) (2 ^ 64 - 1) ≡ false) ⌝ }
-    ensures { λ r. ⌜ r ≡ flatAfter growth state ⌝ }
-{
-    if counts_flat(growth, state) {
-        growth.flat + 1
-    } else {
-        growth.flat
-    }
-}
-
-fn growth_flat(growth: Growth, state: SendState, params: Params) -> Growth
-    requires { ⌜ (countsFlat growth state ≡ true → eqb (growth .flat) (2 ^ 64 - 1) ≡ false) ⌝ }
-    ensures { λ r. ⌜ r ≡ growthFlat growth state params ⌝ }
-{
-    let flat = flat_after(growth, state);
-    let mut next = growth;
-    next.flat = flat;
-    next.reached = growth.reached | (state.valid & (params.rounds <= flat) & !state.limited);
-    next
-}
-
-// The growth after the maximum is compared with the baseline.
-fn growth_after(growth: Growth, most: Bandwidth, state: SendState, params: Params) -> Growth
-    requires { ⌜ (hasGrown growth most params ≡ false → countsFlat growth state ≡ true
-        → eqb (growth .flat) (2 ^ 64 - 1) ≡ false) ⌝ }
-    ensures { λ r. ⌜ r ≡ growthAfter growth most state params ⌝ }
-{
-    if has_grown(growth, most, params) {
-        let mut next = growth;
-        next.baseline = most;
-        next.flat = 0;
-        next
-    } else {
-        growth_flat(growth, state, params)
-    }
-}
-
-fn growth_full(model: NetworkModel, params: Params, event: Record) -> bool
-    ensures { λ r. ⌜ r ≡ growthFull model params event ⌝ }
-{
-    let most = model.most;
-    let growth = model.growth;
-    let state = event.state;
-    !has_grown(growth, most.get(), params) & counts_flat(growth, state) & (growth.flat == FULL)
-}
+// ---- has_bandwidth_growth
 
 // Whether the maximum bandwidth has grown past the threshold since the baseline was set.
 pub fn has_bandwidth_growth(model: NetworkModel, params: Params, event: Record) -> Decided
@@ -251,11 +164,99 @@ pub fn has_bandwidth_growth(model: NetworkModel, params: Params, event: Record) 
     }
 }
 
-// Whether least is below n + more.
-fn below_sum(least: u64, n: u64, more: u64) -> bool
-    ensures { λ r. ⌜ r ≡ ltb least (n + more) ⌝ }
+fn growth_full(model: NetworkModel, params: Params, event: Record) -> bool
+    ensures { λ r. ⌜ r ≡ growthFull model params event ⌝ }
 {
-    if least < more { true } else { least - more < n }
+    let most = model.most;
+    let growth = model.growth;
+    let state = event.state;
+    !has_grown(growth, most.get(), params) & counts_flat(growth, state) & (growth.flat == FULL)
+}
+
+// The growth after the maximum is compared with the baseline.
+fn growth_after(growth: Growth, most: Bandwidth, state: SendState, params: Params) -> Growth
+    requires { ⌜ (hasGrown growth most params ≡ false → countsFlat growth state ≡ true
+        → eqb (growth .flat) (2 ^ 64 - 1) ≡ false) ⌝ }
+    ensures { λ r. ⌜ r ≡ growthAfter growth most state params ⌝ }
+{
+    if has_grown(growth, most, params) {
+        let mut next = growth;
+        next.baseline = most;
+        next.flat = 0;
+        next
+    } else {
+        growth_flat(growth, state, params)
+    }
+}
+
+fn growth_flat(growth: Growth, state: SendState, params: Params) -> Growth
+    requires { ⌜ (countsFlat growth state ≡ true → eqb (growth .flat) (2 ^ 64 - 1) ≡ false) ⌝ }
+    ensures { λ r. ⌜ r ≡ growthFlat growth state params ⌝ }
+{
+    let flat = flat_after(growth, state);
+    let mut next = growth;
+    next.flat = flat;
+    next.reached = growth.reached | (state.valid & (params.rounds <= flat) & !state.limited);
+    next
+}
+
+// rounds_without_bandwidth_growth after a round without growth.
+fn flat_after(growth: Growth, state: SendState) -> u64
+    requires { ⌜ (countsFlat growth state ≡ true → eqb (growth .flat) (2 ^ 64 - 1) ≡ false) ⌝ }
+    ensures { λ r. ⌜ r ≡ flatAfter growth state ⌝ }
+{
+    if counts_flat(growth, state) {
+        growth.flat + 1
+    } else {
+        growth.flat
+    }
+}
+
+fn has_grown(growth: Growth, most: Bandwidth, params: Params) -> bool
+    ensures { λ r. ⌜ r ≡ hasGrown growth most params ⌝ }
+{
+    let baseline = growth.baseline;
+    let threshold = baseline.mul_f32(params.growth);
+    threshold.0 <= most.0
+}
+
+fn counts_flat(growth: Growth, state: SendState) -> bool
+    ensures { λ r. ⌜ r ≡ countsFlat growth state ⌝ }
+{
+    state.valid & !(growth.ignore & state.limited)
+}
+
+// ---- check_persistent_queue
+
+// The round is judged for a queue that does not drain.
+pub fn check_persistent_queue(model: NetworkModel, params: Params, gain: f32) -> Changed
+    ensures reply { λ r. ⌜ number (r .reply) ≡ queueNumber model params gain ⌝ }
+    ensures model { λ r. ⌜ r .model ≡ settled (queueNumber model params gain) (queueNext model params gain) model ⌝ }
+{
+    let queueing = is_queueing(model, gain);
+    let reply = queue_reply(model, params, gain, queueing);
+    if reply.is_done() {
+        let growth = model.growth;
+        let after = queue_after(growth, queueing, params);
+        let mut next = model;
+        next.growth = after;
+        Changed { reply, model: next }
+    } else {
+        Changed { reply, model }
+    }
+}
+
+fn queue_reply(model: NetworkModel, params: Params, gain: f32, queueing: bool) -> Reply
+    requires { ⌜ queueing ≡ isQueueing model gain ⌝ }
+    ensures { λ r. ⌜ number r ≡ queueNumber model params gain ⌝ }
+{
+    let full = queueing & (model.growth.queueing == FULL);
+    refusal(Rows {
+        stored: !(model.ok() & params.ok()),
+        argument: !gain_ok(gain),
+        full,
+        ..Rows::NONE
+    })
 }
 
 fn is_queueing(model: NetworkModel, gain: f32) -> bool
@@ -267,6 +268,13 @@ fn is_queueing(model: NetworkModel, gain: f32) -> bool
     let target = model.product(best, gain);
     let plain = model.product(best, 1.0);
     !(least < target) & !below_sum(least, plain, 2 * NetworkModel::DEFAULT_MSS)
+}
+
+// Whether least is below n + more.
+fn below_sum(least: u64, n: u64, more: u64) -> bool
+    ensures { λ r. ⌜ r ≡ ltb least (n + more) ⌝ }
+{
+    if least < more { true } else { least - more < n }
 }
 
 fn queue_after(growth: Growth, queueing: bool, params: Params) -> Growth
@@ -285,33 +293,35 @@ fn queue_after(growth: Growth, queueing: bool, params: Params) -> Growth
     }
 }
 
-fn queue_reply(model: NetworkModel, params: Params, gain: f32, queueing: bool) -> Reply
-    requires { ⌜ queueing ≡ isQueueing model gain ⌝ }
-    ensures { λ r. ⌜ number r ≡ queueNumber model params gain ⌝ }
+// ---- what the calls share
+
+fn judged_reply(model: NetworkModel, params: Params, event: Record, full: bool) -> Reply
+    ensures { λ r. ⌜ number r ≡ judgedNumber model params event full ⌝ }
 {
-    let full = queueing & (model.growth.queueing == FULL);
     refusal(Rows {
         stored: !(model.ok() & params.ok()),
-        argument: !gain_ok(gain),
+        argument: !event.ok(),
         full,
         ..Rows::NONE
     })
 }
 
-// The round is judged for a queue that does not drain.
-pub fn check_persistent_queue(model: NetworkModel, params: Params, gain: f32) -> Changed
-    ensures reply { λ r. ⌜ number (r .reply) ≡ queueNumber model params gain ⌝ }
-    ensures model { λ r. ⌜ r .model ≡ settled (queueNumber model params gain) (queueNext model params gain) model ⌝ }
+fn decide(reply: Reply, model: NetworkModel, next: NetworkModel, yes: bool) -> Decided
+    ensures reply { λ r. ⌜ r .reply ≡ reply ⌝ }
+    ensures model { λ r. ⌜ r .model ≡ settled (number reply) next model ⌝ }
+    ensures yes { λ r. ⌜ r .yes ≡ settled (number reply) yes false ⌝ }
 {
-    let queueing = is_queueing(model, gain);
-    let reply = queue_reply(model, params, gain, queueing);
     if reply.is_done() {
-        let growth = model.growth;
-        let after = queue_after(growth, queueing, params);
-        let mut next = model;
-        next.growth = after;
-        Changed { reply, model: next }
+        Decided {
+            reply,
+            model: next,
+            yes,
+        }
     } else {
-        Changed { reply, model }
+        Decided {
+            reply,
+            model,
+            yes: false,
+        }
     }
 }
