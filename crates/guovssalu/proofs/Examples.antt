@@ -17,7 +17,7 @@ use lib.Ieee.{toBits, ofBits}
 use Rattle.words.specs.Words.{numberAt, lowBytes, wordsAt, allBytes}
 use Rattle.layout.specs.NetworkModel.{modelOf, modelWords}
 use Rattle.layout.specs.Cycle.{cycleOf, cycleWords}
-use Rattle.layout.specs.Params.{paramsOf}
+use Rattle.arguments.specs.Params.{paramsOf}
 use Rattle.dispatch.specs.OneCall.{answerWords}
 use Rattle.dispatch.specs.Turn.{startTurn, sendTurn, turnOf}
 use Rattle.guovssalu.specs.Examples.{exportExamples, startExamples}

@@ -83,4 +83,3 @@ guovssalu-run-spec =
     (λ c. search needs)
     (λ c. search needs)
     returns-2)
-
