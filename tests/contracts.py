@@ -28,7 +28,7 @@ LEFT_OUT = {"number", "settled", "noBandwidth", "noLength", "noMoment", "noGain"
 NAME = re.compile(r"[A-Za-z][\w′-]*")
 SPAN = re.compile(r"`([^`]*)`")
 CELL = re.compile(r"(?:`[^`]*`|\\\||[^|`])+")
-# Up to the brace of the body. A clause has one line.
+# Up to the brace of the body.
 FUNCTION = re.compile(r'^ *pub (?:extern "C" |const |unsafe )*fn (\w+)(.*?)(?:\n *\{| \{)\n', re.M | re.S)
 DEFINED = re.compile(r"^(?:abbrev |unfoldable |opaque )?pub (?!mod )(?:record |data )?([A-Za-z][\w′-]*)", re.M)
 DECLARED = re.compile(
@@ -49,6 +49,13 @@ def exists(path):
     return os.path.exists(os.path.join(ROOT, path))
 
 
+def is_reached(crate, module, names):
+    """Whether another crate can name a thing of a module: the module is public, or the thing is named again in lib.rt."""
+    lib = read(f"crates/{crate}/src/lib.rt")
+    again = re.findall(rf"^pub use (?:crate::)?{module}::(\w+);", lib, re.M)
+    return module == "lib" or re.search(rf"^pub mod {module};", lib, re.M) or set(names) & set(again)
+
+
 def functions(crate):
     """The public functions, by their names on the page: the signature and what is promised."""
     for path in files(f"crates/{crate}/src/**/*.rt"):
@@ -56,6 +63,8 @@ def functions(crate):
         for found in FUNCTION.finditer(text):
             above = re.findall(r"^(?:impl (?:\w+ for )?(\w+)|\})", text[: found.start()], re.M)
             owner = above[-1] + "::" if above and above[-1] else ""
+            if not is_reached(crate, os.path.splitext(os.path.basename(path))[0], [found.group(1), owner.rstrip(":")]):
+                continue
             clauses = re.split(r"\n *(?=requires|ensures)", found.group(2))
             promised = [re.sub(r"^ensures \w* ?\{", "", clause) for clause in clauses if clause.startswith("ensures")]
             yield owner + found.group(1), (clauses[0], " ".join(" ".join(promised).split()))

@@ -2,7 +2,7 @@
 the sizes, the replies. tests/table.py calls `faults`; the lists below say where to look.
 
 Each check takes paths and gives lines: file, what stands there, what should. Of the words it is reading that is held:
-that what was written is read back as it was is proved (crates/encoding/specs/RoundTrip.antt)."""
+that what was written is read back as it was is proved (crates/arguments/specs/RoundTrip.antt)."""
 
 import glob
 import os
@@ -18,9 +18,9 @@ CHOICES = {
     "crates/calls/src/ask.rt": {},
     "crates/calls/src/change.rt": {},
     "crates/calls/src/enter.rt": {},
-    "crates/calls/src/judge.rt": {},
-    "crates/turns/src/turn.rt": {"started": "start"},
-    "crates/exports/src/model_run.rt": {
+    "crates/calls/src/question.rt": {},
+    "crates/dispatch/src/turn.rt": {"started": "start"},
+    "crates/guovssalu/src/model_run.rt": {
         "send": "on_packet_sent",
         "start": "on_congestion_event_start",
         "end": "on_congestion_event_finish",
@@ -29,30 +29,30 @@ CHOICES = {
 # Definitions in which `cond (eqb call 12) (..)` does, and the column of [definitions] by which a row is known. A file may
 # have a part of the calls; together those of one column have all of them.
 ROWS = {
-    "row": ["crates/calls/specs/Ask.antt", "crates/calls/specs/Change.antt", "crates/calls/specs/Enter.antt", "crates/calls/specs/Judge.antt", "crates/turns/specs/Turn.antt"],
+    "row": ["crates/calls/specs/Ask.antt", "crates/calls/specs/Change.antt", "crates/calls/specs/Enter.antt", "crates/calls/specs/Question.antt", "crates/dispatch/specs/Turn.antt"],
     "step": ["crates/theorems/specs/Steps.antt"],
 }
 # Functions that read a section's words, and the word at which the section begins for them.
 READERS = [
-    ("crates/encoding/src/network_model.rt", "model_of", "state", 0),
-    ("crates/encoding/src/cycle.rt", "cycle_of", "state", 0),
-    ("crates/encoding/src/record.rt", "record_of", "event", "EVENT_IN_CALL"),
-    ("crates/encoding/src/params.rt", "params_of", "params", "PARAMS_IN_CALL"),
-    ("crates/encoding/src/sample.rt", "sample_of", "sample", 0),
-    ("crates/encoding/specs/NetworkModel.antt", "modelOf", "state", 0),
-    ("crates/encoding/specs/Cycle.antt", "cycleOf", "state", 0),
-    ("crates/encoding/specs/Record.antt", "recordFrom", "event", 0),
-    ("crates/encoding/specs/Params.antt", "paramsOf", "params", "PARAMS_IN_CALL"),
-    ("crates/encoding/specs/Sample.antt", "sampleOf", "sample", 0),
+    ("crates/layout/src/network_model.rt", "model_of", "state", 0),
+    ("crates/layout/src/cycle.rt", "cycle_of", "state", 0),
+    ("crates/arguments/src/record.rt", "record_of", "event", "EVENT_IN_CALL"),
+    ("crates/arguments/src/params.rt", "params_of", "params", "PARAMS_IN_CALL"),
+    ("crates/arguments/src/sample.rt", "sample_of", "sample", 0),
+    ("crates/layout/specs/NetworkModel.antt", "modelOf", "state", 0),
+    ("crates/layout/specs/Cycle.antt", "cycleOf", "state", 0),
+    ("crates/arguments/specs/Record.antt", "recordFrom", "event", 0),
+    ("crates/arguments/specs/Params.antt", "paramsOf", "params", "PARAMS_IN_CALL"),
+    ("crates/arguments/specs/Sample.antt", "sampleOf", "sample", 0),
 ]
 # Functions that test the form of all the words of a section that have one.
 FORMS = [
-    ("crates/exports/src/form.rt", None, "state", 0),
-    ("crates/exports/specs/Inner.antt", None, "state", 0),
-    ("crates/encoding/src/record.rt", "record_fits", "event", "EVENT_IN_CALL"),
-    ("crates/encoding/specs/Record.antt", "recordFits", "event", 0),
-    ("crates/encoding/src/sample.rt", "sample_fits", "sample", 0),
-    ("crates/encoding/specs/Sample.antt", "sampleFits", "sample", 0),
+    ("crates/layout/src/form.rt", None, "state", 0),
+    ("crates/layout/specs/Form.antt", None, "state", 0),
+    ("crates/arguments/src/record.rt", "record_fits", "event", "EVENT_IN_CALL"),
+    ("crates/arguments/specs/Record.antt", "recordFits", "event", 0),
+    ("crates/arguments/src/sample.rt", "sample_fits", "sample", 0),
+    ("crates/arguments/specs/Sample.antt", "sampleFits", "sample", 0),
 ]
 # Phrases of the source and of definitions that have a size, and which.
 WORDS = ("STATE_WORDS", "CALL_WORDS", "ANSWER_WORDS", "EVENT_WORDS", "SAMPLES_WORDS", "SLOPE_WORDS", "MOST_ACKED")
@@ -72,15 +72,15 @@ PHRASES = [
     (r"room < (\d+) \* \(src|ltb room \((\d+) \* pairs", ("SAMPLES_BYTES",)),
     (r"or_short\(reply, room < (\d+)\)|\(ltb room (\d+)\)", ("SLOPE_BYTES",)),
 ]
-SIZED = [f"crates/{crate}/{folder}/*" for crate in ("encoding", "calls", "turns", "exports", "theorems") for folder in ("src", "specs")]
+SIZED = [f"crates/{crate}/{folder}/*" for crate in ("words", "layout", "arguments", "calls", "dispatch", "guovssalu", "theorems") for folder in ("src", "specs")]
 # Where a number above every word and every call, and below 1000, is a size, or one of these: bits of a word, values of a
 # byte, and what is the program `serve`'s own (oracle/README.md, "The frames").
 COUNTED = SIZED + ["crates/serve/src/*"]
 OTHERS = {64, 256} | {98, 99, 100, 165, 360, 528}
 # Worked examples, and a count of lines.
-NOT_COUNTED = ["crates/exports/specs/Examples.antt", "crates/theorems/specs/Examples.antt", "crates/theorems/specs/Theorems.antt"]
+NOT_COUNTED = ["crates/guovssalu/specs/Examples.antt", "crates/theorems/specs/Examples.antt", "crates/theorems/specs/Theorems.antt"]
 # The replies' numbers.
-REPLIES = ["crates/filters/src/reply.rt", "crates/filters/specs/Reply.antt"]
+REPLIES = ["crates/units/src/reply.rt", "crates/units/specs/Reply.antt"]
 
 
 # ---- reading
@@ -92,9 +92,9 @@ def read(path):
 
 
 def code(path):
-    """The text without comments, and of a source without its contracts, each of one line."""
+    """The text without comments, and of a source without its contracts."""
     text = read(path)
-    text = re.sub(r"^ *(?:ensures|requires)\b.*$", "", text, flags=re.M) if path.endswith(".rt") else text
+    text = re.sub(r"^ *(?:ensures|requires)\b[^⌝]*⌝ }$", "", text, flags=re.M) if path.endswith(".rt") else text
     return re.sub(r"//.*" if path.endswith(".rt") else r"--.*", "", text)
 
 
