@@ -27,8 +27,8 @@ use Rattle.state.specs.declared.parts.Round.{Round}
 use Rattle.state.specs.declared.parts.Totals.{Totals}
 use Rattle.state.specs.Bounds.{within, bytesOk, bytesOrUnsetOk, totalOk, momentOk, lengthOk, bandwidthOk, maybeOk, gainOk}
 use Rattle.state.specs.Params.{betaOk, paramsOk}
-use Rattle.state.specs.Parts.{mostOk, leastOk, roundOk, latestOk, lowerOk, totalsOk}
-use Rattle.state.specs.NetworkModel.{modelTests, modelOk}
+use Rattle.state.specs.Parts.{roundOk, latestOk, lowerOk, totalsOk}
+use Rattle.state.specs.NetworkModel.{mostOk, leastOk, modelTests, modelOk}
 use Rattle.state.specs.NetworkModel.{withRound, withLeast, withGrowth}
 use Rattle.state.specs.Parts.{roundNew}
 use Rattle.laws.proofs.Model.{round-new-ok}

@@ -18,8 +18,8 @@ use Rattle.state.specs.declared.parts.Lower.{Lower}
 use Rattle.state.specs.declared.parts.Totals.{Totals}
 use Rattle.state.specs.Bounds.{bytesOk, bytesOrUnsetOk, totalOk, lengthOk, fractionOk, gainOk, bandwidthOk, maybeOk, momentOk}
 use Rattle.state.specs.Params.{betaOk, thresholdOk, paramsOk}
-use Rattle.state.specs.Parts.{mostOk, roundOk, lowerOk}
-use Rattle.state.specs.NetworkModel.{modelTests, modelOk}
+use Rattle.state.specs.Parts.{roundOk, lowerOk}
+use Rattle.state.specs.NetworkModel.{mostOk, modelTests, modelOk}
 use Rattle.state.specs.declared.params.Params.{Params}
 use Rattle.state.specs.NetworkModel.{withMost, withRounds, withRound, withLower, withGrowth, withMoment, withHigh, withGains, withLeast, growthRestarted, modelNew, startNumber, storedNumber, givenNumber, restartNext, capNext, clearInflightNext, clearBandwidthNext, advanceNext}
 use Rattle.changes.specs.Changes.{sentNumber, sentNext, reachedNext, pacingNext, cwndNext, postponed, postponeNumber, postponeNext}

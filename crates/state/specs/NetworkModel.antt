@@ -18,10 +18,10 @@ use Rattle.state.specs.declared.parts.Lower.{Lower}
 use Rattle.state.specs.declared.parts.Round.{Round}
 use Rattle.state.specs.declared.parts.MaybeBandwidth.the-variants.{Unset}
 use Rattle.state.specs.declared.refusals.Rows.{Rows}
-use Rattle.state.specs.Bounds.{bytesOrUnsetOk, momentOk, lengthOk, all}
+use Rattle.state.specs.Bounds.{bytesOrUnsetOk, momentOk, lengthOk, bandwidthOk, all}
 use Rattle.state.specs.Refusals.{noRows, stored, argument, full, lowest}
 use Rattle.state.specs.Params.{paramsOk}
-use Rattle.state.specs.Parts.{mostOk, leastOk, roundOk, latestOk, lowerOk, gainsOk, growthOk, ratesOk, totalsOk, roundNew, lowerCapped}
+use Rattle.state.specs.Parts.{roundOk, latestOk, lowerOk, gainsOk, growthOk, ratesOk, totalsOk, roundNew, lowerCapped}
 use Rattle.filters.specs.declared.round_trip_counter.RoundTripCounter.{RoundTripCounter}
 use Rattle.units.specs.Bandwidth.{timesF32, bytesPerPeriod}
 use Rattle.filters.specs.MaxBandwidthFilter.{maxNew, maxAdvance}
@@ -30,6 +30,12 @@ use Rattle.filters.specs.RoundTripCounter.{roundsNew, roundsRestart}
 use Rattle.state.specs.Answers.{settled, noLength, noMoment}
 
 -- ---- the bounds, part by part. "Counters and packet numbers are free"
+abbrev pub mostOk : MaxBandwidthFilter → Bool
+mostOk f = bandwidthOk (f .slot0) && bandwidthOk (f .slot1)
+
+abbrev pub leastOk : MinRttFilter → Bool
+leastOk f = lengthOk (f .rtt) && momentOk (f .timestamp)
+
 unfoldable pub modelTests : NetworkModel → List Bool
 modelTests m =
     mostOk (m .most)

@@ -4,8 +4,6 @@ use Prim.Native.Nat.{ℕ, _-_, _^_, min}
 use mathlib.Core.Bool.{Bool, false, cond, _&&_, _||_}
 use mathlib.Core.List.{[], _∷_}
 use lib.Dec.{leb, eqb}
-use Rattle.filters.specs.declared.max_bandwidth_filter.MaxBandwidthFilter.{MaxBandwidthFilter}
-use Rattle.filters.specs.declared.min_rtt_filter.MinRttFilter.{MinRttFilter}
 use Rattle.state.specs.declared.parts.Gains.{Gains}
 use Rattle.state.specs.declared.parts.Growth.{Growth}
 use Rattle.state.specs.declared.parts.Latest.{Latest}
@@ -13,15 +11,9 @@ use Rattle.state.specs.declared.parts.Lower.{Lower}
 use Rattle.state.specs.declared.parts.Rates.{Rates}
 use Rattle.state.specs.declared.parts.Round.{Round}
 use Rattle.state.specs.declared.parts.Totals.{Totals}
-use Rattle.state.specs.Bounds.{all, bytesOk, bytesOrUnsetOk, totalOk, momentOk, lengthOk, bandwidthOk, maybeOk, gainOk}
+use Rattle.state.specs.Bounds.{all, bytesOk, bytesOrUnsetOk, totalOk, bandwidthOk, maybeOk, gainOk}
 
--- ---- the stored numbers
-abbrev pub mostOk : MaxBandwidthFilter → Bool
-mostOk f = bandwidthOk (f .slot0) && bandwidthOk (f .slot1)
-
-abbrev pub leastOk : MinRttFilter → Bool
-leastOk f = lengthOk (f .rtt) && momentOk (f .timestamp)
-
+-- ---- the bounds
 -- "Bytes lost in the round must not exceed the stored total lost, nor bytes delivered in the round the stored total
 -- acked"
 unfoldable pub roundOk : Round → Totals → Bool
