@@ -1,3 +1,4 @@
 -- Laws, and theorems about the contracts.
 pub mod Room
 pub mod Determined
+pub mod Examples

@@ -1,11 +1,16 @@
 -- One event, in order: document 01, "One event, in order"; network_model.rs, on_congestion_event_start and
 -- adapt_lower_bounds in BwLoMode::Default. m is the model before the event, e its record as handed in, s what the
 -- sampler says to it, and `acked` the packet numbers acked.
-use Prim.Native.Nat.{ℕ, min, max, _+_, _-_, _^_}
-use mathlib.Core.Bool.{Bool, false, cond, not, _&&_, _||_}
-use mathlib.Core.List.{List}
+--
+-- The way of an event. Check: the table's rows (`eventRows`). Round: whether one ends (`roundsEnded`, `roundsAcked`).
+-- Sample: the record, the filters and the round's sums (`recordOf`, `mostNext`, `leastAfter`, `roundNext`). Bounds:
+-- the lower ones, then the latest (`lowerNext`, `latestAfter`). Settle: all is stored (`modelOf`). Last on the page
+-- three events are worked out, step by step.
+use Prim.Native.Nat.{ℕ, min, max, _+_, _-_, _*_, _^_}
+use mathlib.Core.Bool.{Bool, true, false, cond, not, _&&_, _||_}
+use mathlib.Core.List.{List, [], _∷_}
 use lib.Dec.{ltb, leb, eqb}
-use lib.Ieee.{Float}
+use lib.Ieee.{Float, binary32, ofBits}
 use Rattle.units.specs.declared.bandwidth.Bandwidth.{Bandwidth}
 use Rattle.filters.specs.declared.max_bandwidth_filter.MaxBandwidthFilter.{MaxBandwidthFilter}
 use Rattle.filters.specs.declared.min_rtt_filter.MinRttFilter.{MinRttFilter}
@@ -14,7 +19,7 @@ use Rattle.units.specs.declared.time.Moment.{Moment}
 use Rattle.units.specs.Bandwidth.{largerOf, timesF32}
 use Rattle.filters.specs.MaxBandwidthFilter.{maxGet, maxUpdate}
 use Rattle.filters.specs.MinRttFilter.{minUpdate}
-use Rattle.filters.specs.RoundTripCounter.{roundsAcked, roundsEnded, roundsFull}
+use Rattle.filters.specs.RoundTripCounter.{roundsSent, roundsAcked, roundsEnded, roundsFull}
 use Rattle.units.specs.Time.{isBefore}
 use Rattle.numbers.specs.Scaling.{scaled, complement}
 use Rattle.state.specs.declared.network_model.NetworkModel.{NetworkModel}
@@ -25,7 +30,7 @@ use Rattle.state.specs.declared.parts.MaybeBandwidth.{MaybeBandwidth}
 use Rattle.state.specs.declared.parts.MaybeBandwidth.the-variants.{Unset, Set}
 use Rattle.state.specs.declared.parts.Round.{Round}
 use Rattle.state.specs.declared.refusals.Rows.{Rows}
-use Rattle.state.specs.NetworkModel.{modelOk, withRound, givenRows}
+use Rattle.state.specs.NetworkModel.{modelOk, withRounds, withRound, one, startModel, givenRows}
 use Rattle.state.specs.Params.{paramsOk}
 use Rattle.state.specs.declared.congestion_event.MaybeLength.{MaybeLength}
 use Rattle.state.specs.declared.congestion_event.MaybeLength.the-variants.{Missing, Length}
@@ -216,3 +221,112 @@ recordNumber m e = lowest (givenRows m (recordOk e))
 
 unfoldable pub finishNext : NetworkModel → Record → NetworkModel
 finishNext m e = cond (e .ended) (withRound m roundNew) m
+
+-- ---- worked out: three lossy rounds at beta 0.3, as in document 01's example 8. In each a packet is sent with 1300
+-- bytes in flight in a window of 1300, and an event, 100 ms after the one before, acks 1000 bytes and loses 100
+abbrev usual : Params
+usual =
+    record {
+      beta = ofBits binary32 0x3e99_999a;
+      loss = one;
+      headroom = one;
+      growth = one;
+      cwnd = one;
+      pacing = one;
+      rounds = 3;
+      queueing = 0;
+      period = record { 0 = 0 };
+      base = record { 0 = 0 };
+      ignore = false;
+    }
+
+-- a fresh model with a round trip of 200 ms
+abbrev fresh : NetworkModel
+fresh = startModel usual (record { 0 = 200_000_000 }) (record { 0 = 0 })
+
+-- packet n is sent: of that an event reads the last number alone
+abbrev sends : (n : ℕ) → NetworkModel → NetworkModel
+sends n m = withRounds m (roundsSent (m .rounds) n)
+
+-- the record of round n as handed in: nothing is known yet but the moment, the window and the bytes in flight
+abbrev told : (n : ℕ) → Record
+told n =
+    record {
+      time = record { 0 = n * 100_000_000 };
+      window = 1300;
+      prior = 1300;
+      inflight = 0;
+      acked = 0;
+      lost = 0;
+      ended = false;
+      probing = false;
+      bandwidth = Unset;
+      rtt = Missing;
+      state = record { valid = false; limited = false; acked = 0; inflight = 0 };
+    }
+
+-- what the sampler says in round n: 1000 bytes in 100 ms are 80,000 bits per second
+abbrev heard : (n : ℕ) → Sample
+heard n =
+    record {
+      bandwidth = Set (record { 0 = 80_000 });
+      send = Unset;
+      ack = Unset;
+      limited = false;
+      rtt = Length (record { 0 = 100_000_000 });
+      inflight = 400;
+      extra = 0;
+      state = record { valid = true; limited = false; acked = n * 1000 - 1000; inflight = 1300 };
+      totals = record { acked = n * 1000; lost = n * 100 };
+    }
+
+-- packet n is sent and acked: the reply's number, and the record and the model after the start of the event
+abbrev roundReply : (n : ℕ) → NetworkModel → ℕ
+roundReply n m = eventNumber (sends n m) usual (told n) (heard n) (n ∷ [])
+
+abbrev roundRecord : (n : ℕ) → NetworkModel → Record
+roundRecord n m = recordNext (sends n m) (told n) (heard n) (n ∷ [])
+
+abbrev roundModel : (n : ℕ) → NetworkModel → NetworkModel
+roundModel n m = modelNext (sends n m) usual (told n) (heard n) (n ∷ [])
+
+-- the model after its finish
+abbrev roundOver : (n : ℕ) → NetworkModel → NetworkModel
+roundOver n m = finishNext (roundModel n m) (roundRecord n m)
+
+unfoldable pub workedEvents : List Bool
+workedEvents =
+    let e = roundRecord 1 fresh in
+    let m = roundModel 1 fresh in
+    -- check: no row of the table holds
+    eqb (roundReply 1 fresh) 0
+    -- round: no end was set, so that packet 1 ends the first round
+    ∷ e .ended
+    ∷ eqb (m .rounds .count) 1
+    -- sample: the record has what was acked, lost and left in flight
+    ∷ eqb (e .acked) 1000
+    ∷ eqb (e .lost) 100
+    ∷ eqb (e .inflight) 200
+    -- the filters have the new maximum and the shorter round trip
+    ∷ eqb (maxGet (m .most) .0) 80_000
+    ∷ eqb (m .least .rtt .0) 100_000_000
+    -- the round's sums have the loss, what was delivered since the send and the least in flight
+    ∷ eqb (m .round .lost) 100
+    ∷ eqb (m .round .losses) 1
+    ∷ eqb (m .round .delivered) 1000
+    ∷ eqb (m .round .least) 200
+    -- bounds: inflight_lo was unset, takes the window 1300, and is cut: 910 is more than the latest 400. bandwidth_lo
+    -- takes the maximum; cut it would be 56,000, less than the latest 80,000
+    ∷ eqb (m .lower .inflight) 910
+    ∷ eqb (seedOf (m .lower .bandwidth) (record { 0 = 0 }) .0) 80_000
+    ∷ eqb (m .latest .inflight) 400
+    -- settle: the totals and the moment are the last accepted ones; the finish clears the round's sums
+    ∷ eqb (m .totals .lost) 100
+    ∷ eqb (m .moment .0) 100_000_000
+    ∷ eqb (roundOver 1 fresh .round .losses) 0
+    -- the second and the third round: 637, 445
+    ∷ eqb (roundReply 2 (roundOver 1 fresh)) 0
+    ∷ eqb (roundModel 2 (roundOver 1 fresh) .lower .inflight) 637
+    ∷ eqb (roundReply 3 (roundOver 2 (roundOver 1 fresh))) 0
+    ∷ eqb (roundModel 3 (roundOver 2 (roundOver 1 fresh)) .lower .inflight) 445
+    ∷ []

@@ -1,0 +1,22 @@
+-- The events worked out in specs/Event.antt: one list of facts, computed. Assumes nothing.
+use mathlib.Core.Bool.{true}
+use mathlib.Core.Path.{_≡_, refl}
+use lib.Ieee as Ieee
+use Rattle.numbers.specs.Scaling.{scaled, scaledF64}
+use Rattle.numbers.specs.FloatToInt.{roundAway}
+use Rattle.units.specs.Bandwidth.{timesF32}
+use Rattle.filters.specs.MaxBandwidthFilter.{maxGet, maxUpdate}
+use Rattle.filters.specs.MinRttFilter.{minUpdate}
+use Rattle.filters.specs.RoundTripCounter.{roundsSent, endsRound, roundsFull, roundsEnded, roundsAcked}
+use Rattle.state.specs.Answers.{settled}
+use Rattle.state.specs.Bounds.{all, within}
+use Rattle.state.specs.Refusals.{rowOf}
+use Rattle.state.specs.Params.{paramsOk}
+use Rattle.state.specs.Parts.{roundOk}
+use Rattle.state.specs.NetworkModel.{modelTests, withRounds, withRound, modelNew, startNumber, startModel}
+use Rattle.state.specs.CongestionEvent.{recordTests, sampleTests}
+use Rattle.events.specs.Event.{limitedAfter, stateAfter, deliveredBy, roundAfter, latestRaised, lowerReduced, lowerAfter, latestAfter, recordOf, recordNext, mostNext, roundNext, lowerNext, modelOf, modelNext, isFull, eventNumber, finishNext, workedEvents}
+
+pub worked-events : all workedEvents ≡ true
+unfolding workedEvents scaled scaledF64 roundAway timesF32 Ieee.round Ieee.ofBits Ieee.sub Ieee.mul Ieee.ofInt Ieee.toUnsigned Ieee.eq Ieee.le maxGet maxUpdate minUpdate roundsSent endsRound roundsFull roundsEnded roundsAcked settled within paramsOk roundOk modelTests rowOf withRounds withRound modelNew startNumber startModel recordTests sampleTests limitedAfter stateAfter deliveredBy roundAfter latestRaised lowerReduced lowerAfter latestAfter recordOf recordNext mostNext roundNext lowerNext modelOf modelNext isFull eventNumber finishNext
+worked-events = refl
