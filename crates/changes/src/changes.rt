@@ -1,11 +1,11 @@
 // The calls that change the model and carry no event.
 ghost use mathlib.Core.Path.{_≡_};
-ghost use mathlib.Core.Bool.{true, false};
+ghost use mathlib.Core.Bool.{true};
 ghost use Prim.Native.Nat.{_+_, _-_};
 ghost use lib.Dec.{leb};
 ghost use Rattle.units.specs.Reply.{number};
 ghost use Rattle.state.specs.Answers.{settled};
-ghost use Rattle.state.specs.NetworkModel.{modelOk, one, storedNumber, givenNumber, restartNext, withHigh, capNext, clearInflightNext, clearBandwidthNext, advanceNext};
+ghost use Rattle.state.specs.NetworkModel.{modelOk, storedNumber, givenNumber, restartNext, withHigh, capNext, clearInflightNext, clearBandwidthNext, advanceNext};
 ghost use Rattle.state.specs.Bounds.{bytesOrUnsetOk, gainOk};
 ghost use Rattle.changes.specs.Changes.{sentNumber, sentNext, reachedNext, pacingNext, cwndNext, postponed, postponeNumber, postponeNext};
 use state::NetworkModel;

@@ -1,6 +1,6 @@
 -- The calls that judge the round, by an event's record or by the parameters: network_model.rs, with document 01's
 -- refusals. For each, the number of its reply, the model that it leaves and what it answers.
-use Prim.Native.Nat.{ℕ, max, _+_, _-_, _*_, _^_}
+use Prim.Native.Nat.{ℕ, max, _+_, _*_}
 use mathlib.Core.Bool.{Bool, true, false, cond, not, _&&_, _||_}
 use mathlib.Core.List.{[], _∷_}
 use lib.Dec.{ltb, leb}

@@ -14,8 +14,7 @@ use Rattle.state.specs.Refusals.{isMost, rowOf, lowest}
 use Rattle.state.specs.NetworkModel.{startNumber, startModel, storedNumber, givenNumber, headroomNumber}
 use Rattle.changes.specs.Changes.{sentNumber, postponeNumber}
 use Rattle.state.proofs.Rows.{None}
-use Rattle.events.specs.Event.{isFull, eventNumber}
-use Rattle.events.specs.Event.{recordNumber}
+use Rattle.events.specs.Event.{eventNumber, recordNumber}
 use Rattle.judge.specs.Judge.{judgedNumber, growthFull, queueNumber}
 use Rattle.state.specs.Cycle.{freshNumber, freshCycle}
 use Rattle.phases.specs.Phases.{entryNumber, exitNumber, slopeNumber}

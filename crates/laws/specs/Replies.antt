@@ -39,7 +39,6 @@ use Rattle.state.specs.NetworkModel.{startRows, storedRows, givenRows, judgedRo
 use Rattle.changes.specs.Changes.{sentRows, sentNext, reachedNext, pacingNext, cwndNext, postponed, postponeNext}
 use Rattle.reads.specs.Reads.{estimateOf, headroomOf}
 use Rattle.state.specs.declared.congestion_event.Record.{Record}
-use Rattle.state.specs.declared.congestion_event.Sample.{Sample}
 use Rattle.state.specs.CongestionEvent.{recordOk}
 use Rattle.events.specs.Event.{eventRows, modelNext, recordNext, finishNext}
 use Rattle.judge.specs.Judge.{isExpired, expireNext, isTooHigh, hasGrown, growthRows, growthNext, queueRows, queueNext}

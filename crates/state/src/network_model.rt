@@ -3,7 +3,7 @@ ghost use mathlib.Core.Path.{_≡_};
 ghost use mathlib.Core.Bool.{false};
 ghost use Rattle.units.specs.Reply.{number};
 ghost use Rattle.state.specs.Answers.{settled};
-ghost use Rattle.state.specs.NetworkModel.{mostOk, leastOk, modelOk, one, modelNew, startNumber, startModel, storedNumber, givenNumber, restartNext, capNext, clearInflightNext, clearBandwidthNext, advanceNext, bdpOf, headroomNumber};
+ghost use Rattle.state.specs.NetworkModel.{mostOk, leastOk, modelOk, modelNew, startNumber, startModel, storedNumber, givenNumber, restartNext, capNext, clearInflightNext, clearBandwidthNext, advanceNext, bdpOf, headroomNumber};
 use crate::Params;
 use crate::bounds::UNSET;
 use crate::bounds::bandwidth_ok;

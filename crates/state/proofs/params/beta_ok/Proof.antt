@@ -1,4 +1,4 @@
--- `model::beta_ok` meets its contract: both ends are compared as the definition has it. Assumes nothing.
+-- `beta_ok` meets its contract: both ends are compared as the definition has it. Assumes nothing.
 use mathlib.Core.Path.{refl}
 use lib.Ieee.{ofBits}
 use Rattle.state.specs.Bounds.{within}
