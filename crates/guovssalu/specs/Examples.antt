@@ -99,40 +99,35 @@ params =
     0x3e99_999a ∷ 0x3f80_0000 ∷ 0x3f80_0000 ∷ 0x3f80_0000 ∷ 0x3f80_0000 ∷ 0x3f80_0000 ∷ 3 ∷ 0 ∷ 0 ∷ 0 ∷ 1 ∷ []
 
 -- call 0, a start at moment t with a round trip
-abbrev pub starts : (t rtt : ℕ) → List ℕ
-starts t rtt = (0 ∷ t ∷ rtt ∷ []) ++ zeros 35 ++ params
+abbrev pub startAt : (t rtt : ℕ) → List ℕ
+startAt t rtt = (0 ∷ t ∷ rtt ∷ []) ++ zeros 35 ++ params
 
 -- call 1, a send of packet n at moment t
 abbrev pub sends : (t n : ℕ) → List ℕ
 sends t n = (1 ∷ t ∷ 0 ∷ n ∷ 0 ∷ []) ++ zeros 44
 
--- word i of bytes
-abbrev pub wordIn : List ℕ → ℕ → ℕ
-wordIn bytes i = word bytes (8 * i)
+-- the words of bytes at these places
+abbrev pub wordsIn : List ℕ → List ℕ → List ℕ
+wordsIn bytes [] = []
+wordsIn bytes (i ∷ places) = word bytes (8 * i) ∷ wordsIn bytes places
 
 -- on a state of zeros: a start at moment 5 with a round trip of 100, a send at 9, and a send at 8, which is earlier
-abbrev pub begins : List ℕ
-begins = allBytes (starts 5 100 ++ sends 9 7 ++ sends 8 6)
+abbrev pub firstCalls : List ℕ
+firstCalls = allBytes (startAt 5 100 ++ sends 9 7 ++ sends 8 6)
 
-abbrev pub begun : List ℕ
-begun = stateOut (zeros 400) begins (room 432)
+abbrev pub firstState : List ℕ
+firstState = stateOut (zeros 400) firstCalls (room 432)
 
-abbrev pub told : List ℕ
-told = answersOut (zeros 400) begins (room 432)
+abbrev pub firstAnswers : List ℕ
+firstAnswers = answersOut (zeros 400) firstCalls (room 432)
 
 unfoldable pub startExamples : List Bool
 startExamples =
     -- the run is done: three answers of 18 words
-    eqb (modelRow (zeros 400) begins 432) 0
+    eqb (modelRow (zeros 400) firstCalls 432) 0
     -- word 0 of each: the start and the first send are done, and the second send is refused with 3
-    ∷ eqb (wordIn told 0) 0
-    ∷ eqb (wordIn told 18) 0
-    ∷ eqb (wordIn told 36) 3
-    -- of the state left, words 1, 6, 7, 17 and 33: the packet last sent, the round trip and its moment, inflight_lo,
-    -- which is unset, and the last accepted moment
-    ∷ eqb (wordIn begun 1) 7
-    ∷ eqb (wordIn begun 6) 100
-    ∷ eqb (wordIn begun 7) 5
-    ∷ eqb (wordIn begun 17) (2 ^ 64 - 1)
-    ∷ eqb (wordIn begun 33) 9
+    ∷ same (wordsIn firstAnswers (0 ∷ 18 ∷ 36 ∷ [])) (0 ∷ 0 ∷ 3 ∷ [])
+    -- of the state left: the packet last sent, the round trip and its moment, inflight_lo, which is unset, and the last
+    -- accepted moment
+    ∷ same (wordsIn firstState (1 ∷ 6 ∷ 7 ∷ 17 ∷ 33 ∷ [])) (7 ∷ 100 ∷ 5 ∷ (2 ^ 64 - 1) ∷ 9 ∷ [])
     ∷ []

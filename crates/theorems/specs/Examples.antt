@@ -9,7 +9,7 @@ use lib.ListN.{length, replicate, take}
 use Rattle.words.specs.Words.{allBytes}
 use Rattle.dispatch.specs.Examples.{same, zeros}
 use Rattle.guovssalu.specs.ModelRun.{modelRow, stateOut, answersOut}
-use Rattle.guovssalu.specs.Examples.{params, starts, sends}
+use Rattle.guovssalu.specs.Examples.{params, startAt, sends}
 use Rattle.drift.specs.Exact.{Exact, unset, over, inflightTurn}
 use Rattle.drift.specs.Drift.{usualParts}
 use Rattle.theorems.specs.Runs.{Run, exactAfter}
@@ -42,7 +42,7 @@ after n lo =
     ++ ((2 ^ 64 - 1) ∷ 0x3f80_0000 ∷ 0x3f80_0000 ∷ []) ++ zeros 5 ++ (1 ∷ []) ++ zeros 4 ++ (n ∷ n ∷ []) ++ zeros 17
 
 abbrev first : Run
-first = ran (zeros 400) (allBytes (starts 0 0 ++ sends 0 1 ++ acks 1)) 3
+first = ran (zeros 400) (allBytes (startAt 0 0 ++ sends 0 1 ++ acks 1)) 3
 
 -- a question; a number that is no call's; a send at a moment that is out of bounds; a send and an event; the question
 abbrev second : Run
