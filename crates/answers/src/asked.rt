@@ -30,19 +30,19 @@ pub enum Asked {
     Rounds(RoundTripCounter),
 }
 
-pub struct Turn {
+pub struct Compared {
     pub asked: Asked,
     pub same: bool,
 }
 
 // Whether the port answers as the line has it, and what the next line asks.
-pub fn answer(asked: Asked, n: &[u64; 16]) -> Turn {
+pub fn answer(asked: Asked, n: &[u64; 16]) -> Compared {
     match asked {
         Asked::Windowed(filter) => windowed(filter, n),
         Asked::MaxBandwidth(filter) => max_bandwidth(filter, n),
         Asked::MinRtt(filter) => min_rtt(filter, n),
         Asked::Rounds(counter) => rounds(counter, n),
-        _ => Turn {
+        _ => Compared {
             asked,
             same: number(asked, n),
         },
@@ -73,7 +73,7 @@ fn order(a: Bandwidth, b: Bandwidth, n: &[u64; 16]) -> bool {
     (a.lt(b) == (n[2] == 1)) & (a.max(b).0 == n[3]) & (a.min(b).0 == n[4])
 }
 
-fn windowed(filter: WindowedFilter, n: &[u64; 16]) -> Turn {
+fn windowed(filter: WindowedFilter, n: &[u64; 16]) -> Compared {
     let op = n[0];
     let next = match op {
         0 => WindowedFilter::new(n[1]),
@@ -81,7 +81,7 @@ fn windowed(filter: WindowedFilter, n: &[u64; 16]) -> Turn {
         2 => updated(filter, n[1], n[2]),
         _ => filter.clear(),
     };
-    Turn {
+    Compared {
         asked: Asked::Windowed(next),
         same: holds(next, n),
     }
@@ -121,20 +121,20 @@ fn holds(filter: WindowedFilter, n: &[u64; 16]) -> bool {
     }
 }
 
-fn max_bandwidth(filter: MaxBandwidthFilter, n: &[u64; 16]) -> Turn {
+fn max_bandwidth(filter: MaxBandwidthFilter, n: &[u64; 16]) -> Compared {
     let op = n[0];
     let next = match op {
         0 => MaxBandwidthFilter::new(),
         1 => filter.update(Bandwidth(n[1])),
         _ => filter.advance(),
     };
-    Turn {
+    Compared {
         asked: Asked::MaxBandwidth(next),
         same: (next.slot0.0 == n[2]) & (next.slot1.0 == n[3]) & (next.get().0 == n[4]),
     }
 }
 
-fn min_rtt(filter: MinRttFilter, n: &[u64; 16]) -> Turn {
+fn min_rtt(filter: MinRttFilter, n: &[u64; 16]) -> Compared {
     let rtt = Duration(n[1]);
     let now = Moment(n[2]);
     let op = n[0];
@@ -143,13 +143,13 @@ fn min_rtt(filter: MinRttFilter, n: &[u64; 16]) -> Turn {
         1 => filter.update(rtt, now),
         _ => filter.force_update(rtt, now),
     };
-    Turn {
+    Compared {
         asked: Asked::MinRtt(next),
         same: (next.get().0 == n[3]) & (next.get_timestamps().0 == n[4]),
     }
 }
 
-fn rounds(counter: RoundTripCounter, n: &[u64; 16]) -> Turn {
+fn rounds(counter: RoundTripCounter, n: &[u64; 16]) -> Compared {
     let op = n[0];
     let next = match op {
         0 => RoundTripCounter::new(),
@@ -157,18 +157,18 @@ fn rounds(counter: RoundTripCounter, n: &[u64; 16]) -> Turn {
         2 => return acked(counter, n),
         _ => counter.restart_round(),
     };
-    Turn {
+    Compared {
         asked: Asked::Rounds(next),
         same: (n[5] == 0) & stands(next, n),
     }
 }
 
-fn acked(counter: RoundTripCounter, n: &[u64; 16]) -> Turn {
+fn acked(counter: RoundTripCounter, n: &[u64; 16]) -> Compared {
     let packets = [n[2], n[3], n[4]];
     let few = (n[1] % 4) as usize;
     let answer = counter.on_packets_acked(&packets[..few]);
     let next = answer.counter;
-    Turn {
+    Compared {
         asked: Asked::Rounds(next),
         same: (answer.ended == (n[5] == 1)) & stands(next, n),
     }

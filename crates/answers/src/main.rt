@@ -46,9 +46,9 @@ fn compared(asked: Asked, text: &[u8]) -> Tally {
         let line = read_line(text, at);
         at = line.next;
         let numbers = line.numbers;
-        let turn = asked::answer(next, &numbers);
-        next = turn.asked;
-        let differ = if turn.same { 0 } else { 1 };
+        let compared = asked::answer(next, &numbers);
+        next = compared.asked;
+        let differ = if compared.same { 0 } else { 1 };
         tally = sum(tally, Tally { answers: 1, differ });
     }
     tally

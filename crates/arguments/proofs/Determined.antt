@@ -2,23 +2,23 @@
 use mathlib.Core.Path.{_≡_, sym, _∙_}
 use Rattle.numbers.specs.OneReply.{OneReply}
 use Rattle.arguments.proofs.params as params
-use Rattle.arguments.proofs.record as event
+use Rattle.arguments.proofs.congestion_event as event
 use Rattle.arguments.proofs.sample as sample
 
-pub one-params-params-of : OneReply params.params_of.Reads.Learnt
-one-params-params-of κ a x y s t p q = p ∙ sym q
+pub one-params-params-from : OneReply params.params_from.Reads.Learnt
+one-params-params-from κ a x y s t p q = p ∙ sym q
 
-pub one-event-record-of : OneReply event.record_of.Reads.Learnt
-one-event-record-of κ a x y s t p q = p ∙ sym q
+pub one-event-event-from : OneReply event.event_from.Reads.Learnt
+one-event-event-from κ a x y s t p q = p ∙ sym q
 
-pub one-event-record-in : OneReply event.record_in.Reads.Learnt
-one-event-record-in κ a x y s t p q = p ∙ sym q
+pub one-event-event-in : OneReply event.event_in.Reads.Learnt
+one-event-event-in κ a x y s t p q = p ∙ sym q
 
-pub one-event-record-words : OneReply event.record_words.Reads.Learnt
-one-event-record-words κ a x y s t p q = p ∙ sym q
+pub one-event-event-words : OneReply event.event_words.Reads.Learnt
+one-event-event-words κ a x y s t p q = p ∙ sym q
 
-pub one-sample-sample-of : OneReply sample.sample_of.Reads.Learnt
-one-sample-sample-of κ a x y s t p q = p ∙ sym q
+pub one-sample-sample-from : OneReply sample.sample_from.Reads.Learnt
+one-sample-sample-from κ a x y s t p q = p ∙ sym q
 
 pub one-sample-acked-count : OneReply sample.acked_count.Reads.Learnt
 one-sample-acked-count κ a x y s t p q = p ∙ sym q

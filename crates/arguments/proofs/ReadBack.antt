@@ -14,13 +14,13 @@ use denote.Struct.Declared.{row}
 use mir.Val.{Val}
 use Rattle.state.specs.declared.network_model.NetworkModel.{NetworkModel}
 use Rattle.state.proofs.network_model.NetworkModel as network-model
-use Rattle.layout.specs.NetworkModel.{modelOf}
-use Rattle.layout.specs.Cycle.{cycleOf}
-use Rattle.arguments.specs.Record.{recordOf}
+use Rattle.layout.specs.NetworkModel.{modelFrom}
+use Rattle.layout.specs.Cycle.{cycleFrom}
+use Rattle.arguments.specs.CongestionEvent.{eventFrom}
 use Rattle.arguments.proofs.RoundTrip.{round-trip}
 use Rattle.layout.proofs.cycle as cycle
 use Rattle.layout.proofs.network_model as model
-use Rattle.arguments.proofs.record as event
+use Rattle.arguments.proofs.congestion_event as event
 use Rattle.layout.proofs.state_words as state
 
 -- `given` picks from the writer's arguments what it wrote, `Words` says where the reader has the writer's words
@@ -37,14 +37,14 @@ cwnd-fits m vs h = passes (fits binary32 (m .gains .cwnd)) (h .1 .1 .1 .1 .1 .1 
 pacing-fits : (m : NetworkModel) (vs : List Val) → Is (row network-model.the-type) m vs → T (fits binary32 (m .gains .pacing))
 pacing-fits m vs h = passes (fits binary32 (m .gains .pacing)) (h .1 .1 .1 .1 .1 .1 .1 .1 .1 .0 .1 .1 .1 .0 .1)
 
-pub model-read-back : ReadBack state.state_words.Kinds.ps model.model_of.Kinds.ps state.state_words.Reads.Learnt model.model_of.Reads.Learnt (λ κs a. a .0) (λ κs b x. now (b .0) ≡ x)
-model-read-back κs a x s κs′ b y t g p w q = q ∙ ap modelOf (w ∙ p) ∙ round-trip .model (a .0) (a .1 .0) (cwnd-fits (a .0) _ (g .0)) (pacing-fits (a .0) _ (g .0))
+pub model-read-back : ReadBack state.state_words.Kinds.ps model.model_from.Kinds.ps state.state_words.Reads.Learnt model.model_from.Reads.Learnt (λ κs a. a .0) (λ κs b x. now (b .0) ≡ x)
+model-read-back κs a x s κs′ b y t g p w q = q ∙ ap modelFrom (w ∙ p) ∙ round-trip .model (a .0) (a .1 .0) (cwnd-fits (a .0) _ (g .0)) (pacing-fits (a .0) _ (g .0))
 
-pub cycle-read-back : ReadBack state.state_words.Kinds.ps cycle.cycle_of.Kinds.ps state.state_words.Reads.Learnt cycle.cycle_of.Reads.Learnt (λ κs a. a .1 .0) (λ κs b x. now (b .0) ≡ x)
-cycle-read-back κs a x s κs′ b y t g p w q = q ∙ ap cycleOf (w ∙ p) ∙ round-trip .cycle (a .0) (a .1 .0)
+pub cycle-read-back : ReadBack state.state_words.Kinds.ps cycle.cycle_from.Kinds.ps state.state_words.Reads.Learnt cycle.cycle_from.Reads.Learnt (λ κs a. a .1 .0) (λ κs b x. now (b .0) ≡ x)
+cycle-read-back κs a x s κs′ b y t g p w q = q ∙ ap cycleFrom (w ∙ p) ∙ round-trip .cycle (a .0) (a .1 .0)
 
 -- an answer's record is words 22 to 37 of a call
-pub record-read-back :
+pub event-read-back :
     (before after : List ℕ) → length before ≡ 22 →
-    ReadBack event.record_words.Kinds.ps event.record_of.Kinds.ps event.record_words.Reads.Learnt event.record_of.Reads.Learnt (λ κs a. a .0) (λ κs b x. now (b .0) ≡ before ++ (x ++ after))
-record-read-back before after h κs a x s κs′ b y t g p w q = q ∙ ap recordOf (w ∙ ap (λ (l : List ℕ). before ++ (l ++ after)) p) ∙ round-trip .event before after (a .0) h
+    ReadBack event.event_words.Kinds.ps event.event_from.Kinds.ps event.event_words.Reads.Learnt event.event_from.Reads.Learnt (λ κs a. a .0) (λ κs b x. now (b .0) ≡ before ++ (x ++ after))
+event-read-back before after h κs a x s κs′ b y t g p w q = q ∙ ap eventFrom (w ∙ ap (λ (l : List ℕ). before ++ (l ++ after)) p) ∙ round-trip .event before after (a .0) h

@@ -15,13 +15,13 @@ use Rattle.state.specs.Bounds.{all, within, maybeOk}
 use Rattle.state.specs.Params.{paramsOk}
 use Rattle.state.proofs.Rows.{and-left, and-right, all-at}
 use Rattle.state.specs.declared.congestion_event.MaybeLength as rtt
-use Rattle.state.specs.CongestionEvent.{maybeLengthOk, recordTests, sampleTests}
+use Rattle.state.specs.CongestionEvent.{maybeLengthOk, eventTests, sampleTests}
 use Rattle.layout.specs.declared.maybe.Maybe.{Maybe}
 use Rattle.words.specs.Word.{outside, orOutside, flagWord, flagOf, flagFits, floatWord, floatOf}
 use Rattle.layout.specs.Maybe.{unset, held, isUnset, maybeOf, bandwidthMaybe, bandwidthOf}
-use Rattle.arguments.specs.Record.{lengthMaybe, lengthOf, recordFits, recordFrom, recordOf, wordsFrom, recordWords}
-use Rattle.arguments.specs.Sample.{sampleFits, sampleOf, sampleWords}
-use Rattle.arguments.specs.Params.{paramsOf, paramsWords}
+use Rattle.arguments.specs.CongestionEvent.{lengthMaybe, lengthOf, eventFits, eventFromWord, eventFrom, wordsFrom, eventWords}
+use Rattle.arguments.specs.Sample.{sampleFits, sampleFrom, sampleWords}
+use Rattle.arguments.specs.Params.{paramsFrom, paramsWords}
 use Rattle.arguments.specs.Tested.{Tested}
 
 -- ---- a flag
@@ -70,12 +70,12 @@ length-same : (a b : ℕ) → maybeLengthOk (lengthOf a b) ≡ true → lengthMa
 length-same a b h = pair-same rtt.the-variants.Missing (λ n. rtt.the-variants.Length (record { 0 = n })) lengthMaybe maybeLengthOk refl (λ n. refl) refl a b h
 
 -- ---- all of them
-event-same : (l : List ℕ) → all (recordTests (recordOf l)) ≡ true → recordWords (recordOf l) ≡ wordsFrom l 22 16
-unfolding recordTests recordFrom recordFits recordWords wordsFrom
+event-same : (l : List ℕ) → all (eventTests (eventFrom l)) ≡ true → eventWords (eventFrom l) ≡ wordsFrom l 22 16
+unfolding eventTests eventFromWord eventFits eventWords wordsFrom
 event-same l h =
-    let fits = fits-where (λ n. leb n (2 ^ 62)) (recordFits l 22) (getD l 22 0) refl (all-at (recordTests (recordOf l)) 0 h) in
-    let rate = bandwidth-same (getD l 30 0) (getD l 31 0) (all-at (recordTests (recordOf l)) 6 h) in
-    let time = length-same (getD l 32 0) (getD l 33 0) (all-at (recordTests (recordOf l)) 7 h) in
+    let fits = fits-where (λ n. leb n (2 ^ 62)) (eventFits l 22) (getD l 22 0) refl (all-at (eventTests (eventFrom l)) 0 h) in
+    let rate = bandwidth-same (getD l 30 0) (getD l 31 0) (all-at (eventTests (eventFrom l)) 6 h) in
+    let time = length-same (getD l 32 0) (getD l 33 0) (all-at (eventTests (eventFrom l)) 7 h) in
     let a = flagFits (getD l 28 0) in
     let b = flagFits (getD l 29 0) in
     let c = flagFits (getD l 34 0) in
@@ -86,18 +86,18 @@ event-same l h =
     let limited = flag-same (getD l 35 0) (and-right (a && b && c) d fits) in
     simp (fits, rate, time, ended, probing, valid, limited)
 
-sample-fine : (l : List ℕ) → all (sampleTests (sampleOf l)) ≡ true → sampleFits l ≡ true
-unfolding sampleTests sampleOf
-sample-fine l h = fits-where (λ n. leb n (2 ^ 40)) (sampleFits l) (getD l 11 0) refl (all-at (sampleTests (sampleOf l)) 5 h)
+sample-fine : (l : List ℕ) → all (sampleTests (sampleFrom l)) ≡ true → sampleFits l ≡ true
+unfolding sampleTests sampleFrom
+sample-fine l h = fits-where (λ n. leb n (2 ^ 40)) (sampleFits l) (getD l 11 0) refl (all-at (sampleTests (sampleFrom l)) 5 h)
 
-sample-same : (l : List ℕ) → all (sampleTests (sampleOf l)) ≡ true → sampleWords (sampleOf l) ≡ wordsFrom l 1 17
-unfolding sampleTests sampleOf sampleFits sampleWords wordsFrom
+sample-same : (l : List ℕ) → all (sampleTests (sampleFrom l)) ≡ true → sampleWords (sampleFrom l) ≡ wordsFrom l 1 17
+unfolding sampleTests sampleFrom sampleFits sampleWords wordsFrom
 sample-same l h =
     let fits = sample-fine l h in
-    let rate = bandwidth-same (getD l 1 0) (getD l 2 0) (all-at (sampleTests (sampleOf l)) 0 h) in
-    let send = bandwidth-same (getD l 3 0) (getD l 4 0) (all-at (sampleTests (sampleOf l)) 1 h) in
-    let ack = bandwidth-same (getD l 5 0) (getD l 6 0) (all-at (sampleTests (sampleOf l)) 2 h) in
-    let time = length-same (getD l 8 0) (getD l 9 0) (all-at (sampleTests (sampleOf l)) 3 h) in
+    let rate = bandwidth-same (getD l 1 0) (getD l 2 0) (all-at (sampleTests (sampleFrom l)) 0 h) in
+    let send = bandwidth-same (getD l 3 0) (getD l 4 0) (all-at (sampleTests (sampleFrom l)) 1 h) in
+    let ack = bandwidth-same (getD l 5 0) (getD l 6 0) (all-at (sampleTests (sampleFrom l)) 2 h) in
+    let time = length-same (getD l 8 0) (getD l 9 0) (all-at (sampleTests (sampleFrom l)) 3 h) in
     let a = flagFits (getD l 7 0) in
     let b = flagFits (getD l 12 0) in
     let c = flagFits (getD l 13 0) in
@@ -107,13 +107,13 @@ sample-same l h =
     let limited = flag-same (getD l 13 0) (and-right (a && b) c (and-left (a && b && c) d fits)) in
     simp (fits, rate, send, ack, time, app, valid, limited)
 
-count-few : (l : List ℕ) → all (sampleTests (sampleOf l)) ≡ true → getD l 18 0 ≤ 3
+count-few : (l : List ℕ) → all (sampleTests (sampleFrom l)) ≡ true → getD l 18 0 ≤ 3
 unfolding sampleFits
 count-few l h =
     leb-true (getD l 18 0) 3 (and-right (flagFits (getD l 7 0) && flagFits (getD l 12 0) && flagFits (getD l 13 0)) (leb (getD l 18 0) 3) (sample-fine l h))
 
-params-same : (l : List ℕ) → paramsOk (paramsOf l) ≡ true → paramsWords (paramsOf l) ≡ wordsFrom l 38 11
-unfolding paramsOk paramsOf paramsWords wordsFrom
+params-same : (l : List ℕ) → paramsOk (paramsFrom l) ≡ true → paramsWords (paramsFrom l) ≡ wordsFrom l 38 11
+unfolding paramsOk paramsFrom paramsWords wordsFrom
 params-same l h =
     let beta = within 0x3a80_0000 0x3f7f_c000 (floatOf (getD l 38 0)) in
     let loss = within 0 0x3f80_0000 (floatOf (getD l 39 0)) in

@@ -1,6 +1,6 @@
 -- What a call is given, in words.
 pub mod Params
-pub mod Record
+pub mod CongestionEvent
 pub mod RoundTrip
 pub mod Sample
 pub mod Tested

@@ -5,8 +5,8 @@ use mathlib.Core.List.{List, [], _∷_}
 use Rattle.state.specs.declared.params.Params.{Params}
 use Rattle.words.specs.Word.{word, orOutside, flagWord, flagOf, flagFits, floatWord, floatOf}
 
-unfoldable pub paramsOf : List ℕ → Params
-paramsOf l =
+unfoldable pub paramsFrom : List ℕ → Params
+paramsFrom l =
     record {
       beta = floatOf (word l 38);
       loss = floatOf (word l 39);

@@ -8,14 +8,14 @@ use lib.Ieee.{Float, binary32, fits}
 use lib.ListN.{length, getD}
 use Rattle.state.specs.declared.network_model.NetworkModel.{NetworkModel}
 use Rattle.state.specs.declared.params.Params.{Params}
-use Rattle.state.specs.declared.congestion_event.Record.{Record}
-use Rattle.state.specs.declared.congestion_event.Sample.{Sample}
+use Rattle.state.specs.declared.congestion_event.CongestionEvent.{CongestionEvent}
+use Rattle.state.specs.declared.congestion_event.CongestionEventSample.{CongestionEventSample}
 use Rattle.state.specs.declared.cycle.Cycle.{Cycle}
-use Rattle.layout.specs.NetworkModel.{modelOf, modelWords}
-use Rattle.layout.specs.Cycle.{cycleOf, cycleWords}
-use Rattle.arguments.specs.Record.{recordOf, recordWords}
-use Rattle.arguments.specs.Sample.{sampleOf, sampleWords}
-use Rattle.arguments.specs.Params.{paramsOf, paramsWords}
+use Rattle.layout.specs.NetworkModel.{modelFrom, modelWords}
+use Rattle.layout.specs.Cycle.{cycleFrom, cycleWords}
+use Rattle.arguments.specs.CongestionEvent.{eventFrom, eventWords}
+use Rattle.arguments.specs.Sample.{sampleFrom, sampleWords}
+use Rattle.arguments.specs.Params.{paramsFrom, paramsWords}
 use Rattle.words.specs.Word.{floatWord, floatOf}
 
 -- the six floats are f32, among them the NaN and the infinities
@@ -30,19 +30,19 @@ pub record AreF32 (p : Params) : Type 0 where
 pub record RoundTrip : Type 0 where
   -- a model whose two gains are f32, among them the NaN and the infinities
   pub model : (m : NetworkModel) (c : Cycle) → T (fits binary32 (m .gains .cwnd)) →
-      T (fits binary32 (m .gains .pacing)) → modelOf (modelWords m ++ cycleWords c) ≡ m
-  pub cycle : (m : NetworkModel) (c : Cycle) → cycleOf (modelWords m ++ cycleWords c) ≡ c
+      T (fits binary32 (m .gains .pacing)) → modelFrom (modelWords m ++ cycleWords c) ≡ m
+  pub cycle : (m : NetworkModel) (c : Cycle) → cycleFrom (modelWords m ++ cycleWords c) ≡ c
   -- an answer's 16 words, handed in as words 22 to 37 of the next call
-  pub event : (before after : List ℕ) (e : Record) → length before ≡ 22 →
-      recordOf (before ++ (recordWords e ++ after)) ≡ e
+  pub event : (before after : List ℕ) (e : CongestionEvent) → length before ≡ 22 →
+      eventFrom (before ++ (eventWords e ++ after)) ≡ e
   -- the state takes 50 words, the record 16
   pub stateLength : (m : NetworkModel) (c : Cycle) → length (modelWords m ++ cycleWords c) ≡ 50
-  pub recordLength : (e : Record) → length (recordWords e) ≡ 16
+  pub eventLength : (e : CongestionEvent) → length (eventWords e) ≡ 16
   -- the sampler's answer in words 1 to 17 of a call, with a count of acked numbers that fits after it
-  pub sample : (number : ℕ) (after : List ℕ) (s : Sample) → getD after 0 0 ≤ 3 →
-      sampleOf (number ∷ (sampleWords s ++ after)) ≡ s
+  pub sample : (number : ℕ) (after : List ℕ) (s : CongestionEventSample) → getD after 0 0 ≤ 3 →
+      sampleFrom (number ∷ (sampleWords s ++ after)) ≡ s
   -- the parameters in words 38 to 48
   pub parameters : (before after : List ℕ) (p : Params) → length before ≡ 38 → AreF32 p →
-      paramsOf (before ++ (paramsWords p ++ after)) ≡ p
+      paramsFrom (before ++ (paramsWords p ++ after)) ≡ p
   -- a gain
   pub gain : (x : Float) → T (fits binary32 x) → floatOf (floatWord x) ≡ x

@@ -1,6 +1,6 @@
 // The parameters: words 38 to 48 of a call.
 ghost use mathlib.Core.Path.{_≡_};
-ghost use Rattle.arguments.specs.Params.{paramsOf};
+ghost use Rattle.arguments.specs.Params.{paramsFrom};
 use state::Params;
 use units::Duration;
 use words::word::flag_fits;
@@ -8,8 +8,8 @@ use words::word::float_of;
 use words::word::or_outside;
 
 // The parameters in a call's words.
-pub fn params_of(n: &[u64; 49]) -> Params
-    ensures { λ r. ⌜ r ≡ paramsOf (now (n .entry)) ⌝ }
+pub fn params_from(n: &[u64; 49]) -> Params
+    ensures { λ r. ⌜ r ≡ paramsFrom (now (n .entry)) ⌝ }
 {
     Params {
         beta: float_of(n[38]),

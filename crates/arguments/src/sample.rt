@@ -1,28 +1,28 @@
 // What an event's call is given: the sampler's answer, words 1 to 17, and the acked packets' numbers, 18 to 21.
 ghost use mathlib.Core.Path.{_≡_};
-ghost use Rattle.arguments.specs.Sample.{sampleFits, sampleOf, ackedCount, ackedNumbers};
-use crate::record::length_of;
-use crate::record::send_state_of;
+ghost use Rattle.arguments.specs.Sample.{sampleFits, sampleFrom, ackedCount, ackedNumbers};
+use crate::congestion_event::length_of;
+use crate::congestion_event::send_time_state_of;
 use layout::maybe::bandwidth_of;
 use numbers::smaller;
-use state::congestion_event::Sample;
+use state::congestion_event::CongestionEventSample;
 use state::parts::Totals;
 use words::word::flag_fits;
 use words::word::or_outside;
 
 // The sampler's answer in a call's words.
-pub fn sample_of(n: &[u64; 49]) -> Sample
-    ensures { λ r. ⌜ r ≡ sampleOf (now (n .entry)) ⌝ }
+pub fn sample_from(n: &[u64; 49]) -> CongestionEventSample
+    ensures { λ r. ⌜ r ≡ sampleFrom (now (n .entry)) ⌝ }
 {
-    Sample {
+    CongestionEventSample {
         bandwidth: bandwidth_of(n[1], n[2]),
         send: bandwidth_of(n[3], n[4]),
         ack: bandwidth_of(n[5], n[6]),
-        limited: n[7] == 1,
+        applimited: n[7] == 1,
         rtt: length_of(n[8], n[9]),
         inflight: n[10],
         extra: or_outside(sample_fits(n), n[11]),
-        state: send_state_of(n[12], n[13], n[14], n[15]),
+        state: send_time_state_of(n[12], n[13], n[14], n[15]),
         totals: Totals {
             acked: n[16],
             lost: n[17],

@@ -4,7 +4,7 @@ use mathlib.Core.Bool.{Bool, true, false, cond}
 use mathlib.Core.Path.{_≡_, refl, ap, _∙_}
 use lib.Dec.{eqb}
 use lib.Ieee.{ofBits, toBits}
-use Rattle.state.specs.Answers.{settled, noGain}
+use Rattle.state.specs.Answers.{settled, zeroGain}
 use Rattle.words.specs.Word.{floatWord}
 
 pub settled-same : {A : Type 0} (n : ℕ) (x : A) → x ≡ settled n x x
@@ -24,6 +24,6 @@ read-as f k x none got read p q zero = p ∙ ap f q ∙ go (eqb k 0)
     go true = refl
     go false = zero
 
-pub no-gain : floatWord noGain ≡ 0
+pub zero-gain : floatWord zeroGain ≡ 0
 unfolding ofBits toBits
-no-gain = refl
+zero-gain = refl

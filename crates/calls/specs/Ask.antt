@@ -29,10 +29,10 @@ refused m = record { number = unknownNumber m; value = 0 }
 -- calls 23 to 29
 unfoldable pub readOf : (call : ℕ) → NetworkModel → Answer
 readOf call m =
-    cond (eqb call 23) (reads m (estimateOf (m .lower .bandwidth) (maxGet (m .most)) .0))
-    (cond (eqb call 24) (reads m (m .least .rtt .0))
-    (cond (eqb call 25) (reads m (m .least .timestamp .0))
-    (cond (eqb call 26) (reads m (maxGet (m .most) .0))
+    cond (eqb call 23) (reads m (estimateOf (m .lower .bandwidth) (maxGet (m .maxbw)) .0))
+    (cond (eqb call 24) (reads m (m .minrtt .rtt .0))
+    (cond (eqb call 25) (reads m (m .minrtt .timestamp .0))
+    (cond (eqb call 26) (reads m (maxGet (m .maxbw) .0))
     (cond (eqb call 27) (reads m (m .round .delivered))
     (cond (eqb call 28) (reads m (m .totals .acked))
     (cond (eqb call 29) (reads m (m .totals .lost))
@@ -58,6 +58,6 @@ askOf call n gain m p =
     let b : Bandwidth = record { 0 = n } in
     cond (eqb call 10) (record { number = givenNumber m (bandwidthOk b && gainOk gain); value = bdpOf m b gain })
     (cond (eqb call 11) (record { number = givenNumber m (bandwidthOk b); value = bdpOf m b one })
-    (cond (eqb call 12) (reads m (bdpOf m (maxGet (m .most)) one))
+    (cond (eqb call 12) (reads m (bdpOf m (maxGet (m .maxbw)) one))
     (cond (eqb call 13) (record { number = headroomNumber m p; value = headroomOf (m .high) (p .headroom) })
     (cond (ltb call 30) (readOf call m) (readMore call m)))))

@@ -15,7 +15,7 @@ use phases::phases::raise_inflight_high_slope;
 use state::Cycle;
 use state::NetworkModel;
 use state::Params;
-use state::cycle::Turned;
+use state::cycle::CycleChanged;
 use units::Moment;
 use words::word::flag_fits;
 use words::word::or_outside;
@@ -67,13 +67,13 @@ fn refused(model: NetworkModel, cycle: Cycle) -> Entered
 }
 
 // A call on the cycle alone.
-fn raised(model: NetworkModel, turned: Turned) -> Entered
-    ensures reply { λ r. ⌜ r .reply ≡ turned .reply ⌝ }
+fn raised(model: NetworkModel, changed: CycleChanged) -> Entered
+    ensures reply { λ r. ⌜ r .reply ≡ changed .reply ⌝ }
     ensures model { λ r. ⌜ r .model ≡ model ⌝ }
-    ensures cycle { λ r. ⌜ r .cycle ≡ turned .cycle ⌝ }
+    ensures cycle { λ r. ⌜ r .cycle ≡ changed .cycle ⌝ }
 {
-    let reply = turned.reply;
-    let cycle = turned.cycle;
+    let reply = changed.reply;
+    let cycle = changed.cycle;
     Entered {
         reply,
         model,

@@ -10,14 +10,14 @@ use judge::judge::Decided;
 use state::NetworkModel;
 use state::Params;
 use state::answers::Flag;
-use state::congestion_event::Record;
+use state::congestion_event::CongestionEvent;
 use state::network_model::Changed;
 
 // Calls 5 to 7 and 9; `limit` is the call's number, `gain` its f32. Any other number is refused.
 pub fn judge(
     model: NetworkModel,
     params: Params,
-    event: Record,
+    event: CongestionEvent,
     call: u64,
     limit: u64,
     gain: f32,

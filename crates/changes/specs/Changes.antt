@@ -12,7 +12,7 @@ use Rattle.units.specs.Time.{plus, isBefore}
 use Rattle.state.specs.declared.network_model.NetworkModel.{NetworkModel}
 use Rattle.state.specs.declared.refusals.Rows.{Rows}
 use Rattle.state.specs.Bounds.{bytesOk, lengthOk, momentOk}
-use Rattle.state.specs.NetworkModel.{modelOk, withRounds, withLeast, withRound, withGains, withGrowth, withMoment, givenNumber}
+use Rattle.state.specs.NetworkModel.{modelOk, withRounds, withMinrtt, withRound, withGains, withGrowth, withMoment, givenNumber}
 use Rattle.state.specs.Parts.{roundSent}
 use Rattle.state.specs.Refusals.{noRows, stored, argument, earlier, lowest}
 
@@ -52,10 +52,10 @@ cwndNext m g = withGains m (record { cwnd = g; pacing = m .gains .pacing })
 
 -- ---- postpone_min_rtt_timestamp: "a postponed moment would exceed 2^62" is 2
 unfoldable pub postponed : NetworkModel → Duration → Moment
-postponed m d = plus (m .least .timestamp) d
+postponed m d = plus (m .minrtt .timestamp) d
 
 unfoldable pub postponeNumber : NetworkModel → Duration → ℕ
 postponeNumber m d = givenNumber m (lengthOk d && momentOk (postponed m d))
 
 unfoldable pub postponeNext : NetworkModel → Duration → NetworkModel
-postponeNext m d = withLeast m (minForce (m .least .rtt) (postponed m d))
+postponeNext m d = withMinrtt m (minForce (m .minrtt .rtt) (postponed m d))

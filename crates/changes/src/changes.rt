@@ -94,7 +94,7 @@ pub fn restart_round_early(model: NetworkModel) -> Changed
     ensures reply { λ r. ⌜ number (r .reply) ≡ storedNumber model ⌝ }
     ensures model { λ r. ⌜ r .model ≡ settled (storedNumber model) (restartNext model) model ⌝ }
 {
-    model.settle(model.stored(), model.restarted())
+    model.settle(model.stored(), model.restart_next())
 }
 
 // The bottleneck's bandwidth has been found.
@@ -102,10 +102,10 @@ pub fn set_full_bandwidth_reached(model: NetworkModel) -> Changed
     ensures reply { λ r. ⌜ number (r .reply) ≡ storedNumber model ⌝ }
     ensures model { λ r. ⌜ r .model ≡ settled (storedNumber model) (reachedNext model) model ⌝ }
 {
-    model.settle(model.stored(), reached(model))
+    model.settle(model.stored(), reached_next(model))
 }
 
-fn reached(model: NetworkModel) -> NetworkModel
+fn reached_next(model: NetworkModel) -> NetworkModel
     ensures { λ r. ⌜ r ≡ reachedNext model ⌝ }
 {
     let mut growth = model.growth;
@@ -119,10 +119,10 @@ pub fn set_pacing_gain(model: NetworkModel, gain: f32) -> Changed
     ensures reply { λ r. ⌜ number (r .reply) ≡ givenNumber model (gainOk gain) ⌝ }
     ensures model { λ r. ⌜ r .model ≡ settled (givenNumber model (gainOk gain)) (pacingNext model gain) model ⌝ }
 {
-    model.settle(model.given(gain_ok(gain)), paced(model, gain))
+    model.settle(model.given(gain_ok(gain)), pacing_next(model, gain))
 }
 
-fn paced(model: NetworkModel, gain: f32) -> NetworkModel
+fn pacing_next(model: NetworkModel, gain: f32) -> NetworkModel
     ensures { λ r. ⌜ r ≡ pacingNext model gain ⌝ }
 {
     let mut gains = model.gains;
@@ -136,10 +136,10 @@ pub fn set_cwnd_gain(model: NetworkModel, gain: f32) -> Changed
     ensures reply { λ r. ⌜ number (r .reply) ≡ givenNumber model (gainOk gain) ⌝ }
     ensures model { λ r. ⌜ r .model ≡ settled (givenNumber model (gainOk gain)) (cwndNext model gain) model ⌝ }
 {
-    model.settle(model.given(gain_ok(gain)), windowed(model, gain))
+    model.settle(model.given(gain_ok(gain)), cwnd_next(model, gain))
 }
 
-fn windowed(model: NetworkModel, gain: f32) -> NetworkModel
+fn cwnd_next(model: NetworkModel, gain: f32) -> NetworkModel
     ensures { λ r. ⌜ r ≡ cwndNext model gain ⌝ }
 {
     let mut gains = model.gains;
@@ -155,10 +155,13 @@ pub fn set_inflight_hi(model: NetworkModel, bytes: u64) -> Changed
         (withHigh model bytes)
         model ⌝ }
 {
-    model.settle(model.given(bytes_or_unset_ok(bytes)), topped(model, bytes))
+    model.settle(
+        model.given(bytes_or_unset_ok(bytes)),
+        with_high(model, bytes),
+    )
 }
 
-fn topped(model: NetworkModel, bytes: u64) -> NetworkModel
+fn with_high(model: NetworkModel, bytes: u64) -> NetworkModel
     ensures { λ r. ⌜ r ≡ withHigh model bytes ⌝ }
 {
     let mut next = model;
@@ -171,28 +174,28 @@ pub fn cap_inflight_lo(model: NetworkModel, cap: u64) -> Changed
     ensures reply { λ r. ⌜ number (r .reply) ≡ givenNumber model (bytesOrUnsetOk cap) ⌝ }
     ensures model { λ r. ⌜ r .model ≡ settled (givenNumber model (bytesOrUnsetOk cap)) (capNext model cap) model ⌝ }
 {
-    model.settle(model.given(bytes_or_unset_ok(cap)), model.capped(cap))
+    model.settle(model.given(bytes_or_unset_ok(cap)), model.cap_next(cap))
 }
 
 pub fn clear_inflight_lo(model: NetworkModel) -> Changed
     ensures reply { λ r. ⌜ number (r .reply) ≡ storedNumber model ⌝ }
     ensures model { λ r. ⌜ r .model ≡ settled (storedNumber model) (clearInflightNext model) model ⌝ }
 {
-    model.settle(model.stored(), model.inflight_cleared())
+    model.settle(model.stored(), model.clear_inflight_next())
 }
 
 pub fn clear_bandwidth_lo(model: NetworkModel) -> Changed
     ensures reply { λ r. ⌜ number (r .reply) ≡ storedNumber model ⌝ }
     ensures model { λ r. ⌜ r .model ≡ settled (storedNumber model) (clearBandwidthNext model) model ⌝ }
 {
-    model.settle(model.stored(), model.bandwidth_cleared())
+    model.settle(model.stored(), model.clear_bandwidth_next())
 }
 
 pub fn advance_max_bandwidth_filter(model: NetworkModel) -> Changed
     ensures reply { λ r. ⌜ number (r .reply) ≡ storedNumber model ⌝ }
     ensures model { λ r. ⌜ r .model ≡ settled (storedNumber model) (advanceNext model) model ⌝ }
 {
-    model.settle(model.stored(), model.advanced())
+    model.settle(model.stored(), model.advance_next())
 }
 
 // The moment of the minimum round trip is put off.
@@ -200,29 +203,29 @@ pub fn postpone_min_rtt_timestamp(model: NetworkModel, length: Duration) -> Chan
     ensures reply { λ r. ⌜ number (r .reply) ≡ postponeNumber model length ⌝ }
     ensures model { λ r. ⌜ r .model ≡ settled (postponeNumber model length) (postponeNext model length) model ⌝ }
 {
-    model.settle(postpone_reply(model, length), put_off(model, length))
+    model.settle(postpone_reply(model, length), postpone_next(model, length))
 }
 
 fn postpone_reply(model: NetworkModel, length: Duration) -> Reply
     ensures { λ r. ⌜ number r ≡ postponeNumber model length ⌝ }
 {
-    model.given(length_ok(length) & moment_ok(later(model, length)))
+    model.given(length_ok(length) & moment_ok(postponed(model, length)))
 }
 
-fn put_off(model: NetworkModel, length: Duration) -> NetworkModel
+fn postpone_next(model: NetworkModel, length: Duration) -> NetworkModel
     ensures { λ r. ⌜ r ≡ postponeNext model length ⌝ }
 {
-    let least = model.least;
-    let filter = least.force_update(least.rtt, later(model, length));
+    let least = model.minrtt;
+    let filter = least.force_update(least.rtt, postponed(model, length));
     let mut next = model;
-    next.least = filter;
+    next.minrtt = filter;
     next
 }
 
-fn later(model: NetworkModel, length: Duration) -> Moment
+fn postponed(model: NetworkModel, length: Duration) -> Moment
     ensures { λ r. ⌜ r ≡ postponed model length ⌝ }
 {
-    let least = model.least;
+    let least = model.minrtt;
     let timestamp = least.timestamp;
     timestamp.plus(length)
 }

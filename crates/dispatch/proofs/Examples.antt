@@ -14,19 +14,19 @@ use Rattle.state.specs.NetworkModel.{modelTests}
 use Rattle.state.specs.NetworkModel.{storedNumber, givenNumber}
 use Rattle.events.specs.Event as E
 use Rattle.state.specs.CongestionEvent as H
-use Rattle.events.specs.Event.{recordNumber}
+use Rattle.events.specs.Event.{finishNumber}
 use Rattle.state.specs.Cycle.{cycleTests}
 use Rattle.phases.specs.Phases.{entryNumber}
-use Rattle.layout.specs.NetworkModel.{modelOf}
-use Rattle.layout.specs.Cycle.{cycleOf}
-use Rattle.arguments.specs.Params.{paramsOf}
-use Rattle.arguments.specs.Record.{recordFits, recordFrom, wordsFrom, recordWords}
-use Rattle.arguments.specs.Sample.{sampleFits, sampleOf, ackedOf}
+use Rattle.layout.specs.NetworkModel.{modelFrom}
+use Rattle.layout.specs.Cycle.{cycleFrom}
+use Rattle.arguments.specs.Params.{paramsFrom}
+use Rattle.arguments.specs.CongestionEvent.{eventFits, eventFromWord, wordsFrom, eventWords}
+use Rattle.arguments.specs.Sample.{sampleFits, sampleFrom, ackedOf}
 use Rattle.calls.specs.Change.{changeOf, changeMore}
 use Rattle.calls.specs.Enter.{enterOf}
-use Rattle.dispatch.specs.Turn.{eventTurn, finishTurn, enterTurn, changeTurn, turnOf}
-use Rattle.dispatch.specs.Examples.{turnExamples}
+use Rattle.dispatch.specs.Outcome.{eventOutcome, finishOutcome, enterOutcome, changeOutcome, outcomeOf}
+use Rattle.dispatch.specs.Examples.{outcomeExamples}
 
-pub turn-examples : all turnExamples ≡ true
-unfolding all turnExamples Ieee.ofBits Ieee.le maxGet maxUpdate endsRound roundsFull roundsEnded roundsAcked settled within paramsOk roundOk modelTests rowOf storedNumber givenNumber H.recordTests H.sampleTests E.stateAfter E.isFull E.eventNumber E.recordOf E.recordNext E.roundNext E.roundAfter E.deliveredBy recordNumber cycleTests entryNumber modelOf cycleOf paramsOf recordFits recordFrom wordsFrom recordWords sampleFits sampleOf ackedOf changeOf changeMore enterOf eventTurn finishTurn enterTurn changeTurn turnOf
-turn-examples = refl
+pub outcome-examples : all outcomeExamples ≡ true
+unfolding all outcomeExamples Ieee.ofBits Ieee.le maxGet maxUpdate endsRound roundsFull roundsEnded roundsAcked settled within paramsOk roundOk modelTests rowOf storedNumber givenNumber H.eventTests H.sampleTests E.stateAfter E.isFull E.eventNumber E.eventAfter E.eventNext E.roundNext E.roundAfter E.deliveredBy finishNumber cycleTests entryNumber modelFrom cycleFrom paramsFrom eventFits eventFromWord wordsFrom eventWords sampleFits sampleFrom ackedOf changeOf changeMore enterOf eventOutcome finishOutcome enterOutcome changeOutcome outcomeOf
+outcome-examples = refl

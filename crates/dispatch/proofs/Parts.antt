@@ -1,11 +1,11 @@
--- A turn, part by part. Assumes nothing.
+-- A outcome, part by part. Assumes nothing.
 use Prim.Native.Nat.{ℕ}
 use mathlib.Core.List.{List}
 use mathlib.Core.Path.{_≡_}
 use Rattle.state.specs.declared.network_model.NetworkModel.{NetworkModel}
 use Rattle.state.specs.declared.cycle.Cycle.{Cycle}
-use Rattle.dispatch.specs.declared.turn.Turn.{Turn}
+use Rattle.dispatch.specs.declared.outcome.Outcome.{Outcome}
 
-pub turn-as : {m m′ : NetworkModel} {y y′ : Cycle} {n n′ v v′ : ℕ} {e e′ : List ℕ} → m ≡ m′ → y ≡ y′ → n ≡ n′ → v ≡ v′ → e ≡ e′
-    → _≡_ {A = Turn} (record { model = m; cycle = y; reply = n; value = v; event = e }) (record { model = m′; cycle = y′; reply = n′; value = v′; event = e′ })
-turn-as p q r s t = λ i. record { model = p i; cycle = q i; reply = r i; value = s i; event = t i }
+pub outcome-as : {m m′ : NetworkModel} {y y′ : Cycle} {n n′ v v′ : ℕ} {e e′ : List ℕ} → m ≡ m′ → y ≡ y′ → n ≡ n′ → v ≡ v′ → e ≡ e′
+    → _≡_ {A = Outcome} (record { model = m; cycle = y; reply = n; value = v; event = e }) (record { model = m′; cycle = y′; reply = n′; value = v′; event = e′ })
+outcome-as p q r s t = λ i. record { model = p i; cycle = q i; reply = r i; value = s i; event = t i }

@@ -4,10 +4,10 @@ use mathlib.Core.Bool.{Bool, true, false, _&&_}
 use mathlib.Core.List.{List, [], _∷_, _++_}
 use lib.Dec.{eqb}
 use lib.ListN.{take, drop, replicate}
-use Rattle.layout.specs.NetworkModel.{modelOf}
-use Rattle.layout.specs.Cycle.{cycleOf}
-use Rattle.dispatch.specs.declared.turn.Turn.{Turn}
-use Rattle.dispatch.specs.Turn.{turnOf}
+use Rattle.layout.specs.NetworkModel.{modelFrom}
+use Rattle.layout.specs.Cycle.{cycleFrom}
+use Rattle.dispatch.specs.declared.outcome.Outcome.{Outcome}
+use Rattle.dispatch.specs.Outcome.{outcomeOf}
 
 abbrev pub same : List ℕ → List ℕ → Bool
 same [] [] = true
@@ -33,14 +33,14 @@ call number = number ∷ zeros 37 ++ (0x3f00_0000 ∷ 0 ∷ 0 ∷ 0x3f80_0000 �
 -- its answer is the number n, no value, and these 16 words
 abbrev shows : List ℕ → List ℕ → ℕ → List ℕ → Bool
 shows words state n event =
-    let t = turnOf words (modelOf state) (cycleOf state) in
+    let t = outcomeOf words (modelFrom state) (cycleFrom state) in
     eqb (t .reply) n && eqb (t .value) 0 && same (t .event) event
 
 abbrev replies : List ℕ → ℕ → Bool
 replies words n = shows words sound n (zeros 16)
 
-unfoldable pub turnExamples : List Bool
-turnExamples =
+unfoldable pub outcomeExamples : List Bool
+outcomeExamples =
     -- numbers that are no call's; with a stored number out of bounds it is 1
     replies (call 2) 2
     ∷ replies (call 39) 2

@@ -6,19 +6,19 @@ use mathlib.Core.List.{List}
 use lib.Dec.{leb, eqb}
 use Rattle.state.specs.declared.network_model.NetworkModel.{NetworkModel}
 use Rattle.state.specs.Answers.{settled}
-use Rattle.state.specs.declared.congestion_event.Record.{Record}
-use Rattle.events.specs.Event.{recordNext}
+use Rattle.state.specs.declared.congestion_event.CongestionEvent.{CongestionEvent}
+use Rattle.events.specs.Event.{eventNext}
 use Rattle.state.specs.declared.cycle.Cycle.{Cycle}
 use Rattle.words.specs.Word.{word}
-use Rattle.arguments.specs.Record.{recordOf}
-use Rattle.arguments.specs.Sample.{sampleOf, ackedOf}
-use Rattle.dispatch.specs.declared.turn.Turn.{Turn}
-use Rattle.dispatch.specs.Turn.{isJudged, isAsked, startTurn, startedNumber, judgeTurn, askTurn, enterTurn, changeTurn}
+use Rattle.arguments.specs.CongestionEvent.{eventFrom}
+use Rattle.arguments.specs.Sample.{sampleFrom, ackedOf}
+use Rattle.dispatch.specs.declared.outcome.Outcome.{Outcome}
+use Rattle.dispatch.specs.Outcome.{isJudged, isAsked, startOutcome, startedNumber, judgeOutcome, askOutcome, enterOutcome, changeOutcome}
 
 -- all calls but 1, 3 and 4
-unfoldable pub otherTurn : List ℕ → NetworkModel → Cycle → Turn
-otherTurn w m y =
-    cond (eqb (word w 0) 0) (startTurn w)
-    (cond (isJudged (word w 0)) (judgeTurn w m y)
-    (cond (isAsked (word w 0)) (askTurn w m y)
-    (cond (leb 40 (word w 0)) (enterTurn w m y) (changeTurn w m y))))
+unfoldable pub otherOutcome : List ℕ → NetworkModel → Cycle → Outcome
+otherOutcome w m y =
+    cond (eqb (word w 0) 0) (startOutcome w)
+    (cond (isJudged (word w 0)) (judgeOutcome w m y)
+    (cond (isAsked (word w 0)) (askOutcome w m y)
+    (cond (leb 40 (word w 0)) (enterOutcome w m y) (changeOutcome w m y))))

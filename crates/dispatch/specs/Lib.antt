@@ -2,4 +2,4 @@
 pub mod Examples
 pub mod Inner
 pub mod OneCall
-pub mod Turn
+pub mod Outcome

@@ -1,3 +1,3 @@
 // One call of a run: decoded, made, and its answer written.
 pub mod one_call;
-mod turn;
+mod outcome;

@@ -10,25 +10,25 @@ ghost use Rattle.state.specs.NetworkModel.{modelOk};
 ghost use Rattle.words.specs.Words.{allBytes};
 ghost use Rattle.units.specs.Reply.{number};
 ghost use Rattle.state.specs.Answers.{settled};
-ghost use Rattle.arguments.specs.Record.{recordIn, recordWords};
-ghost use Rattle.dispatch.specs.Turn.{noRecord, sendNumber, sendLeaves, startedNumber, startedLeaves, startedWords, finishedNumber, finishedLeaves};
-ghost use Rattle.dispatch.specs.Inner.{otherTurn};
+ghost use Rattle.arguments.specs.CongestionEvent.{eventIn, eventWords};
+ghost use Rattle.dispatch.specs.Outcome.{noEvent, sendNumber, sendLeaves, startedNumber, startedLeaves, startedWords, finishedNumber, finishedLeaves};
+ghost use Rattle.dispatch.specs.Inner.{otherOutcome};
 ghost use Rattle.dispatch.specs.OneCall.{callAt, answerWords};
-use crate::turn::Turn;
-use crate::turn::carry_out;
-use crate::turn::no_record;
-use arguments::params::params_of;
-use arguments::record::record_in;
-use arguments::record::record_of;
-use arguments::record::record_words;
+use crate::outcome::Outcome;
+use crate::outcome::carry_out;
+use crate::outcome::no_event;
+use arguments::congestion_event::event_from;
+use arguments::congestion_event::event_in;
+use arguments::congestion_event::event_words;
+use arguments::params::params_from;
 use arguments::sample::acked_count;
 use arguments::sample::acked_numbers;
-use arguments::sample::sample_of;
+use arguments::sample::sample_from;
 use events::finish_tested;
 use events::start_tested;
 use state::Cycle;
 use state::NetworkModel;
-use state::congestion_event::Record;
+use state::congestion_event::CongestionEvent;
 use units::Moment;
 use units::Reply;
 use words::get_word;
@@ -46,7 +46,7 @@ pub fn send(
 ) -> NetworkModel
     requires { ⌜ (at + 392 ≤ length (now calls)) × (to + 144 ≤ length (now answers)) × (fine ≡ modelOk model) ⌝ }
     ensures { λ r. ⌜ r ≡ sendLeaves (callAt (now (calls .entry)) at) model ⌝ }
-    ensures { λ _. ⌜ now (answers .exit) ≡ sets (now (answers .entry)) to (allBytes (sendNumber (callAt (now (calls .entry)) at) model ∷ 0 ∷ noRecord)) ⌝ }
+    ensures { λ _. ⌜ now (answers .exit) ≡ sets (now (answers .entry)) to (allBytes (sendNumber (callAt (now (calls .entry)) at) model ∷ 0 ∷ noEvent)) ⌝ }
 {
     let time = get_word(calls, at + 8);
     let inflight = get_word(calls, at + 16);
@@ -54,7 +54,7 @@ pub fn send(
     let bytes = get_word(calls, at + 32);
     let changed = changes::sent_tested(model, fine, Moment(time), inflight, packet, bytes);
     let reply = changed.reply;
-    put_answer(answers, to, reply.row(), 0, &no_record());
+    put_answer(answers, to, reply.row(), 0, &no_event());
     changed.model
 }
 
@@ -77,31 +77,31 @@ pub fn start(
     let happened = start_tested(
         model,
         fine,
-        params_of(&words),
-        record_of(&words),
-        sample_of(&words),
+        params_from(&words),
+        event_from(&words),
+        sample_from(&words),
         &acked[..few],
     );
     let reply = happened.reply;
-    let record = happened.record;
+    let event = happened.event;
     put_answer(
         answers,
         to,
         reply.row(),
         0,
-        &record_left(reply, record, &words),
+        &event_left(reply, event, &words),
     );
     happened.model
 }
 
 // The record's words after an event; where it was refused, as they were handed in.
-fn record_left(reply: Reply, after: Record, words: &[u64; 49]) -> [u64; 16]
-    ensures { λ r. ⌜ r ≡ settled (number reply) (recordWords after) (recordIn (now (words .entry))) ⌝ }
+fn event_left(reply: Reply, after: CongestionEvent, words: &[u64; 49]) -> [u64; 16]
+    ensures { λ r. ⌜ r ≡ settled (number reply) (eventWords after) (eventIn (now (words .entry))) ⌝ }
 {
     if reply.is_done() {
-        record_words(after)
+        event_words(after)
     } else {
-        record_in(words)
+        event_in(words)
     }
 }
 
@@ -116,12 +116,12 @@ pub fn end(
 ) -> NetworkModel
     requires { ⌜ (at + 392 ≤ length (now calls)) × (to + 144 ≤ length (now answers)) × (fine ≡ modelOk model) ⌝ }
     ensures { λ r. ⌜ r ≡ finishedLeaves (callAt (now (calls .entry)) at) model ⌝ }
-    ensures { λ _. ⌜ now (answers .exit) ≡ sets (now (answers .entry)) to (allBytes (finishedNumber (callAt (now (calls .entry)) at) model ∷ 0 ∷ noRecord)) ⌝ }
+    ensures { λ _. ⌜ now (answers .exit) ≡ sets (now (answers .entry)) to (allBytes (finishedNumber (callAt (now (calls .entry)) at) model ∷ 0 ∷ noEvent)) ⌝ }
 {
     let words = call_at(calls, at);
-    let changed = finish_tested(model, fine, record_of(&words));
+    let changed = finish_tested(model, fine, event_from(&words));
     let reply = changed.reply;
-    put_answer(answers, to, reply.row(), 0, &no_record());
+    put_answer(answers, to, reply.row(), 0, &no_event());
     changed.model
 }
 
@@ -133,16 +133,16 @@ pub fn other(
     at: usize,
     answers: &mut [u8],
     to: usize,
-) -> Turn
+) -> Outcome
     requires { ⌜ (at + 392 ≤ length (now calls)) × (to + 144 ≤ length (now answers)) ⌝ }
-    ensures { λ r. ⌜ r ≡ otherTurn (callAt (now (calls .entry)) at) model cycle ⌝ }
-    ensures { λ _. ⌜ now (answers .exit) ≡ sets (now (answers .entry)) to (allBytes (answerWords (otherTurn (callAt (now (calls .entry)) at) model cycle))) ⌝ }
+    ensures { λ r. ⌜ r ≡ otherOutcome (callAt (now (calls .entry)) at) model cycle ⌝ }
+    ensures { λ _. ⌜ now (answers .exit) ≡ sets (now (answers .entry)) to (allBytes (answerWords (otherOutcome (callAt (now (calls .entry)) at) model cycle))) ⌝ }
 {
     let words = call_at(calls, at);
-    let turn = carry_out(model, cycle, &words);
-    let record = turn.event;
-    put_answer(answers, to, turn.reply, turn.value, &record);
-    turn
+    let outcome = carry_out(model, cycle, &words);
+    let record = outcome.event;
+    put_answer(answers, to, outcome.reply, outcome.value, &record);
+    outcome
 }
 
 // The words of the call at an index.

@@ -20,26 +20,26 @@ use Rattle.state.specs.declared.params.Params.{Params}
 use Rattle.state.specs.declared.parts.Lower.{Lower}
 use Rattle.state.specs.declared.parts.MaybeBandwidth.{MaybeBandwidth}
 use Rattle.state.specs.declared.parts.MaybeBandwidth.the-variants.{Unset, Set}
-use Rattle.state.specs.Answers.{settled, noLength, noMoment}
+use Rattle.state.specs.Answers.{settled, zeroLength, zeroMoment}
 use Rattle.state.specs.Bounds.{bandwidthOk, maybeOk, bytesOrUnsetOk}
 use Rattle.state.specs.NetworkModel.{modelTests}
 use Rattle.state.specs.NetworkModel.{one, startNumber, startModel, modelNew, withRounds, withRound, withLower, withGrowth, withMoment, restartNext, capNext, clearInflightNext, clearBandwidthNext}
 use Rattle.state.specs.Parts.{lowerCapped}
 use Rattle.state.proofs.Rows.{and-left, all-at}
-use Rattle.state.specs.declared.congestion_event.Record.{Record}
-use Rattle.state.specs.declared.congestion_event.Sample.{Sample}
+use Rattle.state.specs.declared.congestion_event.CongestionEvent.{CongestionEvent}
+use Rattle.state.specs.declared.congestion_event.CongestionEventSample.{CongestionEventSample}
 use Rattle.events.specs.Event as E
 use Rattle.state.specs.CongestionEvent as H
 use Rattle.state.specs.declared.cycle.Cycle.{Cycle}
 use Rattle.phases.specs.Phases.{restartedAt, cruiseModel, refillModel, leftModel}
 use Rattle.laws.proofs.Events.{event-model, event-sample, most-kept, most-max}
 use Rattle.drift.specs.Calls.{Call, event, cap, clearInflight, clearBandwidth, cruise, refill, other, State, numberOf, nextOf, run, started}
-use Rattle.drift.specs.Exact.{stays, clears, reduces, Exact, unset, over, isReduced, bandwidthTurn, exactly, exactRun}
+use Rattle.drift.specs.Exact.{stays, clears, reduces, Exact, unset, over, isReduced, bandwidthEffect, exactly, exactRun}
 use Rattle.drift.specs.Drift.{lowOf, bandwidthLow, Nearer, Near, Follows, Along, HasBeta, IsAny, BandwidthDrift}
 use Rattle.drift.proofs.Others.{other-same, left-same}
 use Rattle.drift.proofs.Runs.{run-kept}
 use Rattle.drift.proofs.Beta.{every-beta}
-use Rattle.drift.proofs.OneTurn.{first, again}
+use Rattle.drift.proofs.OneEffect.{first, again}
 
 module _ (beta : Float) (parts : ℕ) (value : HasValue (complement beta) false parts (2 ^ 24)) (not-all : parts < 2 ^ 24) where
   abbrev cut : Bandwidth → Bandwidth
@@ -79,25 +79,25 @@ module _ (beta : Float) (parts : ℕ) (value : HasValue (complement beta) false 
   clear-kept unset = tt
   clear-kept (over num exponent k) = tt
 
-  event-kept : (m : NetworkModel) (p : Params) (e : Record) (s : Sample) (acked : List ℕ) (x : Exact) → p .beta ≡ beta → E.eventNumber m p e s acked ≡ 0 → Kept (m .lower .bandwidth) x
-      → Kept (E.modelNext m p e s acked .lower .bandwidth) (exactly parts (cond (isReduced m e s acked) (reduces (maxGet (E.mostNext m s) .0) (E.latestRaised (m .latest) s .bandwidth .0)) stays) x)
-  unfolding modelTests H.sampleTests E.modelNext E.modelOf E.lowerNext E.lowerAfter E.lowerReduced E.recordNext E.recordOf E.mostNext isReduced exactly
+  event-kept : (m : NetworkModel) (p : Params) (e : CongestionEvent) (s : CongestionEventSample) (acked : List ℕ) (x : Exact) → p .beta ≡ beta → E.eventNumber m p e s acked ≡ 0 → Kept (m .lower .bandwidth) x
+      → Kept (E.modelNext m p e s acked .lower .bandwidth) (exactly parts (cond (isReduced m e s acked) (reduces (maxGet (E.maxbwNext m s) .0) (E.latestRaised (m .latest) s .bandwidth .0)) stays) x)
+  unfolding modelTests H.sampleTests E.modelNext E.modelAfter E.lowerNext E.lowerAfter E.lowerReduced E.eventNext E.eventAfter E.maxbwNext isReduced exactly
   event-kept m p e s acked x same done h = go (E.acts (after .ended) (after .probing) (E.roundNext m after s .lost))
     where
-      after : Record
-      after = E.recordNext m e s acked
+      after : CongestionEvent
+      after = E.eventNext m e s acked
 
       lo-ok : maybeOk (m .lower .bandwidth) ≡ true
       lo-ok = and-left (maybeOk (m .lower .bandwidth)) (bytesOrUnsetOk (m .lower .inflight)) (all-at (modelTests m) 4 (event-model m p e s acked done))
 
-      most-ok : bandwidthOk (maxGet (E.mostNext m s)) ≡ true
-      most-ok = most-max (E.mostNext m s) (most-kept (m .most) (s .bandwidth) (E.isChanged m s) (s .limited) (all-at (modelTests m) 0 (event-model m p e s acked done)) (all-at (H.sampleTests s) 0 (event-sample m p e s acked done)))
+      most-ok : bandwidthOk (maxGet (E.maxbwNext m s)) ≡ true
+      most-ok = most-max (E.maxbwNext m s) (most-kept (m .maxbw) (s .bandwidth) (E.isChanged m s) (s .applimited) (all-at (modelTests m) 0 (event-model m p e s acked done)) (all-at (H.sampleTests s) 0 (event-sample m p e s acked done)))
 
       go : (t : Bool) →
-          Kept (cond t (E.lowerReduced (m .lower) (maxGet (E.mostNext m s)) (E.latestRaised (m .latest) s) (e .window) (complement (p .beta))) (m .lower) .bandwidth)
-          (exactly parts (cond t (reduces (maxGet (E.mostNext m s) .0) (E.latestRaised (m .latest) s .bandwidth .0)) stays) x)
+          Kept (cond t (E.lowerReduced (m .lower) (maxGet (E.maxbwNext m s)) (E.latestRaised (m .latest) s) (e .window) (complement (p .beta))) (m .lower) .bandwidth)
+          (exactly parts (cond t (reduces (maxGet (E.maxbwNext m s) .0) (E.latestRaised (m .latest) s .bandwidth .0)) stays) x)
       go true =
-          let most = maxGet (E.mostNext m s) in
+          let most = maxGet (E.maxbwNext m s) in
           let latest = E.latestRaised (m .latest) s .bandwidth in
           subst (λ (f : Float). Kept (Set (largerOf latest (timesF32 (E.seedOf (m .lower .bandwidth) most) (complement f)))) (exactly parts (reduces (most .0) (latest .0)) x)) (sym same)
           (reduce-kept (m .lower .bandwidth) most latest x lo-ok most-ok h)
@@ -114,8 +114,8 @@ module _ (beta : Float) (parts : ℕ) (value : HasValue (complement beta) false 
       go true = h
       go false = h
 
-  next-kept : (c : Call) (s : State) (x : Exact) → HasBeta beta c → numberOf c s ≡ 0 → Kept (s .model .lower .bandwidth) x → Kept (nextOf c s .model .lower .bandwidth) (exactly parts (bandwidthTurn c s) x)
-  unfolding numberOf nextOf bandwidthTurn exactly capNext clearInflightNext clearBandwidthNext withLower cruiseModel withMoment refillModel restartedAt restartNext withGrowth withRounds withRound
+  next-kept : (c : Call) (s : State) (x : Exact) → HasBeta beta c → numberOf c s ≡ 0 → Kept (s .model .lower .bandwidth) x → Kept (nextOf c s .model .lower .bandwidth) (exactly parts (bandwidthEffect c s) x)
+  unfolding numberOf nextOf bandwidthEffect exactly capNext clearInflightNext clearBandwidthNext withLower cruiseModel withMoment refillModel restartedAt restartNext withGrowth withRounds withRound
   next-kept (event p e y acked) s x same done h = event-kept (s .model) p e y acked x same done h
   next-kept (cap bytes) s x same done h = capped-kept (s .model .lower) bytes x h
   next-kept clearInflight s x same done h = h
@@ -129,17 +129,17 @@ module _ (beta : Float) (parts : ℕ) (value : HasValue (complement beta) false 
   unfolding startModel settled modelNew
   start-kept p rtt now = go (eqb (startNumber p rtt now) 0)
     where
-      go : (t : Bool) → Kept (cond t (modelNew (p .cwnd) (p .pacing) (p .ignore) rtt now) (modelNew one one false noLength noMoment) .lower .bandwidth) unset
+      go : (t : Bool) → Kept (cond t (modelNew (p .cwnd) (p .pacing) (p .ignore) rtt now) (modelNew one one false zeroLength zeroMoment) .lower .bandwidth) unset
       go true = tt
       go false = tt
 
   drift : (p : Params) (rtt : Duration) (now : Moment) (y : Cycle) (calls : List Call) → Along (HasBeta beta) calls (started p rtt now y) → Along IsAny calls (started p rtt now y)
-      → Follows 4097 8192 parts (bandwidthLow (run calls (started p rtt now y))) (exactRun bandwidthTurn parts calls (started p rtt now y) unset)
+      → Follows 4097 8192 parts (bandwidthLow (run calls (started p rtt now y))) (exactRun bandwidthEffect parts calls (started p rtt now y) unset)
   unfolding bandwidthLow started
   drift p rtt now y calls same any =
       let s = started p rtt now y in
-      follows (run calls s .model .lower .bandwidth) (exactRun bandwidthTurn parts calls s unset)
-      (run-kept bandwidthTurn parts (λ s x. Kept (s .model .lower .bandwidth) x) (HasBeta beta) next-kept calls s unset same (start-kept p rtt now))
+      follows (run calls s .model .lower .bandwidth) (exactRun bandwidthEffect parts calls s unset)
+      (run-kept bandwidthEffect parts (λ s x. Kept (s .model .lower .bandwidth) x) (HasBeta beta) next-kept calls s unset same (start-kept p rtt now))
 
 pub bandwidth-drift : BandwidthDrift
 bandwidth-drift beta ok = let b = every-beta beta ok in (b .value, drift beta (partsOf (complement beta)) (b .value) (b .not-all))

@@ -18,18 +18,18 @@ use Rattle.state.specs.NetworkModel.{modelTests}
 use Rattle.state.specs.NetworkModel.{withRounds, withRound, withLower, withMoment, modelNew, startNumber, startModel, storedNumber, givenNumber, capNext, clearInflightNext, clearBandwidthNext, withGrowth, growthRestarted, restartNext}
 use Rattle.changes.specs.Changes.{sentNumber, sentNext}
 use Rattle.state.specs.Parts.{roundSent, lowerCapped}
-use Rattle.state.specs.CongestionEvent.{recordTests, sampleTests}
-use Rattle.events.specs.Event.{stateAfter, deliveredBy, roundAfter, latestRaised, lowerReduced, lowerAfter, latestAfter, recordOf, recordNext, mostNext, roundNext, lowerNext, modelOf, modelNext, isFull, eventNumber}
-use Rattle.events.specs.Event.{recordNumber, finishNext}
+use Rattle.state.specs.CongestionEvent.{eventTests, sampleTests}
+use Rattle.events.specs.Event.{stateAfter, deliveredBy, roundAfter, latestRaised, lowerReduced, lowerAfter, latestAfter, eventAfter, eventNext, maxbwNext, roundNext, lowerNext, modelAfter, modelNext, isFull, eventNumber}
+use Rattle.events.specs.Event.{finishNumber, finishNext}
 use Rattle.state.specs.Cycle.{cycleNew, stayFrom, freshNumber, freshCycle, cycleTests}
 use Rattle.phases.specs.Phases.{entryNumber, restartedAt, exitModel, leftModel, leftCycle, cycleIn, cruiseModel, cruiseCycle, refillModel, refilled, refillCycle}
 use Rattle.drift.specs.Calls.{otherNumber, numberOf, otherNext, nextOf, after, run, started}
-use Rattle.drift.specs.Exact.{isReduced, inflightTurn, bandwidthTurn, exactly, exactRun}
+use Rattle.drift.specs.Exact.{isReduced, inflightEffect, bandwidthEffect, exactly, exactRun}
 use Rattle.drift.specs.Drift.{inflightLow, bandwidthLow, Nearer}
 use Rattle.drift.specs.Examples.{driftExamples, EpisodeFollows}
 
 pub drift-examples : all driftExamples ≡ true
-unfolding driftExamples scaled scaledF64 roundAway timesF32 Ieee.round Ieee.ofBits Ieee.sub Ieee.mul Ieee.ofInt Ieee.toUnsigned Ieee.eq Ieee.le maxGet maxUpdate roundsSent endsRound roundsFull roundsEnded roundsAcked settled within paramsOk roundOk modelTests rowOf withRounds withRound withLower withMoment modelNew startNumber startModel storedNumber givenNumber sentNumber sentNext capNext clearInflightNext clearBandwidthNext withGrowth growthRestarted restartNext lowerCapped roundSent recordTests sampleTests stateAfter deliveredBy roundAfter latestRaised lowerReduced lowerAfter latestAfter recordOf recordNext mostNext roundNext lowerNext modelOf modelNext isFull eventNumber recordNumber finishNext cycleNew stayFrom freshNumber freshCycle cycleTests entryNumber restartedAt exitModel leftModel leftCycle cycleIn cruiseModel cruiseCycle refillModel refilled refillCycle otherNumber numberOf otherNext nextOf after run started isReduced inflightTurn bandwidthTurn exactly exactRun inflightLow bandwidthLow
+unfolding driftExamples scaled scaledF64 roundAway timesF32 Ieee.round Ieee.ofBits Ieee.sub Ieee.mul Ieee.ofInt Ieee.toUnsigned Ieee.eq Ieee.le maxGet maxUpdate roundsSent endsRound roundsFull roundsEnded roundsAcked settled within paramsOk roundOk modelTests rowOf withRounds withRound withLower withMoment modelNew startNumber startModel storedNumber givenNumber sentNumber sentNext capNext clearInflightNext clearBandwidthNext withGrowth growthRestarted restartNext lowerCapped roundSent eventTests sampleTests stateAfter deliveredBy roundAfter latestRaised lowerReduced lowerAfter latestAfter eventAfter eventNext maxbwNext roundNext lowerNext modelAfter modelNext isFull eventNumber finishNumber finishNext cycleNew stayFrom freshNumber freshCycle cycleTests entryNumber restartedAt exitModel leftModel leftCycle cycleIn cruiseModel cruiseCycle refillModel refilled refillCycle otherNumber numberOf otherNext nextOf after run started isReduced inflightEffect bandwidthEffect exactly exactRun inflightLow bandwidthLow
 drift-examples = refl
 
 -- the loss episode: both bounds on each of its three numbers, computed

@@ -18,21 +18,21 @@ use Rattle.state.specs.declared.network_model.NetworkModel.{NetworkModel}
 use Rattle.state.specs.declared.params.Params.{Params}
 use Rattle.state.specs.declared.parts.Latest.{Latest}
 use Rattle.state.specs.declared.parts.Lower.{Lower}
-use Rattle.state.specs.Answers.{settled, noLength, noMoment}
+use Rattle.state.specs.Answers.{settled, zeroLength, zeroMoment}
 use Rattle.state.specs.NetworkModel.{one, startNumber, startModel, modelNew, withRounds, withRound, withLower, withGrowth, withMoment, restartNext, capNext, clearInflightNext, clearBandwidthNext}
 use Rattle.state.specs.Parts.{lowerCapped}
-use Rattle.state.specs.declared.congestion_event.Record.{Record}
-use Rattle.state.specs.declared.congestion_event.Sample.{Sample}
+use Rattle.state.specs.declared.congestion_event.CongestionEvent.{CongestionEvent}
+use Rattle.state.specs.declared.congestion_event.CongestionEventSample.{CongestionEventSample}
 use Rattle.events.specs.Event as E
 use Rattle.state.specs.declared.cycle.Cycle.{Cycle}
 use Rattle.phases.specs.Phases.{restartedAt, cruiseModel, refillModel, leftModel}
 use Rattle.drift.specs.Calls.{Call, event, cap, clearInflight, clearBandwidth, cruise, refill, other, State, nextOf, after, run, started}
-use Rattle.drift.specs.Exact.{stays, clears, caps, reduces, Exact, unset, over, isReduced, inflightTurn, exactly, exactRun}
+use Rattle.drift.specs.Exact.{stays, clears, caps, reduces, Exact, unset, over, isReduced, inflightEffect, exactly, exactRun}
 use Rattle.drift.specs.Drift.{none, at, inflightLow, Nearer, Near, Follows, Along, HasBeta, IsSmall, InflightDrift}
 use Rattle.drift.proofs.Others.{other-same, left-same, left-high}
 use Rattle.drift.proofs.Runs.{run-kept, both-along}
 use Rattle.drift.proofs.Beta.{every-beta}
-use Rattle.drift.proofs.OneTurn.{first, again, cut-off}
+use Rattle.drift.proofs.OneEffect.{first, again, cut-off}
 
 module _ (beta : Float) (parts : ℕ) (value : HasValue (complement beta) false parts (2 ^ 24)) (not-all : parts < 2 ^ 24) where
   abbrev cut : ℕ → ℕ
@@ -82,11 +82,11 @@ module _ (beta : Float) (parts : ℕ) (value : HasValue (complement beta) false 
       rw (set n (h .0)) (omega (arith, q, not-above n (h .0)), again 1 1 parts not-all n (cut n) num exponent k latest (omega arith) (step n (h .0)) (h .1))
 
   -- ---- the calls
-  raised-small : (l : Latest) (s : Sample) → l .inflight ≤ 2 ^ 24 → s .inflight ≤ 2 ^ 24 → E.latestRaised l s .inflight ≤ 2 ^ 24
+  raised-small : (l : Latest) (s : CongestionEventSample) → l .inflight ≤ 2 ^ 24 → s .inflight ≤ 2 ^ 24 → E.latestRaised l s .inflight ≤ 2 ^ 24
   unfolding E.latestRaised
   raised-small l s p q = omega (arith, p, q)
 
-  after-small : (l : Latest) (ended : Bool) (s : Sample) → l .inflight ≤ 2 ^ 24 → s .inflight ≤ 2 ^ 24 → E.latestAfter l ended s .inflight ≤ 2 ^ 24
+  after-small : (l : Latest) (ended : Bool) (s : CongestionEventSample) → l .inflight ≤ 2 ^ 24 → s .inflight ≤ 2 ^ 24 → E.latestAfter l ended s .inflight ≤ 2 ^ 24
   unfolding E.latestAfter
   after-small l true s p q = go (ltb 0 (s .inflight))
     where
@@ -95,20 +95,20 @@ module _ (beta : Float) (parts : ℕ) (value : HasValue (complement beta) false 
       go false = p
   after-small l false s p q = p
 
-  event-kept : (m : NetworkModel) (p : Params) (e : Record) (s : Sample) (acked : List ℕ) (x : Exact) → p .beta ≡ beta → (e .window ≤ 2 ^ 24) × (s .inflight ≤ 2 ^ 24) → Kept m x
+  event-kept : (m : NetworkModel) (p : Params) (e : CongestionEvent) (s : CongestionEventSample) (acked : List ℕ) (x : Exact) → p .beta ≡ beta → (e .window ≤ 2 ^ 24) × (s .inflight ≤ 2 ^ 24) → Kept m x
       → Kept (E.modelNext m p e s acked) (exactly parts (cond (isReduced m e s acked) (reduces (e .window) (E.latestRaised (m .latest) s .inflight)) stays) x)
-  unfolding E.modelNext E.modelOf E.lowerNext E.lowerAfter E.lowerReduced E.recordNext E.recordOf isReduced exactly
+  unfolding E.modelNext E.modelAfter E.lowerNext E.lowerAfter E.lowerReduced E.eventNext E.eventAfter isReduced exactly
   event-kept m p e s acked x same sizes h =
       record { small = after-small (E.latestRaised (m .latest) s) (after .ended) s raised (sizes .1); raw = go (E.acts (after .ended) (after .probing) (E.roundNext m after s .lost)) }
     where
-      after : Record
-      after = E.recordNext m e s acked
+      after : CongestionEvent
+      after = E.eventNext m e s acked
 
       raised : E.latestRaised (m .latest) s .inflight ≤ 2 ^ 24
       raised = raised-small (m .latest) s (h .small) (sizes .1)
 
       go : (t : Bool) →
-          Raw (cond t (E.lowerReduced (m .lower) (maxGet (E.mostNext m s)) (E.latestRaised (m .latest) s) (e .window) (complement (p .beta))) (m .lower) .inflight)
+          Raw (cond t (E.lowerReduced (m .lower) (maxGet (E.maxbwNext m s)) (E.latestRaised (m .latest) s) (e .window) (complement (p .beta))) (m .lower) .inflight)
           (exactly parts (cond t (reduces (e .window) (E.latestRaised (m .latest) s .inflight)) stays) x)
       go true = rw same (reduce-raw (m .lower .inflight) (e .window) (E.latestRaised (m .latest) s .inflight) x (sizes .0) raised (h .raw))
       go false = h .raw
@@ -133,8 +133,8 @@ module _ (beta : Float) (parts : ℕ) (value : HasValue (complement beta) false 
   unfolding refillModel restartedAt restartNext clearInflightNext clearBandwidthNext withLower withMoment withGrowth withRounds withRound
   refill-kept m c now x h = record { small = subst (λ (l : Latest). l .inflight ≤ 2 ^ 24) (sym (left-same m c .latest)) (h .small); raw = clear-raw x }
 
-  next-kept : (c : Call) (s : State) (x : Exact) → HasBeta beta c → IsSmall c → Kept (s .model) x → Kept (nextOf c s .model) (exactly parts (inflightTurn c s) x)
-  unfolding nextOf inflightTurn exactly clearInflightNext clearBandwidthNext withLower
+  next-kept : (c : Call) (s : State) (x : Exact) → HasBeta beta c → IsSmall c → Kept (s .model) x → Kept (nextOf c s .model) (exactly parts (inflightEffect c s) x)
+  unfolding nextOf inflightEffect exactly clearInflightNext clearBandwidthNext withLower
   next-kept (event p e y acked) s x same sizes h = event-kept (s .model) p e y acked x same (omega (arith, sizes .0), omega (arith, sizes .1)) h
   next-kept (cap bytes) s x same sizes h = cap-kept (s .model) bytes x h
   next-kept clearInflight s x same sizes h = record { small = h .small; raw = clear-raw x }
@@ -147,17 +147,17 @@ module _ (beta : Float) (parts : ℕ) (value : HasValue (complement beta) false 
   unfolding startModel settled modelNew
   start-kept p rtt now = go (eqb (startNumber p rtt now) 0)
     where
-      go : (t : Bool) → Kept (cond t (modelNew (p .cwnd) (p .pacing) (p .ignore) rtt now) (modelNew one one false noLength noMoment)) unset
+      go : (t : Bool) → Kept (cond t (modelNew (p .cwnd) (p .pacing) (p .ignore) rtt now) (modelNew one one false zeroLength zeroMoment)) unset
       go true = record { small = omega arith; raw = refl }
       go false = record { small = omega arith; raw = refl }
 
   drift : (p : Params) (rtt : Duration) (now : Moment) (y : Cycle) (calls : List Call) → Along (HasBeta beta) calls (started p rtt now y) → Along IsSmall calls (started p rtt now y)
-      → Follows 1 1 parts (inflightLow (run calls (started p rtt now y))) (exactRun inflightTurn parts calls (started p rtt now y) unset)
+      → Follows 1 1 parts (inflightLow (run calls (started p rtt now y))) (exactRun inflightEffect parts calls (started p rtt now y) unset)
   unfolding inflightLow started
   drift p rtt now y calls same sizes =
       let s = started p rtt now y in
-      let kept = run-kept inflightTurn parts (λ s x. Kept (s .model) x) (λ c. HasBeta beta c × IsSmall c) (λ c s x p done. next-kept c s x (p .0) (p .1)) in
-      follows (run calls s .model .lower .inflight) (exactRun inflightTurn parts calls s unset)
+      let kept = run-kept inflightEffect parts (λ s x. Kept (s .model) x) (λ c. HasBeta beta c × IsSmall c) (λ c s x p done. next-kept c s x (p .0) (p .1)) in
+      follows (run calls s .model .lower .inflight) (exactRun inflightEffect parts calls s unset)
       (kept calls s unset (both-along (HasBeta beta) IsSmall calls s same sizes) (start-kept p rtt now) .raw)
 
 pub inflight-drift : InflightDrift

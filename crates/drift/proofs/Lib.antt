@@ -1,5 +1,5 @@
 -- Proofs of the drift.
-pub mod OneTurn
+pub mod OneEffect
 pub mod Beta
 pub mod Blind
 pub mod Others

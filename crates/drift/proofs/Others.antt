@@ -3,7 +3,7 @@ use mathlib.Core.Bool.{Bool, true, false, cond}
 use mathlib.Core.Path.{_≡_, refl}
 use Rattle.state.specs.declared.network_model.NetworkModel.{NetworkModel}
 use Rattle.state.specs.Parts.{roundNew}
-use Rattle.state.specs.NetworkModel.{withMost, withRounds, withRound, withLeast, withHigh, withGains, withGrowth, withMoment, restartNext, advanceNext}
+use Rattle.state.specs.NetworkModel.{withMaxbw, withRounds, withRound, withMinrtt, withHigh, withGains, withGrowth, withMoment, restartNext, advanceNext}
 use Rattle.changes.specs.Changes.{sentNext, reachedNext, pacingNext, cwndNext, postponeNext}
 use Rattle.events.specs.Event.{finishNext}
 use Rattle.judge.specs.Judge.{expireNext, growthNext, queueNext}
@@ -24,7 +24,7 @@ arms true a b old p q = p
 arms false a b old p q = q
 
 exit-same : (m : NetworkModel) (c : Cycle) → Same (exitModel m c) m
-unfolding exitModel advanceNext withMost
+unfolding exitModel advanceNext withMaxbw
 exit-same m c = arms (c .advanced) m (advanceNext m) m (same m) (record { lower = refl; latest = refl })
 
 pub left-same : (m : NetworkModel) (c : Cycle) → Same (leftModel m c) m
@@ -33,7 +33,7 @@ left-same m c = arms (isDown (c .stay .phase)) (exitModel m c) m m (exit-same m 
 
 -- leaving Down leaves inflight_hi too
 pub left-high : (m : NetworkModel) (c : Cycle) → leftModel m c .high ≡ m .high
-unfolding leftModel exitModel advanceNext withMost
+unfolding leftModel exitModel advanceNext withMaxbw
 left-high m c = go (isDown (c .stay .phase)) (c .advanced)
   where
     go : (t u : Bool) → cond t (cond u m (advanceNext m)) m .high ≡ m .high
@@ -42,7 +42,7 @@ left-high m c = go (isDown (c .stay .phase)) (c .advanced)
     go false u = refl
 
 pub other-same : (c : Other) (s : State) → Same (otherNext c s .model) (s .model)
-unfolding otherNext sentNext withMoment withRounds withRound finishNext expireNext withLeast growthNext withGrowth queueNext restartNext reachedNext pacingNext withGains cwndNext withHigh advanceNext withMost postponeNext restartedAt
+unfolding otherNext sentNext withMoment withRounds withRound finishNext expireNext withMinrtt growthNext withGrowth queueNext restartNext reachedNext pacingNext withGains cwndNext withHigh advanceNext withMaxbw postponeNext restartedAt
 other-same (sent now inflight packet bytes) s = record { lower = refl; latest = refl }
 other-same (finish e) s = go (e .ended)
   where

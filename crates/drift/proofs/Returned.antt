@@ -11,13 +11,13 @@ use Rattle.state.specs.declared.network_model.NetworkModel.{NetworkModel}
 use Rattle.state.specs.declared.params.Params.{Params}
 use Rattle.state.specs.Answers.{settled}
 use Rattle.state.specs.NetworkModel.{startModel}
-use Rattle.state.specs.declared.congestion_event.Record.{Record}
-use Rattle.state.specs.declared.congestion_event.Sample.{Sample}
+use Rattle.state.specs.declared.congestion_event.CongestionEvent.{CongestionEvent}
+use Rattle.state.specs.declared.congestion_event.CongestionEventSample.{CongestionEventSample}
 use Rattle.events.specs.Event.{eventNumber, modelNext}
 use Rattle.state.specs.declared.cycle.Cycle.{Cycle}
 use Rattle.drift.specs.Calls as Calls
 use Rattle.drift.specs.Calls.{Call, Other, State, otherNumber, otherNext, numberOf, nextOf, after, run, started}
-use Rattle.drift.specs.Exact.{Turn, unset, inflightTurn, bandwidthTurn, exactRun}
+use Rattle.drift.specs.Exact.{Effect, unset, inflightEffect, bandwidthEffect, exactRun}
 use Rattle.drift.specs.Drift.{Low, inflightLow, bandwidthLow, Follows, Along, HasBeta, IsSmall, IsAny, Drift, UsualDrift, Under, usualBeta, usualParts}
 use Rattle.drift.specs.Returned.{Leaves, MadeOther, Made, Begun, Ran, CodeDrift, CodeUsualDrift, CodeInflightDrift, CodeBandwidthDrift, CodeUsualInflightDrift, CodeUsualBandwidthDrift}
 use Rattle.drift.proofs.Inflight.{inflight-drift}
@@ -74,11 +74,11 @@ made-other (Calls.up time window) s t r = let q = said _ _ _ t r in both-made s 
 made-other Calls.exit s t r = let q = said _ _ _ t r in both-made s t _ _ _ _ _ (q .3 .1 .0) (q .3 .1 .1) (q .4)
 made-other (Calls.slope window) s t r = let q = said _ _ _ t r in cycle-made s t _ _ _ (q .3 .1) (q .4)
 
-event-same : {m m′ : NetworkModel} {p p′ : Params} {e e′ : Record} {y y′ : Sample} {l l′ : List ℕ} → m ≡ m′ → p ≡ p′ → e ≡ e′ → y ≡ y′ → l ≡ l′
+event-same : {m m′ : NetworkModel} {p p′ : Params} {e e′ : CongestionEvent} {y y′ : CongestionEventSample} {l l′ : List ℕ} → m ≡ m′ → p ≡ p′ → e ≡ e′ → y ≡ y′ → l ≡ l′
     → settled (eventNumber m p e y l) (modelNext m p e y l) m ≡ settled (eventNumber m′ p′ e′ y′ l′) (modelNext m′ p′ e′ y′ l′) m′
 event-same a b c d f = λ i. settled (eventNumber (a i) (b i) (c i) (d i) (f i)) (modelNext (a i) (b i) (c i) (d i) (f i)) (a i)
 
-event-made : (p : Params) (e : Record) (y : Sample) (acked : List ℕ) (s t : State) → Made (Calls.event p e y acked) s t → t ≡ settled (eventNumber (s .model) p e y acked) (record { model = modelNext (s .model) p e y acked; cycle = s .cycle }) s
+event-made : (p : Params) (e : CongestionEvent) (y : CongestionEventSample) (acked : List ℕ) (s t : State) → Made (Calls.event p e y acked) s t → t ≡ settled (eventNumber (s .model) p e y acked) (record { model = modelNext (s .model) p e y acked; cycle = s .cycle }) s
 event-made p e y acked s t r =
     let q = r .5 in model-made s t _ _ _ (r .4 .1 .0 ∙ event-same (q .0) (q .1) (q .2) (q .3) (q .4)) (q .5)
 
@@ -115,29 +115,29 @@ module _ (p : Params) (rtt : Duration) (time : Moment) (calls : List Call) (s t 
   along : (P : Call → Type 0) → Along P calls s → Along P calls (started p rtt time (s .cycle))
   along P h = subst (λ (z : State). Along P calls z) (begun p rtt time s b) h
 
-module _ (turn : Call → State → Turn) (low : State → Low) (Q : Call → Type 0) where
-  code-drift : (u v : ℕ) → Drift u v turn low Q → CodeDrift u v turn low Q
+module _ (effect : Call → State → Effect) (low : State → Low) (Q : Call → Type 0) where
+  code-drift : (u v : ℕ) → Drift u v effect low Q → CodeDrift u v effect low Q
   code-drift u v drift beta ok =
       let parts = partsOf (complement beta) in (
         drift beta ok .0,
         λ p rtt time calls s t same fine b r.
-            returned p rtt time calls s t b r (λ s t. Follows u v parts (low t) (exactRun turn parts calls s unset))
+            returned p rtt time calls s t b r (λ s t. Follows u v parts (low t) (exactRun effect parts calls s unset))
             (drift beta ok .1 p rtt time (s .cycle) calls (along p rtt time calls s t b r (HasBeta beta) same) (along p rtt time calls s t b r Q fine)),
       )
 
-  code-usual-drift : (h : ℕ) → UsualDrift h turn low Q → CodeUsualDrift h turn low Q
+  code-usual-drift : (h : ℕ) → UsualDrift h effect low Q → CodeUsualDrift h effect low Q
   code-usual-drift h drift p rtt time calls s t same fine b r =
-      returned p rtt time calls s t b r (λ s t. Under h (low t) (exactRun turn usualParts calls s unset))
+      returned p rtt time calls s t b r (λ s t. Under h (low t) (exactRun effect usualParts calls s unset))
       (drift p rtt time (s .cycle) calls (along p rtt time calls s t b r (HasBeta usualBeta) same) (along p rtt time calls s t b r Q fine))
 
 pub code-inflight-drift : CodeInflightDrift
-code-inflight-drift = code-drift inflightTurn inflightLow IsSmall 1 1 inflight-drift
+code-inflight-drift = code-drift inflightEffect inflightLow IsSmall 1 1 inflight-drift
 
 pub code-bandwidth-drift : CodeBandwidthDrift
-code-bandwidth-drift = code-drift bandwidthTurn bandwidthLow IsAny 4097 8192 bandwidth-drift
+code-bandwidth-drift = code-drift bandwidthEffect bandwidthLow IsAny 4097 8192 bandwidth-drift
 
 pub code-usual-inflight-drift : CodeUsualInflightDrift
-code-usual-inflight-drift = code-usual-drift inflightTurn inflightLow IsSmall 334 usual-inflight-drift
+code-usual-inflight-drift = code-usual-drift inflightEffect inflightLow IsSmall 334 usual-inflight-drift
 
 pub code-usual-bandwidth-drift : CodeUsualBandwidthDrift
-code-usual-bandwidth-drift = code-usual-drift bandwidthTurn bandwidthLow IsAny 167 usual-bandwidth-drift
+code-usual-bandwidth-drift = code-usual-drift bandwidthEffect bandwidthLow IsAny 167 usual-bandwidth-drift

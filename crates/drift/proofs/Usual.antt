@@ -7,7 +7,7 @@ use lib.Ieee.{ofBits, sub, le, fits}
 use Rattle.numbers.specs.Scaling.{complement, partsOf}
 use Rattle.state.specs.Bounds.{within}
 use Rattle.drift.specs.Calls.{Call, State, run, started}
-use Rattle.drift.specs.Exact.{Turn, Exact, unset, over, inflightTurn, bandwidthTurn, exactRun}
+use Rattle.drift.specs.Exact.{Effect, Exact, unset, over, inflightEffect, bandwidthEffect, exactRun}
 use Rattle.drift.specs.Drift.{IsBeta, Low, none, at, inflightLow, bandwidthLow, Nearer, Follows, usualBeta, usualParts, Under, UsualInflightDrift, UsualBandwidthDrift}
 use Rattle.drift.proofs.Inflight.{inflight-drift}
 use Rattle.drift.proofs.Bandwidth.{bandwidth-drift}
@@ -34,18 +34,18 @@ module _ (u v h : ℕ) (rate : (n num exponent : ℕ) → Nearer n num exponent 
   under (at n) unset f = f
   under (at n) (over num exponent k) f = rate n num exponent (f .by-rate)
 
-  usual : (turn : Call → State → Turn) (l : Low) (calls : List Call) (s : State)
-      → Follows u v (partsOf (complement usualBeta)) l (exactRun turn (partsOf (complement usualBeta)) calls s unset)
-      → Under h l (exactRun turn usualParts calls s unset)
-  usual turn l calls s f =
-      under l (exactRun turn usualParts calls s unset) (subst (λ (parts : ℕ). Follows u v parts l (exactRun turn parts calls s unset)) usual-parts f)
+  usual : (effect : Call → State → Effect) (l : Low) (calls : List Call) (s : State)
+      → Follows u v (partsOf (complement usualBeta)) l (exactRun effect (partsOf (complement usualBeta)) calls s unset)
+      → Under h l (exactRun effect usualParts calls s unset)
+  usual effect l calls s f =
+      under l (exactRun effect usualParts calls s unset) (subst (λ (parts : ℕ). Follows u v parts l (exactRun effect parts calls s unset)) usual-parts f)
 
 pub usual-inflight-drift : UsualInflightDrift
 usual-inflight-drift p rtt now y calls same sizes =
     let s = started p rtt now y in
-    usual 1 1 334 inflight-under inflightTurn (inflightLow (run calls s)) calls s (inflight-drift usualBeta usual-beta .1 p rtt now y calls same sizes)
+    usual 1 1 334 inflight-under inflightEffect (inflightLow (run calls s)) calls s (inflight-drift usualBeta usual-beta .1 p rtt now y calls same sizes)
 
 pub usual-bandwidth-drift : UsualBandwidthDrift
 usual-bandwidth-drift p rtt now y calls same any =
     let s = started p rtt now y in
-    usual 4097 8192 167 bandwidth-under bandwidthTurn (bandwidthLow (run calls s)) calls s (bandwidth-drift usualBeta usual-beta .1 p rtt now y calls same any)
+    usual 4097 8192 167 bandwidth-under bandwidthEffect (bandwidthLow (run calls s)) calls s (bandwidth-drift usualBeta usual-beta .1 p rtt now y calls same any)

@@ -12,8 +12,8 @@ use Rattle.state.specs.Answers.{settled}
 use Rattle.state.specs.Bounds.{bytesOrUnsetOk, gainOk}
 use Rattle.state.specs.NetworkModel as M
 use Rattle.changes.specs.Changes as N
-use Rattle.state.specs.declared.congestion_event.Record.{Record}
-use Rattle.state.specs.declared.congestion_event.Sample.{Sample}
+use Rattle.state.specs.declared.congestion_event.CongestionEvent.{CongestionEvent}
+use Rattle.state.specs.declared.congestion_event.CongestionEventSample.{CongestionEventSample}
 use Rattle.events.specs.Event as E
 use Rattle.judge.specs.Judge as J
 use Rattle.state.specs.declared.cycle.Cycle.{Cycle}
@@ -23,9 +23,9 @@ use Rattle.phases.specs.Phases as P
 -- what they are given (docs/DECISIONS.md, 22, has the steps that don't). First those whose rules name no lower bound
 pub data Other : Type 0 where
   sent : (now : Moment) (inflight packet bytes : ℕ) → Other
-  finish : Record → Other
-  expire : Params → Record → Other
-  growth : Params → Record → Other
+  finish : CongestionEvent → Other
+  expire : Params → CongestionEvent → Other
+  growth : Params → CongestionEvent → Other
   queue : Params → (gain : Float) → Other
   restart : Other
   reached : Other
@@ -40,7 +40,7 @@ pub data Other : Type 0 where
   slope : (window : ℕ) → Other
 
 pub data Call : Type 0 where
-  event : Params → Record → Sample → (acked : List ℕ) → Call
+  event : Params → CongestionEvent → CongestionEventSample → (acked : List ℕ) → Call
   cap : (bytes : ℕ) → Call
   clearInflight : Call
   clearBandwidth : Call
@@ -58,7 +58,7 @@ onModel s m = record { model = m; cycle = s .cycle }
 -- ---- the number of a call's reply
 unfoldable pub otherNumber : Other → State → ℕ
 otherNumber (sent now inflight packet bytes) s = N.sentNumber (s .model) now inflight bytes
-otherNumber (finish e) s = E.recordNumber (s .model) e
+otherNumber (finish e) s = E.finishNumber (s .model) e
 otherNumber (expire p e) s = J.judgedNumber (s .model) p e false
 otherNumber (growth p e) s = J.judgedNumber (s .model) p e (J.growthFull (s .model) p e)
 otherNumber (queue p gain) s = J.queueNumber (s .model) p gain

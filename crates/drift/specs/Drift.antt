@@ -46,12 +46,12 @@ use Rattle.state.specs.declared.params.Params.{Params}
 use Rattle.state.specs.declared.parts.MaybeBandwidth.{MaybeBandwidth}
 use Rattle.state.specs.declared.parts.MaybeBandwidth.the-variants.{Unset, Set}
 use Rattle.state.specs.Params.{betaOk}
-use Rattle.state.specs.declared.congestion_event.Record.{Record}
-use Rattle.state.specs.declared.congestion_event.Sample.{Sample}
+use Rattle.state.specs.declared.congestion_event.CongestionEvent.{CongestionEvent}
+use Rattle.state.specs.declared.congestion_event.CongestionEventSample.{CongestionEventSample}
 use Rattle.state.specs.declared.cycle.Cycle.{Cycle}
 use Rattle.drift.specs.Calls as Calls
 use Rattle.drift.specs.Calls.{Call, State, numberOf, after, run, started}
-use Rattle.drift.specs.Exact.{Turn, Exact, unset, over, inflightTurn, bandwidthTurn, exactRun}
+use Rattle.drift.specs.Exact.{Effect, Exact, unset, over, inflightEffect, bandwidthEffect, exactRun}
 
 -- ---- a lower bound as it is stored: unset, or a number
 pub data Low : Type 0 where
@@ -96,7 +96,7 @@ Along P [] s = Unit {0}
 Along P (c ∷ calls) s = (numberOf c s ≡ 0 → P c) × Along P calls (after c s)
 
 -- Q of the event that a call carries
-abbrev pub OfEvent : (Params → Record → Sample → Type 0) → Call → Type 0
+abbrev pub OfEvent : (Params → CongestionEvent → CongestionEventSample → Type 0) → Call → Type 0
 OfEvent Q (Calls.event p e y acked) = Q p e y
 OfEvent Q (Calls.cap bytes) = Unit {0}
 OfEvent Q Calls.clearInflight = Unit {0}
@@ -122,10 +122,10 @@ pub record IsBeta (beta : Float) : Type 0 where
   pub range : betaOk beta ≡ true
 
 -- ---- the theorem: b is exactly parts / 2^24, and after any list of calls from a fresh model, beside any cycle y, the
--- number follows its exact run. u / v bounds what one reduction is off, `turn` is what a call does to the number, `low`
+-- number follows its exact run. u / v bounds what one reduction is off, `effect` is what a call does to the number, `low`
 -- the number as it is stored, P what is asked of every accepted event besides beta
-abbrev pub Drift : (u v : ℕ) → (Call → State → Turn) → (State → Low) → (Call → Type 0) → Type 0
-Drift u v turn low P =
+abbrev pub Drift : (u v : ℕ) → (Call → State → Effect) → (State → Low) → (Call → Type 0) → Type 0
+Drift u v effect low P =
     (beta : Float) → IsBeta beta →
     let parts = partsOf (complement beta) in
     HasValue (complement beta) false parts (2 ^ 24)
@@ -133,15 +133,15 @@ Drift u v turn low P =
     let s = started p rtt now y in
     Along (HasBeta beta) calls s →
     Along P calls s →
-    Follows u v parts (low (run calls s)) (exactRun turn parts calls s unset))
+    Follows u v parts (low (run calls s)) (exactRun effect parts calls s unset))
 
 -- inflight_lo: less than k bytes, and less than 1 / (1 - b) bytes
 abbrev pub InflightDrift : Type 0
-InflightDrift = Drift 1 1 inflightTurn inflightLow IsSmall
+InflightDrift = Drift 1 1 inflightEffect inflightLow IsSmall
 
 -- bandwidth_lo: with 4097 / 8192 bits per second for each reduction
 abbrev pub BandwidthDrift : Type 0
-BandwidthDrift = Drift 4097 8192 bandwidthTurn bandwidthLow IsAny
+BandwidthDrift = Drift 4097 8192 bandwidthEffect bandwidthLow IsAny
 
 -- ---- at beta 0.3, the f32 with the bits 3E99999A, b is 11744051 / 2^24
 abbrev pub usualBeta : Float
@@ -157,18 +157,18 @@ Under h none (over num exponent k) = ⊥
 Under h (at n) unset = ⊥
 Under h (at n) (over num exponent k) = Nearer n num exponent h 1 100
 
-abbrev pub UsualDrift : (hundredths : ℕ) → (Call → State → Turn) → (State → Low) → (Call → Type 0) → Type 0
-UsualDrift h turn low P =
+abbrev pub UsualDrift : (hundredths : ℕ) → (Call → State → Effect) → (State → Low) → (Call → Type 0) → Type 0
+UsualDrift h effect low P =
     (p : Params) (rtt : Duration) (now : Moment) (y : Cycle) (calls : List Call) →
     let s = started p rtt now y in
     Along (HasBeta usualBeta) calls s →
     Along P calls s →
-    Under h (low (run calls s)) (exactRun turn usualParts calls s unset)
+    Under h (low (run calls s)) (exactRun effect usualParts calls s unset)
 
 -- under 3.34 bytes
 abbrev pub UsualInflightDrift : Type 0
-UsualInflightDrift = UsualDrift 334 inflightTurn inflightLow IsSmall
+UsualInflightDrift = UsualDrift 334 inflightEffect inflightLow IsSmall
 
 -- under 1.67 bits per second
 abbrev pub UsualBandwidthDrift : Type 0
-UsualBandwidthDrift = UsualDrift 167 bandwidthTurn bandwidthLow IsAny
+UsualBandwidthDrift = UsualDrift 167 bandwidthEffect bandwidthLow IsAny

@@ -8,11 +8,11 @@ use Rattle.state.specs.NetworkModel.{one}
 use Rattle.state.specs.declared.parts.MaybeBandwidth.the-variants.{Unset, Set}
 use Rattle.units.specs.declared.time.Moment.{Moment}
 use Rattle.state.specs.declared.congestion_event.MaybeLength.the-variants.{Missing}
-use Rattle.state.specs.declared.congestion_event.Record.{Record}
-use Rattle.state.specs.declared.congestion_event.Sample.{Sample}
+use Rattle.state.specs.declared.congestion_event.CongestionEvent.{CongestionEvent}
+use Rattle.state.specs.declared.congestion_event.CongestionEventSample.{CongestionEventSample}
 use Rattle.state.specs.Cycle.{freshCycle}
 use Rattle.drift.specs.Calls.{Call, event, cap, clearInflight, cruise, refill, other, sent, finish, State, run, started}
-use Rattle.drift.specs.Exact.{Exact, unset, over, inflightTurn, bandwidthTurn, exactRun}
+use Rattle.drift.specs.Exact.{Exact, unset, over, inflightEffect, bandwidthEffect, exactRun}
 use Rattle.drift.specs.Drift.{Low, none, at, inflightLow, bandwidthLow, Follows, Under, usualBeta, usualParts}
 
 -- ---- a run of lossy rounds: in each a packet is sent, and an event acks it and loses a byte
@@ -36,7 +36,7 @@ abbrev pub moment : Moment
 moment = record { 0 = 0 }
 
 -- the record of an event in a window
-abbrev told : (window : ℕ) (probing ended : Bool) → Record
+abbrev told : (window : ℕ) (probing ended : Bool) → CongestionEvent
 told window probing ended =
     record {
       time = moment;
@@ -49,21 +49,21 @@ told window probing ended =
       probing = probing;
       bandwidth = Unset;
       rtt = Missing;
-      state = record { valid = false; limited = false; acked = 0; inflight = 0 };
+      state = record { valid = false; applimited = false; acked = 0; inflight = 0 };
     }
 
 -- the sampler's answer in round n
-abbrev heard : (n lost rate : ℕ) → Sample
+abbrev heard : (n lost rate : ℕ) → CongestionEventSample
 heard n lost rate =
     record {
       bandwidth = Set (record { 0 = rate });
       send = Unset;
       ack = Unset;
-      limited = false;
+      applimited = false;
       rtt = Missing;
       inflight = 0;
       extra = 0;
-      state = record { valid = false; limited = false; acked = 0; inflight = 0 };
+      state = record { valid = false; applimited = false; acked = 0; inflight = 0 };
       totals = record { acked = n; lost = lost };
     }
 
@@ -119,10 +119,10 @@ abbrev low : List Call → Low
 low calls = inflightLow (run calls fresh)
 
 abbrev exact : List Call → Exact
-exact calls = exactRun inflightTurn usualParts calls fresh unset
+exact calls = exactRun inflightEffect usualParts calls fresh unset
 
 abbrev bandwidth : List Call → Exact
-bandwidth calls = exactRun bandwidthTurn usualParts calls fresh unset
+bandwidth calls = exactRun bandwidthEffect usualParts calls fresh unset
 
 -- ---- the runs
 abbrev deep : List Call

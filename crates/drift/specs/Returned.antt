@@ -24,7 +24,7 @@ use Rattle.judge.proofs.judge as judge
 use Rattle.phases.proofs.phases as phases
 use Rattle.drift.specs.Calls as Calls
 use Rattle.drift.specs.Calls.{Call, Other, State}
-use Rattle.drift.specs.Exact.{Turn, unset, inflightTurn, bandwidthTurn, exactRun}
+use Rattle.drift.specs.Exact.{Effect, unset, inflightEffect, bandwidthEffect, exactRun}
 use Rattle.drift.specs.Drift.{Low, inflightLow, bandwidthLow, Follows, Along, HasBeta, IsSmall, IsAny, IsBeta, usualBeta, usualParts, Under}
 
 -- P of some arguments and of a reply to them that the contract allows. That there is one for all arguments is what the
@@ -164,8 +164,8 @@ Ran (c ∷ calls) s t =
     × Ran calls u t
 
 -- ---- the theorems of specs/Drift.antt, of the states that the public functions return
-abbrev pub CodeDrift : (u v : ℕ) → (Call → State → Turn) → (State → Low) → (Call → Type 0) → Type 0
-CodeDrift u v turn low P =
+abbrev pub CodeDrift : (u v : ℕ) → (Call → State → Effect) → (State → Low) → (Call → Type 0) → Type 0
+CodeDrift u v effect low P =
     (beta : Float) → IsBeta beta →
     let parts = partsOf (complement beta) in
     HasValue (complement beta) false parts (2 ^ 24)
@@ -174,26 +174,26 @@ CodeDrift u v turn low P =
     Along P calls s →
     Begun p rtt time s →
     Ran calls s t →
-    Follows u v parts (low t) (exactRun turn parts calls s unset))
+    Follows u v parts (low t) (exactRun effect parts calls s unset))
 
 abbrev pub CodeInflightDrift : Type 0
-CodeInflightDrift = CodeDrift 1 1 inflightTurn inflightLow IsSmall
+CodeInflightDrift = CodeDrift 1 1 inflightEffect inflightLow IsSmall
 
 abbrev pub CodeBandwidthDrift : Type 0
-CodeBandwidthDrift = CodeDrift 4097 8192 bandwidthTurn bandwidthLow IsAny
+CodeBandwidthDrift = CodeDrift 4097 8192 bandwidthEffect bandwidthLow IsAny
 
 -- at beta 0.3: under 3.34 bytes, and under 1.67 bits per second
-abbrev pub CodeUsualDrift : (hundredths : ℕ) → (Call → State → Turn) → (State → Low) → (Call → Type 0) → Type 0
-CodeUsualDrift h turn low P =
+abbrev pub CodeUsualDrift : (hundredths : ℕ) → (Call → State → Effect) → (State → Low) → (Call → Type 0) → Type 0
+CodeUsualDrift h effect low P =
     (p : Params) (rtt : Duration) (time : Moment) (calls : List Call) (s t : State) →
     Along (HasBeta usualBeta) calls s →
     Along P calls s →
     Begun p rtt time s →
     Ran calls s t →
-    Under h (low t) (exactRun turn usualParts calls s unset)
+    Under h (low t) (exactRun effect usualParts calls s unset)
 
 abbrev pub CodeUsualInflightDrift : Type 0
-CodeUsualInflightDrift = CodeUsualDrift 334 inflightTurn inflightLow IsSmall
+CodeUsualInflightDrift = CodeUsualDrift 334 inflightEffect inflightLow IsSmall
 
 abbrev pub CodeUsualBandwidthDrift : Type 0
-CodeUsualBandwidthDrift = CodeUsualDrift 167 bandwidthTurn bandwidthLow IsAny
+CodeUsualBandwidthDrift = CodeUsualDrift 167 bandwidthEffect bandwidthLow IsAny

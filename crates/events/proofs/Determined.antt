@@ -3,15 +3,15 @@ use mathlib.Core.Path.{_≡_, sym, _∙_}
 use Rattle.numbers.specs.OneReply.{OneReply}
 use Rattle.units.proofs.reply.Number.{number-injective}
 use Rattle.state.specs.declared.network_model.NetworkModel.{NetworkModel}
-use Rattle.state.specs.declared.congestion_event.Record.{Record}
+use Rattle.state.specs.declared.congestion_event.CongestionEvent.{CongestionEvent}
 use Rattle.units.specs.declared.reply.Reply.{Reply}
-use Rattle.events.specs.declared.event.Event.{Event}
+use Rattle.events.specs.declared.event.Started.{Started}
 use Rattle.state.proofs.Determined.{changed}
 use Rattle.events.proofs.event as event
 
 pub happened :
-    {a a′ : Reply} {b b′ : NetworkModel} {c c′ : Record} → a ≡ a′ → b ≡ b′ → c ≡ c′ →
-    _≡_ {A = Event} (record { reply = a; model = b; «record» = c }) (record { reply = a′; model = b′; «record» = c′ })
+    {a a′ : Reply} {b b′ : NetworkModel} {c c′ : CongestionEvent} → a ≡ a′ → b ≡ b′ → c ≡ c′ →
+    _≡_ {A = Started} (record { reply = a; model = b; event = c }) (record { reply = a′; model = b′; event = c′ })
 happened p q r = cc
 
 pub one-event-on-congestion-event-start : OneReply event.on_congestion_event_start.Reads.Learnt

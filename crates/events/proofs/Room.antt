@@ -14,26 +14,26 @@ use Rattle.state.specs.NetworkModel.{modelOk, modelTests}
 use Rattle.state.specs.Params.{paramsOk}
 use Rattle.state.specs.Parts.{roundOk}
 use Rattle.state.proofs.Rows.{none, and-left, and-right, or-right, all-at}
-use Rattle.state.specs.declared.congestion_event.Record.{Record}
-use Rattle.state.specs.declared.congestion_event.Sample.{Sample}
+use Rattle.state.specs.declared.congestion_event.CongestionEvent.{CongestionEvent}
+use Rattle.state.specs.declared.congestion_event.CongestionEventSample.{CongestionEventSample}
 use Rattle.state.proofs.Laws.{fails-right}
 use Rattle.events.specs.Event.{bytesLost, isFull, eventNumber}
-use Rattle.state.specs.CongestionEvent.{recordOk, sampleOk, sampleTests}
+use Rattle.state.specs.CongestionEvent.{eventOk, sampleOk, sampleTests}
 
 -- bytes lost in the round of a model within bounds
 pub round-lost : (m : NetworkModel) → modelOk m ≡ true → m .round .lost ≤ 2 ^ 62
 unfolding modelTests roundOk
 round-lost m h = leb-true _ _ (and-left _ _ (and-left _ _ (and-left _ _ (and-left _ _ (all-at (modelTests m) 2 h)))))
 
-pub sample-lost : (s : Sample) → sampleOk s ≡ true → s .totals .lost ≤ 2 ^ 62
+pub sample-lost : (s : CongestionEventSample) → sampleOk s ≡ true → s .totals .lost ≤ 2 ^ 62
 unfolding sampleTests
 sample-lost s h = leb-true _ _ (and-right (totalOk (s .totals .acked)) _ (all-at (sampleTests s) 7 h))
 
-pub room : (m : NetworkModel) (p : Params) (e : Record) (s : Sample) (acked : List ℕ) (n : ℕ) → n ≡ eventNumber m p e s acked → eqb n 0 ≡ true
+pub room : (m : NetworkModel) (p : Params) (e : CongestionEvent) (s : CongestionEventSample) (acked : List ℕ) (n : ℕ) → n ≡ eventNumber m p e s acked → eqb n 0 ≡ true
     → (m .round .lost + bytesLost m s < 2 ^ 64) × (ltb 0 (bytesLost m s) ≡ true → eqb (m .round .losses) (2 ^ 64 - 1) ≡ false)
 unfolding eventNumber isFull
 room m p e s acked n i z =
     let d = none _ _ _ _ _ (sym i ∙ eqb-true n 0 z) in
     let a = round-lost m (and-left (modelOk m) (paramsOk p) (not-false (modelOk m && paramsOk p) (d .stored-fine))) in
-    let b = sample-lost s (and-right (recordOk e) (sampleOk s) (not-false (recordOk e && sampleOk s) (d .argument-fine))) in
+    let b = sample-lost s (and-right (eventOk e) (sampleOk s) (not-false (eventOk e && sampleOk s) (d .argument-fine))) in
     (omega arith, λ l. fails-right (ltb 0 (bytesLost m s)) (eqb (m .round .losses) (2 ^ 64 - 1)) (or-right (roundsFull (m .rounds) acked) (ltb 0 (bytesLost m s) && eqb (m .round .losses) (2 ^ 64 - 1)) (d .not-full)) l)

@@ -3,8 +3,8 @@
 -- sampler says to it, and `acked` the packet numbers acked.
 --
 -- The way of an event. Check: the table's rows (`eventRows`). Round: whether one ends (`roundsEnded`, `roundsAcked`).
--- Sample: the record, the filters and the round's sums (`recordOf`, `mostNext`, `leastAfter`, `roundNext`). Bounds:
--- the lower ones, then the latest (`lowerNext`, `latestAfter`). Settle: all is stored (`modelOf`). Last on the page
+-- CongestionEventSample: the record, the filters and the round's sums (`eventAfter`, `maxbwNext`, `minrttAfter`, `roundNext`). Bounds:
+-- the lower ones, then the latest (`lowerNext`, `latestAfter`). Settle: all is stored (`modelAfter`). Last on the page
 -- three events are worked out, step by step.
 use Prim.Native.Nat.{ℕ, min, max, _+_, _-_, _*_, _^_}
 use mathlib.Core.Bool.{Bool, true, false, cond, not, _&&_, _||_}
@@ -34,36 +34,36 @@ use Rattle.state.specs.NetworkModel.{modelOk, withRounds, withRound, one, start
 use Rattle.state.specs.Params.{paramsOk}
 use Rattle.state.specs.declared.congestion_event.MaybeLength.{MaybeLength}
 use Rattle.state.specs.declared.congestion_event.MaybeLength.the-variants.{Missing, Length}
-use Rattle.state.specs.declared.congestion_event.Record.{Record}
-use Rattle.state.specs.declared.congestion_event.Sample.{Sample}
-use Rattle.state.specs.declared.congestion_event.SendState.{SendState}
-use Rattle.state.specs.CongestionEvent.{recordOk, sampleOk}
+use Rattle.state.specs.declared.congestion_event.CongestionEvent.{CongestionEvent}
+use Rattle.state.specs.declared.congestion_event.CongestionEventSample.{CongestionEventSample}
+use Rattle.state.specs.declared.congestion_event.SendTimeState.{SendTimeState}
+use Rattle.state.specs.CongestionEvent.{eventOk, sampleOk}
 use Rattle.state.specs.Parts.{roundNew}
-use Rattle.state.specs.Refusals.{noRows, stored, argument, earlier, lower, full, isMost, lowest}
+use Rattle.state.specs.Refusals.{noRows, stored, argument, earlier, lower, full, isFullCounter, lowest}
 
 -- "bytes acked and lost"
-abbrev pub bytesAcked : NetworkModel → Sample → ℕ
+abbrev pub bytesAcked : NetworkModel → CongestionEventSample → ℕ
 bytesAcked m s = s .totals .acked - m .totals .acked
 
-abbrev pub bytesLost : NetworkModel → Sample → ℕ
+abbrev pub bytesLost : NetworkModel → CongestionEventSample → ℕ
 bytesLost m s = s .totals .lost - m .totals .lost
 
 -- "cwnd-limited flag if extra acked is 0 (prior inflight >= prior window)"
-unfoldable pub limitedAfter : Bool → ℕ → ℕ → ℕ → Bool
-limitedAfter was extra prior window = cond (eqb extra 0) (leb window prior) was
+unfoldable pub cwndlimitedAfter : Bool → ℕ → ℕ → ℕ → Bool
+cwndlimitedAfter was extra prior window = cond (eqb extra 0) (leb window prior) was
 
 -- "last send state if valid"
-unfoldable pub stateAfter : SendState → SendState → SendState
+unfoldable pub stateAfter : SendTimeState → SendTimeState → SendTimeState
 stateAfter was new = cond (new .valid) new was
 
 -- "only if total acked changed"
-abbrev pub isChanged : NetworkModel → Sample → Bool
+abbrev pub isChanged : NetworkModel → CongestionEventSample → Bool
 isChanged m s = not (eqb (m .totals .acked) (s .totals .acked))
 
 -- "max filter (only if total acked changed, and only if not app-limited or the sample is above the present maximum)"
-abbrev pub mostAfter : MaxBandwidthFilter → MaybeBandwidth → Bool → Bool → MaxBandwidthFilter
-mostAfter f Unset changed limited = f
-mostAfter f (Set b) changed limited = cond (changed && (not limited || ltb (maxGet f .0) (b .0))) (maxUpdate f b) f
+abbrev pub maxbwAfter : MaxBandwidthFilter → MaybeBandwidth → Bool → Bool → MaxBandwidthFilter
+maxbwAfter f Unset changed limited = f
+maxbwAfter f (Set b) changed limited = cond (changed && (not limited || ltb (maxGet f .0) (b .0))) (maxUpdate f b) f
 
 -- the record takes the sample if total acked changed
 abbrev pub bandwidthAfter : MaybeBandwidth → MaybeBandwidth → Bool → MaybeBandwidth
@@ -71,16 +71,16 @@ bandwidthAfter was Unset changed = was
 bandwidthAfter was (Set b) changed = cond changed (Set b) was
 
 -- "min RTT"; the record takes the sample
-abbrev pub leastAfter : MinRttFilter → MaybeLength → Moment → MinRttFilter
-leastAfter f Missing now = f
-leastAfter f (Length d) now = minUpdate f d now
+abbrev pub minrttAfter : MinRttFilter → MaybeLength → Moment → MinRttFilter
+minrttAfter f Missing now = f
+minrttAfter f (Length d) now = minUpdate f d now
 
 abbrev pub rttAfter : MaybeLength → MaybeLength → MaybeLength
 rttAfter was Missing = was
 rttAfter was (Length d) = Length d
 
 -- "loss sums (event count +1 if bytes lost > 0); delivered maximum; minimum inflight"
-unfoldable pub deliveredBy : SendState → ℕ → ℕ → ℕ
+unfoldable pub deliveredBy : SendTimeState → ℕ → ℕ → ℕ
 deliveredBy t acked total = cond (ltb 0 acked && t .valid && ltb (t .acked) total) (total - t .acked) 0
 
 unfoldable pub roundAfter : Round → ℕ → ℕ → ℕ → Round
@@ -89,8 +89,8 @@ roundAfter r lost delivered inflight =
       lost = cond (ltb 0 lost) (r .lost + lost) (r .lost);
       losses = cond (ltb 0 lost) (r .losses + 1) (r .losses);
       delivered = max (r .delivered) delivered;
-      least = min (r .least) inflight;
-      limited = r .limited;
+      mininflight = min (r .mininflight) inflight;
+      hilimited = r .hilimited;
     }
 
 -- "raise the latest bandwidth and inflight"
@@ -98,7 +98,7 @@ abbrev pub raisedBandwidth : Bandwidth → MaybeBandwidth → Bandwidth
 raisedBandwidth was Unset = was
 raisedBandwidth was (Set b) = largerOf was b
 
-unfoldable pub latestRaised : Latest → Sample → Latest
+unfoldable pub latestRaised : Latest → CongestionEventSample → Latest
 latestRaised l s =
     record {
       bandwidth = raisedBandwidth (l .bandwidth) (s .bandwidth);
@@ -134,15 +134,15 @@ newestOf was sample = cond (ltb 0 sample) sample was
 
 -- "then, at a round's end only, latest bandwidth takes the sample if there is one and latest inflight the sample if
 -- above 0"
-unfoldable pub latestAfter : Latest → Bool → Sample → Latest
+unfoldable pub latestAfter : Latest → Bool → CongestionEventSample → Latest
 latestAfter l ended s =
     cond ended
     (record { bandwidth = seedOf (s .bandwidth) (l .bandwidth); inflight = newestOf (l .inflight) (s .inflight) })
     l
 
 -- ---- the record after the event; `ended` says whether a round ended
-unfoldable pub recordOf : NetworkModel → Record → Sample → Bool → Record
-recordOf m e s ended =
+unfoldable pub eventAfter : NetworkModel → CongestionEvent → CongestionEventSample → Bool → CongestionEvent
+eventAfter m e s ended =
     record {
       time = e .time;
       window = e .window;
@@ -157,69 +157,69 @@ recordOf m e s ended =
       state = stateAfter (e .state) (s .state);
     }
 
-unfoldable pub recordNext : NetworkModel → Record → Sample → List ℕ → Record
-recordNext m e s acked = recordOf m e s (roundsEnded (m .rounds) acked)
+unfoldable pub eventNext : NetworkModel → CongestionEvent → CongestionEventSample → List ℕ → CongestionEvent
+eventNext m e s acked = eventAfter m e s (roundsEnded (m .rounds) acked)
 
 -- ---- the model after the event, from the record after it: the round's count and end first
-unfoldable pub mostNext : NetworkModel → Sample → MaxBandwidthFilter
-mostNext m s = mostAfter (m .most) (s .bandwidth) (isChanged m s) (s .limited)
+unfoldable pub maxbwNext : NetworkModel → CongestionEventSample → MaxBandwidthFilter
+maxbwNext m s = maxbwAfter (m .maxbw) (s .bandwidth) (isChanged m s) (s .applimited)
 
-unfoldable pub roundNext : NetworkModel → Record → Sample → Round
+unfoldable pub roundNext : NetworkModel → CongestionEvent → CongestionEventSample → Round
 roundNext m after s =
     let delivered = deliveredBy (after .state) (after .acked) (s .totals .acked) in
     roundAfter (m .round) (after .lost) delivered (after .inflight)
 
-unfoldable pub lowerNext : NetworkModel → Params → Record → Sample → MaxBandwidthFilter → ℕ → Lower
+unfoldable pub lowerNext : NetworkModel → Params → CongestionEvent → CongestionEventSample → MaxBandwidthFilter → ℕ → Lower
 lowerNext m p after s most lost =
     let reduces = acts (after .ended) (after .probing) lost in
     lowerAfter (m .lower) reduces (maxGet most) (latestRaised (m .latest) s) (after .window) (p .beta)
 
-unfoldable pub modelOf : NetworkModel → Params → Record → Sample → RoundTripCounter → NetworkModel
-modelOf m p after s counter =
+unfoldable pub modelAfter : NetworkModel → Params → CongestionEvent → CongestionEventSample → RoundTripCounter → NetworkModel
+modelAfter m p after s counter =
     record {
       rounds = counter;
-      most = mostNext m s;
-      least = leastAfter (m .least) (s .rtt) (after .time);
+      maxbw = maxbwNext m s;
+      minrtt = minrttAfter (m .minrtt) (s .rtt) (after .time);
       round = roundNext m after s;
       latest = latestAfter (latestRaised (m .latest) s) (after .ended) s;
-      lower = lowerNext m p after s (mostNext m s) (roundNext m after s .lost);
+      lower = lowerNext m p after s (maxbwNext m s) (roundNext m after s .lost);
       high = m .high;
       gains = m .gains;
-      limited = limitedAfter (m .limited) (s .extra) (after .prior) (after .window);
+      cwndlimited = cwndlimitedAfter (m .cwndlimited) (s .extra) (after .prior) (after .window);
       growth = m .growth;
       rates = record { send = s .send; ack = s .ack };
       totals = s .totals;
       moment = after .time;
     }
 
-unfoldable pub modelNext : NetworkModel → Params → Record → Sample → List ℕ → NetworkModel
-modelNext m p e s acked = modelOf m p (recordNext m e s acked) s (roundsAcked (m .rounds) acked)
+unfoldable pub modelNext : NetworkModel → Params → CongestionEvent → CongestionEventSample → List ℕ → NetworkModel
+modelNext m p e s acked = modelAfter m p (eventNext m e s acked) s (roundsAcked (m .rounds) acked)
 
 -- ---- the refusals. Row 4: "the total acked or the total lost is lower than the one stored"
-abbrev pub isLower : NetworkModel → Sample → Bool
+abbrev pub isLower : NetworkModel → CongestionEventSample → Bool
 isLower m s = ltb (s .totals .acked) (m .totals .acked) || ltb (s .totals .lost) (m .totals .lost)
 
 -- row 5: a round ends and the count of rounds is full, or bytes were lost and the count of loss events is
-unfoldable pub isFull : NetworkModel → Sample → List ℕ → Bool
-isFull m s acked = roundsFull (m .rounds) acked || (ltb 0 (bytesLost m s) && isMost (m .round .losses))
+unfoldable pub isFull : NetworkModel → CongestionEventSample → List ℕ → Bool
+isFull m s acked = roundsFull (m .rounds) acked || (ltb 0 (bytesLost m s) && isFullCounter (m .round .losses))
 
-abbrev pub eventRows : NetworkModel → Params → Record → Sample → (acked : List ℕ) → Rows
+abbrev pub eventRows : NetworkModel → Params → CongestionEvent → CongestionEventSample → (acked : List ℕ) → Rows
 eventRows m p e s acked =
     stored (not (modelOk m && paramsOk p))
-    (argument (not (recordOk e && sampleOk s))
+    (argument (not (eventOk e && sampleOk s))
     (earlier (isBefore (e .time) (m .moment))
     (lower (isLower m s)
     (full (isFull m s acked)
     noRows))))
 
-unfoldable pub eventNumber : NetworkModel → Params → Record → Sample → List ℕ → ℕ
+unfoldable pub eventNumber : NetworkModel → Params → CongestionEvent → CongestionEventSample → List ℕ → ℕ
 eventNumber m p e s acked = lowest (eventRows m p e s acked)
 
 -- ---- on_congestion_event_finish: "The finish call clears the round's sums if the round ended"
-unfoldable pub recordNumber : NetworkModel → Record → ℕ
-recordNumber m e = lowest (givenRows m (recordOk e))
+unfoldable pub finishNumber : NetworkModel → CongestionEvent → ℕ
+finishNumber m e = lowest (givenRows m (eventOk e))
 
-unfoldable pub finishNext : NetworkModel → Record → NetworkModel
+unfoldable pub finishNext : NetworkModel → CongestionEvent → NetworkModel
 finishNext m e = cond (e .ended) (withRound m roundNew) m
 
 -- ---- worked out: three lossy rounds at beta 0.3, as in document 01's example 8. In each a packet is sent with 1300
@@ -249,7 +249,7 @@ abbrev sends : (n : ℕ) → NetworkModel → NetworkModel
 sends n m = withRounds m (roundsSent (m .rounds) n)
 
 -- the record of round n as handed in: nothing is known yet but the moment, the window and the bytes in flight
-abbrev told : (n : ℕ) → Record
+abbrev told : (n : ℕ) → CongestionEvent
 told n =
     record {
       time = record { 0 = n * 100_000_000 };
@@ -262,21 +262,21 @@ told n =
       probing = false;
       bandwidth = Unset;
       rtt = Missing;
-      state = record { valid = false; limited = false; acked = 0; inflight = 0 };
+      state = record { valid = false; applimited = false; acked = 0; inflight = 0 };
     }
 
 -- what the sampler says in round n: 1000 bytes in 100 ms are 80,000 bits per second
-abbrev heard : (n : ℕ) → Sample
+abbrev heard : (n : ℕ) → CongestionEventSample
 heard n =
     record {
       bandwidth = Set (record { 0 = 80_000 });
       send = Unset;
       ack = Unset;
-      limited = false;
+      applimited = false;
       rtt = Length (record { 0 = 100_000_000 });
       inflight = 400;
       extra = 0;
-      state = record { valid = true; limited = false; acked = n * 1000 - 1000; inflight = 1300 };
+      state = record { valid = true; applimited = false; acked = n * 1000 - 1000; inflight = 1300 };
       totals = record { acked = n * 1000; lost = n * 100 };
     }
 
@@ -284,8 +284,8 @@ heard n =
 abbrev roundReply : (n : ℕ) → NetworkModel → ℕ
 roundReply n m = eventNumber (sends n m) usual (told n) (heard n) (n ∷ [])
 
-abbrev roundRecord : (n : ℕ) → NetworkModel → Record
-roundRecord n m = recordNext (sends n m) (told n) (heard n) (n ∷ [])
+abbrev roundRecord : (n : ℕ) → NetworkModel → CongestionEvent
+roundRecord n m = eventNext (sends n m) (told n) (heard n) (n ∷ [])
 
 abbrev roundModel : (n : ℕ) → NetworkModel → NetworkModel
 roundModel n m = modelNext (sends n m) usual (told n) (heard n) (n ∷ [])
@@ -308,13 +308,13 @@ workedEvents =
     ∷ eqb (e .lost) 100
     ∷ eqb (e .inflight) 200
     -- the filters have the new maximum and the shorter round trip
-    ∷ eqb (maxGet (m .most) .0) 80_000
-    ∷ eqb (m .least .rtt .0) 100_000_000
+    ∷ eqb (maxGet (m .maxbw) .0) 80_000
+    ∷ eqb (m .minrtt .rtt .0) 100_000_000
     -- the round's sums have the loss, what was delivered since the send and the least in flight
     ∷ eqb (m .round .lost) 100
     ∷ eqb (m .round .losses) 1
     ∷ eqb (m .round .delivered) 1000
-    ∷ eqb (m .round .least) 200
+    ∷ eqb (m .round .mininflight) 200
     -- bounds: inflight_lo was unset, takes the window 1300, and is cut: 910 is more than the latest 400. bandwidth_lo
     -- takes the maximum; cut it would be 56,000, less than the latest 80,000
     ∷ eqb (m .lower .inflight) 910

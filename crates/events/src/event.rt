@@ -6,7 +6,7 @@ ghost use lib.Dec.{ltb, eqb};
 ghost use Rattle.units.specs.Reply.{number};
 ghost use Rattle.state.specs.Answers.{settled};
 ghost use Rattle.state.specs.NetworkModel.{modelOk};
-ghost use Rattle.events.specs.Event.{limitedAfter, stateAfter, isChanged, mostAfter, bandwidthAfter, leastAfter, rttAfter, deliveredBy, roundAfter, raisedBandwidth, latestRaised, seedOf, startOf, newestOf, lowerReduced, lowerAfter, latestAfter, recordOf, recordNext, mostNext, roundNext, lowerNext, modelOf, modelNext, isLower, isFull, eventNumber, recordNumber, finishNext};
+ghost use Rattle.events.specs.Event.{cwndlimitedAfter, stateAfter, isChanged, maxbwAfter, bandwidthAfter, minrttAfter, rttAfter, deliveredBy, roundAfter, raisedBandwidth, latestRaised, seedOf, startOf, newestOf, lowerReduced, lowerAfter, latestAfter, eventAfter, eventNext, maxbwNext, roundNext, lowerNext, modelAfter, modelNext, isLower, isFull, eventNumber, finishNumber, finishNext};
 use filters::MaxBandwidthFilter;
 use filters::MinRttFilter;
 use filters::RoundTripCounter;
@@ -16,10 +16,10 @@ use numbers::smaller;
 use state::NetworkModel;
 use state::Params;
 use state::bounds::UNSET;
+use state::congestion_event::CongestionEvent;
+use state::congestion_event::CongestionEventSample;
 use state::congestion_event::MaybeLength;
-use state::congestion_event::Record;
-use state::congestion_event::Sample;
-use state::congestion_event::SendState;
+use state::congestion_event::SendTimeState;
 use state::network_model::Changed;
 use state::parts::Latest;
 use state::parts::Lower;
@@ -33,10 +33,10 @@ use units::Moment;
 use units::Reply;
 use units::counter::FULL;
 
-pub struct Event {
+pub struct Started {
     pub reply: Reply,
     pub model: NetworkModel,
-    pub record: Record,
+    pub event: CongestionEvent,
 }
 
 // ---- the start: the table is asked, the round is counted, the record and the model are put anew
@@ -45,16 +45,16 @@ pub struct Event {
 pub fn on_congestion_event_start(
     model: NetworkModel,
     params: Params,
-    event: Record,
-    sample: Sample,
+    event: CongestionEvent,
+    sample: CongestionEventSample,
     acked: &[u64],
-) -> Event
+) -> Started
     ensures reply { λ r. ⌜ number (r .reply) ≡ eventNumber model params event sample (now (acked .entry)) ⌝ }
     ensures model { λ r. ⌜ r .model ≡ settled (eventNumber model params event sample (now (acked .entry)))
         (modelNext model params event sample (now (acked .entry)))
         model ⌝ }
-    ensures record { λ r. ⌜ r .record ≡ settled (eventNumber model params event sample (now (acked .entry)))
-        (recordNext model event sample (now (acked .entry)))
+    ensures event { λ r. ⌜ r .event ≡ settled (eventNumber model params event sample (now (acked .entry)))
+        (eventNext model event sample (now (acked .entry)))
         event ⌝ }
 {
     start_tested(model, model.ok(), params, event, sample, acked)
@@ -65,33 +65,33 @@ pub fn start_tested(
     model: NetworkModel,
     fine: bool,
     params: Params,
-    event: Record,
-    sample: Sample,
+    event: CongestionEvent,
+    sample: CongestionEventSample,
     acked: &[u64],
-) -> Event
+) -> Started
     requires { ⌜ fine ≡ modelOk model ⌝ }
     ensures reply { λ r. ⌜ number (r .reply) ≡ eventNumber model params event sample (now (acked .entry)) ⌝ }
     ensures model { λ r. ⌜ r .model ≡ settled (eventNumber model params event sample (now (acked .entry)))
         (modelNext model params event sample (now (acked .entry)))
         model ⌝ }
-    ensures record { λ r. ⌜ r .record ≡ settled (eventNumber model params event sample (now (acked .entry)))
-        (recordNext model event sample (now (acked .entry)))
+    ensures event { λ r. ⌜ r .event ≡ settled (eventNumber model params event sample (now (acked .entry)))
+        (eventNext model event sample (now (acked .entry)))
         event ⌝ }
 {
     let reply = event_reply(model, fine, params, event, sample, acked);
     let mut next = model;
-    let mut record = event;
+    let mut after = event;
     if reply.is_done() {
         let rounds = model.rounds;
         let answer = rounds.on_packets_acked(acked);
         let counter = answer.counter;
-        record = record_of(model, event, sample, answer.ended);
-        next = model_of(model, params, record, sample, counter);
+        after = event_after(model, event, sample, answer.ended);
+        next = model_after(model, params, after, sample, counter);
     }
-    Event {
+    Started {
         reply,
         model: next,
-        record,
+        event: after,
     }
 }
 
@@ -101,8 +101,8 @@ fn event_reply(
     model: NetworkModel,
     fine: bool,
     params: Params,
-    event: Record,
-    sample: Sample,
+    event: CongestionEvent,
+    sample: CongestionEventSample,
     acked: &[u64],
 ) -> Reply
     requires { ⌜ fine ≡ modelOk model ⌝ }
@@ -119,14 +119,14 @@ fn event_reply(
     })
 }
 
-fn is_lower(model: NetworkModel, sample: Sample) -> bool
+fn is_lower(model: NetworkModel, sample: CongestionEventSample) -> bool
     ensures { λ r. ⌜ r ≡ isLower model sample ⌝ }
 {
     (sample.totals.acked < model.totals.acked) | (sample.totals.lost < model.totals.lost)
 }
 
 // Whether the event would raise a counter that is full.
-fn is_full(model: NetworkModel, sample: Sample, acked: &[u64]) -> bool
+fn is_full(model: NetworkModel, sample: CongestionEventSample, acked: &[u64]) -> bool
     ensures { λ r. ⌜ r ≡ isFull model sample (now (acked .entry)) ⌝ }
 {
     let rounds = model.rounds;
@@ -139,8 +139,13 @@ fn is_full(model: NetworkModel, sample: Sample, acked: &[u64]) -> bool
 // ---- the record after the event, and from it the model, by parts
 
 // The record after the event.
-fn record_of(model: NetworkModel, event: Record, sample: Sample, ended: bool) -> Record
-    ensures { λ r. ⌜ r ≡ recordOf model event sample ended ⌝ }
+fn event_after(
+    model: NetworkModel,
+    event: CongestionEvent,
+    sample: CongestionEventSample,
+    ended: bool,
+) -> CongestionEvent
+    ensures { λ r. ⌜ r ≡ eventAfter model event sample ended ⌝ }
 {
     let changed = is_changed(model, sample);
     let acked = less(sample.totals.acked, model.totals.acked);
@@ -155,7 +160,7 @@ fn record_of(model: NetworkModel, event: Record, sample: Sample, ended: bool) ->
     let since = sample.state;
     let state = state_after(before, since);
     let time = event.time;
-    Record {
+    CongestionEvent {
         time,
         window: event.window,
         prior: event.prior,
@@ -171,23 +176,23 @@ fn record_of(model: NetworkModel, event: Record, sample: Sample, ended: bool) ->
 }
 
 // The model after the event.
-fn model_of(
+fn model_after(
     model: NetworkModel,
     params: Params,
-    after: Record,
-    sample: Sample,
+    after: CongestionEvent,
+    sample: CongestionEventSample,
     counter: RoundTripCounter,
 ) -> NetworkModel
     requires { ⌜ (model .round .lost + after .lost < 2 ^ 64)
         × (ltb 0 (after .lost) ≡ true → eqb (model .round .losses) (2 ^ 64 - 1) ≡ false) ⌝ }
-    ensures { λ r. ⌜ r ≡ modelOf model params after sample counter ⌝ }
+    ensures { λ r. ⌜ r ≡ modelAfter model params after sample counter ⌝ }
 {
-    let most = most_next(model, sample);
-    let least = least_next(model, after, sample);
+    let most = maxbw_next(model, sample);
+    let least = minrtt_next(model, after, sample);
     let round = round_next(model, after, sample);
     let latest = latest_next(model, after, sample);
     let lower = lower_next(model, params, after, sample, most, round.lost);
-    let limited = limited_after(model.limited, sample.extra, after.prior, after.window);
+    let limited = cwndlimited_after(model.cwndlimited, sample.extra, after.prior, after.window);
     let send = sample.send;
     let ack = sample.ack;
     let rates = Rates { send, ack };
@@ -195,12 +200,12 @@ fn model_of(
     let time = after.time;
     let mut next = model;
     next.rounds = counter;
-    next.most = most;
-    next.least = least;
+    next.maxbw = most;
+    next.minrtt = least;
     next.round = round;
     next.latest = latest;
     next.lower = lower;
-    next.limited = limited;
+    next.cwndlimited = limited;
     next.rates = rates;
     next.totals = totals;
     next.moment = time;
@@ -209,25 +214,34 @@ fn model_of(
 
 // ---- the sample: the maximum and the minimum
 
-fn most_next(model: NetworkModel, sample: Sample) -> MaxBandwidthFilter
-    ensures { λ r. ⌜ r ≡ mostNext model sample ⌝ }
+fn maxbw_next(model: NetworkModel, sample: CongestionEventSample) -> MaxBandwidthFilter
+    ensures { λ r. ⌜ r ≡ maxbwNext model sample ⌝ }
 {
-    let filter = model.most;
+    let filter = model.maxbw;
     let bandwidth = sample.bandwidth;
-    most_after(filter, bandwidth, is_changed(model, sample), sample.limited)
+    maxbw_after(
+        filter,
+        bandwidth,
+        is_changed(model, sample),
+        sample.applimited,
+    )
 }
 
-fn least_next(model: NetworkModel, after: Record, sample: Sample) -> MinRttFilter
-    ensures { λ r. ⌜ r ≡ leastAfter (model .least) (sample .rtt) (after .time) ⌝ }
+fn minrtt_next(
+    model: NetworkModel,
+    after: CongestionEvent,
+    sample: CongestionEventSample,
+) -> MinRttFilter
+    ensures { λ r. ⌜ r ≡ minrttAfter (model .minrtt) (sample .rtt) (after .time) ⌝ }
 {
-    let filter = model.least;
+    let filter = model.minrtt;
     let rtt = sample.rtt;
-    least_after(filter, rtt, after.time)
+    minrtt_after(filter, rtt, after.time)
 }
 
 // ---- the round's sums
 
-fn round_next(model: NetworkModel, after: Record, sample: Sample) -> Round
+fn round_next(model: NetworkModel, after: CongestionEvent, sample: CongestionEventSample) -> Round
     requires { ⌜ (model .round .lost + after .lost < 2 ^ 64)
         × (ltb 0 (after .lost) ≡ true → eqb (model .round .losses) (2 ^ 64 - 1) ≡ false) ⌝ }
     ensures { λ r. ⌜ r ≡ roundNext model after sample ⌝ }
@@ -247,8 +261,8 @@ fn round_next(model: NetworkModel, after: Record, sample: Sample) -> Round
 fn lower_next(
     model: NetworkModel,
     params: Params,
-    after: Record,
-    sample: Sample,
+    after: CongestionEvent,
+    sample: CongestionEventSample,
     most: MaxBandwidthFilter,
     lost: u64,
 ) -> Lower
@@ -267,7 +281,7 @@ fn lower_next(
     )
 }
 
-fn latest_next(model: NetworkModel, after: Record, sample: Sample) -> Latest
+fn latest_next(model: NetworkModel, after: CongestionEvent, sample: CongestionEventSample) -> Latest
     ensures { λ r. ⌜ r ≡ latestAfter (latestRaised (model .latest) sample) (after .ended) sample ⌝ }
 {
     let latest = model.latest;
@@ -276,13 +290,13 @@ fn latest_next(model: NetworkModel, after: Record, sample: Sample) -> Latest
 
 // ---- what the steps are made of, in the same order
 
-fn limited_after(was: bool, extra: u64, prior: u64, window: u64) -> bool
-    ensures { λ r. ⌜ r ≡ limitedAfter was extra prior window ⌝ }
+fn cwndlimited_after(was: bool, extra: u64, prior: u64, window: u64) -> bool
+    ensures { λ r. ⌜ r ≡ cwndlimitedAfter was extra prior window ⌝ }
 {
     if extra == 0 { window <= prior } else { was }
 }
 
-fn is_changed(model: NetworkModel, sample: Sample) -> bool
+fn is_changed(model: NetworkModel, sample: CongestionEventSample) -> bool
     ensures { λ r. ⌜ r ≡ isChanged model sample ⌝ }
 {
     model.totals.acked != sample.totals.acked
@@ -310,19 +324,19 @@ fn rtt_after(was: MaybeLength, sample: MaybeLength) -> MaybeLength
     MaybeLength::Length(rtt)
 }
 
-fn state_after(was: SendState, new: SendState) -> SendState
+fn state_after(was: SendTimeState, new: SendTimeState) -> SendTimeState
     ensures { λ r. ⌜ r ≡ stateAfter was new ⌝ }
 {
     if new.valid { new } else { was }
 }
 
-fn most_after(
+fn maxbw_after(
     filter: MaxBandwidthFilter,
     sample: MaybeBandwidth,
     changed: bool,
     limited: bool,
 ) -> MaxBandwidthFilter
-    ensures { λ r. ⌜ r ≡ mostAfter filter sample changed limited ⌝ }
+    ensures { λ r. ⌜ r ≡ maxbwAfter filter sample changed limited ⌝ }
 {
     let MaybeBandwidth::Set(bandwidth) = sample else {
         return filter;
@@ -335,8 +349,8 @@ fn most_after(
     }
 }
 
-fn least_after(filter: MinRttFilter, sample: MaybeLength, now: Moment) -> MinRttFilter
-    ensures { λ r. ⌜ r ≡ leastAfter filter sample now ⌝ }
+fn minrtt_after(filter: MinRttFilter, sample: MaybeLength, now: Moment) -> MinRttFilter
+    ensures { λ r. ⌜ r ≡ minrttAfter filter sample now ⌝ }
 {
     let MaybeLength::Length(rtt) = sample else {
         return filter;
@@ -345,7 +359,7 @@ fn least_after(filter: MinRttFilter, sample: MaybeLength, now: Moment) -> MinRtt
 }
 
 // What the event delivered since the packet was sent, or 0 where that is not known.
-fn delivered_by(state: SendState, acked: u64, total: u64) -> u64
+fn delivered_by(state: SendTimeState, acked: u64, total: u64) -> u64
     ensures { λ r. ⌜ r ≡ deliveredBy state acked total ⌝ }
 {
     if (0 < acked) & state.valid & (state.acked < total) {
@@ -361,27 +375,27 @@ fn round_after(round: Round, lost: u64, delivered: u64, inflight: u64) -> Round
     ensures { λ r. ⌜ r ≡ roundAfter round lost delivered inflight ⌝ }
 {
     let most = larger(round.delivered, delivered);
-    let least = smaller(round.least, inflight);
+    let least = smaller(round.mininflight, inflight);
     if 0 < lost {
         Round {
             lost: round.lost + lost,
             losses: round.losses + 1,
             delivered: most,
-            least,
-            limited: round.limited,
+            mininflight: least,
+            hilimited: round.hilimited,
         }
     } else {
         Round {
             lost: round.lost,
             losses: round.losses,
             delivered: most,
-            least,
-            limited: round.limited,
+            mininflight: least,
+            hilimited: round.hilimited,
         }
     }
 }
 
-fn latest_raised(latest: Latest, sample: Sample) -> Latest
+fn latest_raised(latest: Latest, sample: CongestionEventSample) -> Latest
     ensures { λ r. ⌜ r ≡ latestRaised latest sample ⌝ }
 {
     let was = latest.bandwidth;
@@ -452,7 +466,7 @@ fn start_of(lo: u64, window: u64) -> u64
     if lo == UNSET { window } else { lo }
 }
 
-fn latest_after(latest: Latest, ended: bool, sample: Sample) -> Latest
+fn latest_after(latest: Latest, ended: bool, sample: CongestionEventSample) -> Latest
     ensures { λ r. ⌜ r ≡ latestAfter latest ended sample ⌝ }
 {
     if ended {
@@ -460,7 +474,7 @@ fn latest_after(latest: Latest, ended: bool, sample: Sample) -> Latest
         let seen = sample.bandwidth;
         Latest {
             bandwidth: seed_of(seen, was),
-            inflight: newest(latest.inflight, sample.inflight),
+            inflight: newest_of(latest.inflight, sample.inflight),
         }
     } else {
         latest
@@ -468,7 +482,7 @@ fn latest_after(latest: Latest, ended: bool, sample: Sample) -> Latest
 }
 
 // The sample, if it is above 0.
-fn newest(was: u64, sample: u64) -> u64
+fn newest_of(was: u64, sample: u64) -> u64
     ensures { λ r. ⌜ r ≡ newestOf was sample ⌝ }
 {
     if 0 < sample { sample } else { was }
@@ -477,20 +491,20 @@ fn newest(was: u64, sample: u64) -> u64
 // ---- the finish
 
 // The event is over: the round's sums begin anew if it ended the round.
-pub fn on_congestion_event_finish(model: NetworkModel, event: Record) -> Changed
-    ensures reply { λ r. ⌜ number (r .reply) ≡ recordNumber model event ⌝ }
-    ensures model { λ r. ⌜ r .model ≡ settled (recordNumber model event) (finishNext model event) model ⌝ }
+pub fn on_congestion_event_finish(model: NetworkModel, event: CongestionEvent) -> Changed
+    ensures reply { λ r. ⌜ number (r .reply) ≡ finishNumber model event ⌝ }
+    ensures model { λ r. ⌜ r .model ≡ settled (finishNumber model event) (finishNext model event) model ⌝ }
 {
     finish_tested(model, model.ok(), event)
 }
 
 // The same, where it is known whether the model is within its bounds.
-pub fn finish_tested(model: NetworkModel, fine: bool, event: Record) -> Changed
+pub fn finish_tested(model: NetworkModel, fine: bool, event: CongestionEvent) -> Changed
     requires { ⌜ fine ≡ modelOk model ⌝ }
-    ensures reply { λ r. ⌜ number (r .reply) ≡ recordNumber model event ⌝ }
-    ensures model { λ r. ⌜ r .model ≡ settled (recordNumber model event) (finishNext model event) model ⌝ }
+    ensures reply { λ r. ⌜ number (r .reply) ≡ finishNumber model event ⌝ }
+    ensures model { λ r. ⌜ r .model ≡ settled (finishNumber model event) (finishNext model event) model ⌝ }
 {
-    let reply = record_reply(model, fine, event);
+    let reply = finish_reply(model, fine, event);
     let mut next = model;
     if reply.is_done() & event.ended {
         next.round = Round::new();
@@ -498,9 +512,9 @@ pub fn finish_tested(model: NetworkModel, fine: bool, event: Record) -> Changed
     Changed { reply, model: next }
 }
 
-fn record_reply(model: NetworkModel, fine: bool, event: Record) -> Reply
+fn finish_reply(model: NetworkModel, fine: bool, event: CongestionEvent) -> Reply
     requires { ⌜ fine ≡ modelOk model ⌝ }
-    ensures { λ r. ⌜ number r ≡ recordNumber model event ⌝ }
+    ensures { λ r. ⌜ number r ≡ finishNumber model event ⌝ }
 {
     refusal(Rows {
         stored: !fine,

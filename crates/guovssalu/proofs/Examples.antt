@@ -15,22 +15,22 @@ use lib.Ieee as Ieee
 use Rattle.state.specs.Refusals.{rowOf}
 use lib.Ieee.{toBits, ofBits}
 use Rattle.words.specs.Words.{numberAt, lowBytes, wordsAt, allBytes}
-use Rattle.layout.specs.NetworkModel.{modelOf, modelWords}
-use Rattle.layout.specs.Cycle.{cycleOf, cycleWords}
-use Rattle.arguments.specs.Params.{paramsOf}
+use Rattle.layout.specs.NetworkModel.{modelFrom, modelWords}
+use Rattle.layout.specs.Cycle.{cycleFrom, cycleWords}
+use Rattle.arguments.specs.Params.{paramsFrom}
 use Rattle.dispatch.specs.OneCall.{answerWords}
-use Rattle.dispatch.specs.Turn.{startTurn, sendTurn, turnOf}
+use Rattle.dispatch.specs.Outcome.{startOutcome, sendOutcome, outcomeOf}
 use Rattle.guovssalu.specs.Examples.{exportExamples, startExamples}
 use Rattle.guovssalu.specs.FilterRun.{afterPair, refuses, samples, samplesOf, runRow, runOut}
 use Rattle.layout.specs.StateWords.{sameWords, isState}
-use Rattle.guovssalu.specs.ModelRun.{encodesNone, turnAt, answersTo, leftBy, answersFrom, wordsLeft, modelRow, answersOut, stateOut}
+use Rattle.guovssalu.specs.ModelRun.{encodesNone, outcomeAt, answersTo, leftBy, answersFrom, wordsLeft, modelRow, answersOut, stateOut}
 use Rattle.guovssalu.specs.Reply.{orShort, answered}
 use Rattle.guovssalu.specs.Slope.{slopeRow, slopeWords, slopeOut}
 
 pub export-examples : all exportExamples ≡ true
-unfolding all exportExamples isReplaced raised shifted lingers renewed aged windowedNumber windowedUpdate numberAt lowBytes allBytes afterPair refuses samples samplesOf runRow runOut rowOf orShort answered slopeRow slopeWords slopeOut modelRow encodesNone isState sameWords wordsAt modelOf modelWords cycleOf cycleWords leftBy wordsLeft answersTo answersFrom stateOut answersOut toBits ofBits
+unfolding all exportExamples isReplaced raised shifted lingers renewed aged windowedNumber windowedUpdate numberAt lowBytes allBytes afterPair refuses samples samplesOf runRow runOut rowOf orShort answered slopeRow slopeWords slopeOut modelRow encodesNone isState sameWords wordsAt modelFrom modelWords cycleFrom cycleWords leftBy wordsLeft answersTo answersFrom stateOut answersOut toBits ofBits
 export-examples = refl
 
 pub start-examples : all startExamples ≡ true
-unfolding all startExamples Ieee.ofBits Ieee.toBits Ieee.le roundsSent settled within rowOf paramsOk roundOk roundSent modelTests withRounds withRound withMoment modelNew startNumber startModel cycleNew stayFrom freshNumber freshCycle sentNumber sentNext numberAt lowBytes wordsAt allBytes modelOf modelWords cycleOf cycleWords paramsOf answerWords startTurn sendTurn turnOf sameWords isState encodesNone turnAt answersTo leftBy answersFrom wordsLeft modelRow answersOut stateOut orShort answered
+unfolding all startExamples Ieee.ofBits Ieee.toBits Ieee.le roundsSent settled within rowOf paramsOk roundOk roundSent modelTests withRounds withRound withMoment modelNew startNumber startModel cycleNew stayFrom freshNumber freshCycle sentNumber sentNext numberAt lowBytes wordsAt allBytes modelFrom modelWords cycleFrom cycleWords paramsFrom answerWords startOutcome sendOutcome outcomeOf sameWords isState encodesNone outcomeAt answersTo leftBy answersFrom wordsLeft modelRow answersOut stateOut orShort answered
 start-examples = refl

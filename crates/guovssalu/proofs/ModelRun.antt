@@ -1,4 +1,4 @@
--- One turn of each pass of the model's run, over plain variables: what is still to be done leads to the same end. Assumes nothing.
+-- One outcome of each pass of the model's run, over plain variables: what is still to be done leads to the same end. Assumes nothing.
 use Prim.Native.Nat.{ℕ, zero, suc, _+_, _-_, _*_, _≤_, _<_}
 use mathlib.Core.Bool.{Bool, true, false, not, cond}
 use mathlib.Core.List.{List, _∷_}
@@ -14,23 +14,23 @@ use Rattle.state.specs.declared.network_model.NetworkModel.{NetworkModel}
 use Rattle.state.specs.Answers.{settled}
 use Rattle.state.specs.NetworkModel.{modelOk}
 use Rattle.state.proofs.Rows.{none, or-left}
-use Rattle.events.specs.Event.{recordNext}
+use Rattle.events.specs.Event.{eventNext}
 use Rattle.laws.proofs.Tested.{sent-same, start-same, finish-same}
 use Rattle.state.specs.declared.cycle.Cycle.{Cycle}
-use Rattle.words.specs.Words.{word, allBytes}
+use Rattle.words.specs.Words.{wordAt, allBytes}
 use Rattle.words.proofs.Stores.{sets-append}
 use Rattle.words.proofs.Laws.{allBytes-append, length-allBytes, getD-wordsAt}
-use Rattle.layout.specs.NetworkModel.{modelOf}
-use Rattle.layout.specs.Cycle.{cycleOf}
-use Rattle.arguments.specs.Params.{paramsOf}
-use Rattle.arguments.specs.Record.{recordOf, wordsFrom, recordIn, recordWords}
-use Rattle.arguments.specs.Sample.{sampleOf, ackedOf}
+use Rattle.layout.specs.NetworkModel.{modelFrom}
+use Rattle.layout.specs.Cycle.{cycleFrom}
+use Rattle.arguments.specs.Params.{paramsFrom}
+use Rattle.arguments.specs.CongestionEvent.{eventFrom, wordsFrom, eventIn, eventWords}
+use Rattle.arguments.specs.Sample.{sampleFrom, ackedOf}
 use Rattle.arguments.proofs.RoundTrip.{round-trip}
 use Rattle.layout.proofs.Laws.{float-fits}
-use Rattle.dispatch.specs.declared.turn.Turn.{Turn}
-use Rattle.dispatch.specs.Turn.{noRecord, sendNumber, sendLeaves, startedNumber, startedLeaves, startedWords, finishedNumber, finishedLeaves, sendTurn, eventTurn, finishTurn, turnOf}
-use Rattle.dispatch.specs.Inner.{otherTurn}
-use Rattle.guovssalu.specs.ModelRun.{stateIn, callsIn, turnAt, answersTo, leftBy, wordsLeft, modelRow}
+use Rattle.dispatch.specs.declared.outcome.Outcome.{Outcome}
+use Rattle.dispatch.specs.Outcome.{noEvent, sendNumber, sendLeaves, startedNumber, startedLeaves, startedWords, finishedNumber, finishedLeaves, sendOutcome, eventOutcome, finishOutcome, outcomeOf}
+use Rattle.dispatch.specs.Inner.{otherOutcome}
+use Rattle.guovssalu.specs.ModelRun.{stateIn, callsIn, outcomeAt, answersTo, leftBy, wordsLeft, modelRow}
 use Rattle.dispatch.specs.OneCall.{callAt, answerWords}
 use Rattle.guovssalu.proofs.Rows.{done-room, done-first}
 use Rattle.dispatch.proofs.OneCall.{either, length-other}
@@ -39,33 +39,33 @@ length-started : (w : List ℕ) (m : NetworkModel) → length (startedWords w m)
 unfolding settled wordsFrom
 length-started w m = go (eqb (startedNumber w m) 0)
   where
-    go : (t : Bool) → length (cond t (recordWords (recordNext m (recordOf w) (sampleOf w) (ackedOf w))) (recordIn w)) ≡ 16
-    go true = round-trip .recordLength (recordNext m (recordOf w) (sampleOf w) (ackedOf w))
+    go : (t : Bool) → length (cond t (eventWords (eventNext m (eventFrom w) (sampleFrom w) (ackedOf w))) (eventIn w)) ≡ 16
+    go true = round-trip .eventLength (eventNext m (eventFrom w) (sampleFrom w) (ackedOf w))
     go false = refl
 
-length-event : (m : NetworkModel) (y : Cycle) (src : List ℕ) (at : ℕ) → length (turnAt m y src at .event) ≡ 16
-unfolding turnAt turnOf otherTurn sendTurn eventTurn finishTurn
+length-event : (m : NetworkModel) (y : Cycle) (src : List ℕ) (at : ℕ) → length (outcomeAt m y src at .event) ≡ 16
+unfolding outcomeAt outcomeOf otherOutcome sendOutcome eventOutcome finishOutcome
 length-event m y src at =
     let w = callAt src at in
     let call = getD w 0 0 in
-    let ends = cond (eqb call 4) (finishTurn w m y) (otherTurn w m y) in
-    let starts = cond (eqb call 3) (eventTurn w m y) ends in
-    either (eqb call 1) (sendTurn w m y) starts refl
-    (either (eqb call 3) (eventTurn w m y) ends (length-started w m)
-    (either (eqb call 4) (finishTurn w m y) (otherTurn w m y) refl (length-other w m y)))
+    let ends = cond (eqb call 4) (finishOutcome w m y) (otherOutcome w m y) in
+    let starts = cond (eqb call 3) (eventOutcome w m y) ends in
+    either (eqb call 1) (sendOutcome w m y) starts refl
+    (either (eqb call 3) (eventOutcome w m y) ends (length-started w m)
+    (either (eqb call 4) (finishOutcome w m y) (otherOutcome w m y) refl (length-other w m y)))
 
 pub length-left : (m : NetworkModel) (y : Cycle) (src : List ℕ) (at n : ℕ) → length (leftBy m y src at n) ≡ 50
 unfolding leftBy
 length-left m y src at zero = round-trip .stateLength m y
-length-left m y src at (suc n) = length-left (turnAt m y src at .model) (turnAt m y src at .cycle) src (at + 392) n
+length-left m y src at (suc n) = length-left (outcomeAt m y src at .model) (outcomeAt m y src at .cycle) src (at + 392) n
 
 pub length-words-left : (state src : List ℕ) → length (wordsLeft state src) ≡ 50
 unfolding wordsLeft
-length-words-left state src = length-left (modelOf (stateIn state)) (cycleOf (stateIn state)) src 0 (callsIn src)
+length-words-left state src = length-left (modelFrom (stateIn state)) (cycleFrom (stateIn state)) src 0 (callsIn src)
 
-pub length-answer : (m : NetworkModel) (y : Cycle) (src : List ℕ) (at : ℕ) → length (allBytes (answerWords (turnAt m y src at))) ≡ 144
+pub length-answer : (m : NetworkModel) (y : Cycle) (src : List ℕ) (at : ℕ) → length (allBytes (answerWords (outcomeAt m y src at))) ≡ 144
 unfolding answerWords
-length-answer m y src at = length-allBytes (answerWords (turnAt m y src at)) ∙ rw (length-event m y src at)
+length-answer m y src at = length-allBytes (answerWords (outcomeAt m y src at)) ∙ rw (length-event m y src at)
 
 -- ---- calls
 module _ (src : List ℕ) (i count : ℕ) (h : i < count) where
@@ -78,69 +78,69 @@ module _ (src : List ℕ) (i count : ℕ) (h : i < count) where
   -- a call, carried out
   pub left-later :
       (m : NetworkModel) (y : Cycle) {end : List ℕ} → leftBy m y src (392 * i) (count - i) ≡ end →
-      leftBy (turnAt m y src (392 * i) .model) (turnAt m y src (392 * i) .cycle) src (392 * (i + 1)) (count - (i + 1)) ≡ end
+      leftBy (outcomeAt m y src (392 * i) .model) (outcomeAt m y src (392 * i) .cycle) src (392 * (i + 1)) (count - (i + 1)) ≡ end
   unfolding leftBy
   left-later m y e = rw next (rw left at e)
 
   -- its answer, written
   pub write-answer :
       (m : NetworkModel) (y : Cycle) (l : List ℕ) {end : List ℕ} → sets l (144 * i) (allBytes (answersTo m y src (392 * i) (count - i))) ≡ end →
-      sets (sets l (144 * i) (allBytes (answerWords (turnAt m y src (392 * i))))) (144 * (i + 1)) (allBytes (answersTo (turnAt m y src (392 * i) .model) (turnAt m y src (392 * i) .cycle) src (392 * (i + 1)) (count - (i + 1)))) ≡ end
+      sets (sets l (144 * i) (allBytes (answerWords (outcomeAt m y src (392 * i))))) (144 * (i + 1)) (allBytes (answersTo (outcomeAt m y src (392 * i) .model) (outcomeAt m y src (392 * i) .cycle) src (392 * (i + 1)) (count - (i + 1)))) ≡ end
   unfolding answersTo
   write-answer m y l e =
-      let t = turnAt m y src (392 * i) in
+      let t = outcomeAt m y src (392 * i) in
       let answer = allBytes (answerWords t) in
       let more = answersTo (t .model) (t .cycle) src (392 * i + 392) (count - (i + 1)) in
       let step : 144 * (i + 1) ≡ 144 * i + length answer = rw (length-answer m y src (392 * i)) (omega arith) in
       rw (next, step) (sets-append l (144 * i) answer (allBytes more) ∙ ap (sets l (144 * i)) (sym (allBytes-append (answerWords t) more)) ∙ rw left at e)
 
 -- beta is read as an f32
-beta-fits : (w : List ℕ) → T (fits binary32 (paramsOf w .beta))
-unfolding paramsOf
+beta-fits : (w : List ℕ) → T (fits binary32 (paramsFrom w .beta))
+unfolding paramsFrom
 beta-fits w = float-fits (getD w 38 0)
 
 -- a call that is none of 1, 3 and 4
-other-at : (w : List ℕ) (m : NetworkModel) (y : Cycle) → (getD w 0 0 ≡ 1 → ⊥) → (getD w 0 0 ≡ 3 → ⊥) → (getD w 0 0 ≡ 4 → ⊥) → turnOf w m y ≡ otherTurn w m y
-unfolding turnOf otherTurn
+other-at : (w : List ℕ) (m : NetworkModel) (y : Cycle) → (getD w 0 0 ≡ 1 → ⊥) → (getD w 0 0 ≡ 3 → ⊥) → (getD w 0 0 ≡ 4 → ⊥) → outcomeOf w m y ≡ otherOutcome w m y
+unfolding outcomeOf otherOutcome
 other-at w m y f g h = rw (ne-eqb _ 1 f, ne-eqb _ 3 g, ne-eqb _ 4 h)
 
 -- ---- one call, by its number: the bytes with its answer, the state that it leaves, and whether the model is within its bounds
 module _ (m : NetworkModel) (y : Cycle) (src : List ℕ) (at : ℕ) (out : List ℕ) (to : ℕ) (out′ : List ℕ) (m′ : NetworkModel) (y′ : Cycle) (fine′ : Bool) where
   abbrev pub Carried : Type 0
   Carried =
-      (out′ ≡ sets out to (allBytes (answerWords (turnAt m y src at))))
-      × (m′ ≡ turnAt m y src at .model)
-      × (y′ ≡ turnAt m y src at .cycle)
+      (out′ ≡ sets out to (allBytes (answerWords (outcomeAt m y src at))))
+      × (m′ ≡ outcomeAt m y src at .model)
+      × (y′ ≡ outcomeAt m y src at .cycle)
       × (fine′ ≡ modelOk m′)
 
-  number-at : {n : ℕ} → word src at ≡ n → getD (callAt src at) 0 0 ≡ n
-  number-at e = getD-wordsAt src at 49 0 (omega arith) ∙ ap (word src) (add-zero at) ∙ e
+  number-at : {n : ℕ} → wordAt src at ≡ n → getD (callAt src at) 0 0 ≡ n
+  number-at e = getD-wordsAt src at 49 0 (omega arith) ∙ ap (wordAt src) (add-zero at) ∙ e
 
   -- the test of the model before is one of the model after
   still : {left : NetworkModel} → m′ ≡ left → modelOk left ≡ modelOk m → fine′ ≡ modelOk m → fine′ ≡ modelOk m′
   still p same f = f ∙ sym (ap modelOk p ∙ same)
 
-  pub by-send : word src at ≡ 1 → m′ ≡ sendLeaves (callAt src at) m → y′ ≡ y → fine′ ≡ modelOk m → out′ ≡ sets out to (allBytes (sendNumber (callAt src at) m ∷ 0 ∷ noRecord)) → Carried
-  unfolding turnAt turnOf sendTurn answerWords
+  pub by-send : wordAt src at ≡ 1 → m′ ≡ sendLeaves (callAt src at) m → y′ ≡ y → fine′ ≡ modelOk m → out′ ≡ sets out to (allBytes (sendNumber (callAt src at) m ∷ 0 ∷ noEvent)) → Carried
+  unfolding outcomeAt outcomeOf sendOutcome answerWords
   by-send e p q f r = rw (number-at e) (r, p, q, still p (sent-same m _ _ _ _) f)
 
-  pub by-start : word src at ≡ 3 → m′ ≡ startedLeaves (callAt src at) m → y′ ≡ y → fine′ ≡ modelOk m → out′ ≡ sets out to (allBytes (startedNumber (callAt src at) m ∷ 0 ∷ startedWords (callAt src at) m)) → Carried
-  unfolding turnAt turnOf eventTurn answerWords
+  pub by-start : wordAt src at ≡ 3 → m′ ≡ startedLeaves (callAt src at) m → y′ ≡ y → fine′ ≡ modelOk m → out′ ≡ sets out to (allBytes (startedNumber (callAt src at) m ∷ 0 ∷ startedWords (callAt src at) m)) → Carried
+  unfolding outcomeAt outcomeOf eventOutcome answerWords
   by-start e p q f r = rw (number-at e) (r, p, q, still p (start-same m _ _ _ _ (beta-fits (callAt src at))) f)
 
-  pub by-end : word src at ≡ 4 → m′ ≡ finishedLeaves (callAt src at) m → y′ ≡ y → fine′ ≡ modelOk m → out′ ≡ sets out to (allBytes (finishedNumber (callAt src at) m ∷ 0 ∷ noRecord)) → Carried
-  unfolding turnAt turnOf finishTurn answerWords
+  pub by-end : wordAt src at ≡ 4 → m′ ≡ finishedLeaves (callAt src at) m → y′ ≡ y → fine′ ≡ modelOk m → out′ ≡ sets out to (allBytes (finishedNumber (callAt src at) m ∷ 0 ∷ noEvent)) → Carried
+  unfolding outcomeAt outcomeOf finishOutcome answerWords
   by-end e p q f r = rw (number-at e) (r, p, q, still p (finish-same m _) f)
 
   pub by-other :
-      {n : ℕ} {t : Turn} → n ≡ word src at → (n ≡ 1 → ⊥) → (n ≡ 3 → ⊥) → (n ≡ 4 → ⊥) →
-      t ≡ otherTurn (callAt src at) m y → m′ ≡ t .model → y′ ≡ t .cycle → fine′ ≡ modelOk (t .model) → out′ ≡ sets out to (allBytes (answerWords (otherTurn (callAt src at) m y))) → Carried
-  unfolding turnAt
+      {n : ℕ} {t : Outcome} → n ≡ wordAt src at → (n ≡ 1 → ⊥) → (n ≡ 3 → ⊥) → (n ≡ 4 → ⊥) →
+      t ≡ otherOutcome (callAt src at) m y → m′ ≡ t .model → y′ ≡ t .cycle → fine′ ≡ modelOk (t .model) → out′ ≡ sets out to (allBytes (answerWords (otherOutcome (callAt src at) m y))) → Carried
+  unfolding outcomeAt
   by-other e f g h k p q b r =
       let number = sym (number-at (sym e)) in
-      let same : otherTurn (callAt src at) m y ≡ turnAt m y src at = sym (other-at (callAt src at) m y (λ x. f (number ∙ x)) (λ x. g (number ∙ x)) (λ x. h (number ∙ x))) in
-      let turn = k ∙ same in
-      (r ∙ ap (λ (t : Turn). sets out to (allBytes (answerWords t))) same, p ∙ ap (λ (t : Turn). t .model) turn, q ∙ ap (λ (t : Turn). t .cycle) turn, b ∙ sym (ap modelOk p))
+      let same : otherOutcome (callAt src at) m y ≡ outcomeAt m y src at = sym (other-at (callAt src at) m y (λ x. f (number ∙ x)) (λ x. g (number ∙ x)) (λ x. h (number ∙ x))) in
+      let outcome = k ∙ same in
+      (r ∙ ap (λ (t : Outcome). sets out to (allBytes (answerWords t))) same, p ∙ ap (λ (t : Outcome). t .model) outcome, q ∙ ap (λ (t : Outcome). t .cycle) outcome, b ∙ sym (ap modelOk p))
 
 -- ---- what a run that is done has been lent
 pub run-room : (state src : List ℕ) (room : ℕ) → eqb (modelRow state src room) 0 ≡ true → 144 * callsIn src ≤ room

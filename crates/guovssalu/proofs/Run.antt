@@ -1,4 +1,4 @@
--- One turn of each loop of the filter run, over plain variables: what is still to be done leads to the same end. Assumes nothing.
+-- One outcome of each loop of the filter run, over plain variables: what is still to be done leads to the same end. Assumes nothing.
 use Prim.Native.Nat.{ℕ, suc, _+_, _-_, _*_, _≤_, _<_}
 use mathlib.Core.Bool.{Bool, true, false, true≢false}
 use mathlib.Core.List.{List, []}
@@ -11,7 +11,7 @@ use borrow.Author.Tests.{lt-ltb, le-ltb, ltb-false}
 use Rattle.filters.specs.declared.windowed_filter.WindowedFilter.{WindowedFilter}
 use Rattle.filters.specs.WindowedFilter.{windowedNew, windowedNumber}
 use Rattle.state.proofs.Rows.{none}
-use Rattle.words.specs.Words.{word, allBytes}
+use Rattle.words.specs.Words.{wordAt, allBytes}
 use Rattle.words.proofs.Stores.{sets-append}
 use Rattle.words.proofs.Laws.{allBytes-append, length-allBytes}
 use Rattle.guovssalu.specs.FilterRun.{pairs, afterPair, refuses, samples, samplesOf, runRow}
@@ -26,26 +26,26 @@ module _ (src : List ℕ) (i count : ℕ) (h : i < count) where
   next = omega arith
 
   -- a time that falls
-  pub falls-now : {last : ℕ} {end : Bool} → word src (16 * i) < last → timesFall last src (16 * i) (count - i) ≡ end → true ≡ end
+  pub falls-now : {last : ℕ} {end : Bool} → wordAt src (16 * i) < last → timesFall last src (16 * i) (count - i) ≡ end → true ≡ end
   unfolding timesFall
-  falls-now {last} t e = rw (lt-ltb (word src (16 * i)) last t) at (rw left at e)
+  falls-now {last} t e = rw (lt-ltb (wordAt src (16 * i)) last t) at (rw left at e)
 
   -- a time that does not
   pub falls-later :
-      {last : ℕ} {end : Bool} → last ≤ word src (16 * i) → timesFall last src (16 * i) (count - i) ≡ end →
-      timesFall (word src (16 * i)) src (16 * (i + 1)) (count - (i + 1)) ≡ end
+      {last : ℕ} {end : Bool} → last ≤ wordAt src (16 * i) → timesFall last src (16 * i) (count - i) ≡ end →
+      timesFall (wordAt src (16 * i)) src (16 * (i + 1)) (count - (i + 1)) ≡ end
   unfolding timesFall
-  falls-later {last} t e = rw next (rw (le-ltb (word src (16 * i)) last t) at (rw left at e))
+  falls-later {last} t e = rw next (rw (le-ltb (wordAt src (16 * i)) last t) at (rw left at e))
 
   module _ (f : WindowedFilter) where
     -- a pair that is refused
-    pub refused-now : {end : Bool} → eqb (windowedNumber f (word src (16 * i))) 0 ≡ false → refuses f src (16 * i) (count - i) ≡ end → true ≡ end
+    pub refused-now : {end : Bool} → eqb (windowedNumber f (wordAt src (16 * i))) 0 ≡ false → refuses f src (16 * i) (count - i) ≡ end → true ≡ end
     unfolding refuses
     refused-now d e = rw d at (rw left at e)
 
     -- a pair that is not
     pub refused-later :
-        {end : Bool} → eqb (windowedNumber f (word src (16 * i))) 0 ≡ true → refuses f src (16 * i) (count - i) ≡ end →
+        {end : Bool} → eqb (windowedNumber f (wordAt src (16 * i))) 0 ≡ true → refuses f src (16 * i) (count - i) ≡ end →
         refuses (afterPair f src (16 * i)) src (16 * (i + 1)) (count - (i + 1)) ≡ end
     unfolding refuses
     refused-later d e = rw next (rw d at (rw left at e))

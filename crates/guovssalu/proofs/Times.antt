@@ -12,7 +12,7 @@ use Rattle.filters.specs.declared.windowed_filter.Held.{Held}
 use Rattle.filters.specs.declared.windowed_filter.Held.the-variants.{Empty, Full}
 use Rattle.filters.specs.declared.windowed_filter.WindowedFilter.{WindowedFilter}
 use Rattle.filters.specs.WindowedFilter.{sampleAt, isOlder, isReplaced, raised, shifted, lingers, renewed, aged, updated, isAfter, windowedNumber, windowedUpdate}
-use Rattle.words.specs.Words.{word}
+use Rattle.words.specs.Words.{wordAt}
 use Rattle.guovssalu.specs.FilterRun.{afterPair, refuses}
 use Rattle.guovssalu.specs.Inner.{timesFall}
 
@@ -66,8 +66,8 @@ pub never-refused :
 unfolding timesFall refuses afterPair windowedNumber windowedUpdate
 never-refused f last src at zero p h = refl
 never-refused f last src at (suc n) p h =
-    let t = word src at in
+    let t = wordAt src at in
     let rises = neither (ltb t last) (timesFall t src (at + 16) n) h in
     let past = still-past (f .held) (ltb-false t last (rises .0)) p in
-    let taken = updated-past (word src (at + 8)) t (f .window) (f .held) past in
-    rw (not-after (f .held) t past) (never-refused (record { window = f .window; held = Full (updated (f .held) (sampleAt (word src (at + 8)) t) (f .window)) }) t src (at + 16) n taken (rises .1))
+    let taken = updated-past (wordAt src (at + 8)) t (f .window) (f .held) past in
+    rw (not-after (f .held) t past) (never-refused (record { window = f .window; held = Full (updated (f .held) (sampleAt (wordAt src (at + 8)) t) (f .window)) }) t src (at + 16) n taken (rises .1))

@@ -6,7 +6,7 @@ use mathlib.Core.Bool.{Bool}
 use mathlib.Core.List.{List, [], _∷_, _++_}
 use lib.Dec.{eqb}
 use lib.ListN.{take, replicate}
-use Rattle.words.specs.Words.{word, allBytes}
+use Rattle.words.specs.Words.{wordAt, allBytes}
 use Rattle.dispatch.specs.Examples.{same, zeros, with}
 use Rattle.guovssalu.specs.FilterRun.{runRow, runOut}
 use Rattle.guovssalu.specs.ModelRun.{modelRow, stateOut, answersOut}
@@ -109,7 +109,7 @@ sends t n = (1 ∷ t ∷ 0 ∷ n ∷ 0 ∷ []) ++ zeros 44
 -- the words of bytes at these places
 abbrev pub wordsIn : List ℕ → List ℕ → List ℕ
 wordsIn bytes [] = []
-wordsIn bytes (i ∷ places) = word bytes (8 * i) ∷ wordsIn bytes places
+wordsIn bytes (i ∷ places) = wordAt bytes (8 * i) ∷ wordsIn bytes places
 
 -- on a state of zeros: a start at moment 5 with a round trip of 100, a send at 9, and a send at 8, which is earlier
 abbrev pub firstCalls : List ℕ

@@ -10,7 +10,7 @@ use Rattle.filters.specs.declared.windowed_filter.Estimate.the-variants.{Nothin
 use Rattle.filters.specs.declared.windowed_filter.WindowedFilter.{WindowedFilter}
 use Rattle.filters.specs.WindowedFilter.{windowedNew, windowedNumber, windowedUpdate, bestOf, secondOf, thirdOf}
 use Rattle.state.specs.Refusals.{rowOf}
-use Rattle.words.specs.Words.{word}
+use Rattle.words.specs.Words.{wordAt}
 use Rattle.guovssalu.specs.Reply.{orShort, answered}
 
 -- how many pairs there are: a pair has 16 bytes
@@ -19,12 +19,12 @@ pairs src = length src / 16
 
 -- the filter after the pair at an index: a time, then a sample
 unfoldable pub afterPair : WindowedFilter → List ℕ → ℕ → WindowedFilter
-afterPair f src at = windowedUpdate f (word src (at + 8)) (word src at)
+afterPair f src at = windowedUpdate f (wordAt src (at + 8)) (wordAt src at)
 
 -- "a pair that the update would refuse": one of the n pairs from an index on
 unfoldable pub refuses : WindowedFilter → List ℕ → ℕ → ℕ → Bool
 refuses f src at zero = false
-refuses f src at (suc n) = not (eqb (windowedNumber f (word src at)) 0) || refuses (afterPair f src at) src (at + 16) n
+refuses f src at (suc n) = not (eqb (windowedNumber f (wordAt src at)) 0) || refuses (afterPair f src at) src (at + 16) n
 
 -- "three samples per pair": the filter's, from the best to the third. After a pair there is one each
 abbrev pub sampleIn : Estimate → ℕ

@@ -7,13 +7,13 @@ use lib.Dec.{ltb}
 use lib.Seq.{sets}
 use Rattle.state.specs.declared.cycle.MaybeBytes.{MaybeBytes}
 use Rattle.state.specs.declared.cycle.MaybeBytes.the-variants.{NoBytes, Bytes}
-use Rattle.words.specs.Words.{word, allBytes}
+use Rattle.words.specs.Words.{wordAt, allBytes}
 
 -- ---- the filter run: whether one of the n times from an index on is earlier than the one before it, the first earlier
 -- than `last`
 unfoldable pub timesFall : (last : ℕ) → List ℕ → ℕ → ℕ → Bool
 timesFall last src at zero = false
-timesFall last src at (suc n) = ltb (word src at) last || timesFall (word src at) src (at + 16) n
+timesFall last src at (suc n) = ltb (wordAt src at) last || timesFall (wordAt src at) src (at + 16) n
 
 -- the bytes with words written at an index, or, where nothing is to be written, as they were
 unfoldable pub setsWhere : Bool → List ℕ → ℕ → List ℕ → List ℕ

@@ -1,6 +1,6 @@
 -- The exported run of the model: calls, carried out in order on a state in lent bytes (docs/LAYOUT.md). `modelRow` is
--- what it replies, `answersOut` and `stateOut` are the bytes that it leaves; one call is `turnOf` in
--- crates/dispatch/specs/Turn.antt. A run in bytes that begins with a start is worked out in Examples.antt
+-- what it replies, `answersOut` and `stateOut` are the bytes that it leaves; one call is `outcomeOf` in
+-- crates/dispatch/specs/Outcome.antt. A run in bytes that begins with a start is worked out in Examples.antt
 -- (`startExamples`), three that go on from each other, with events, in crates/theorems/specs/Examples.antt.
 use Prim.Native.Nat.{ℕ, zero, suc, _+_, _*_, _/_, _%_}
 use mathlib.Core.Bool.{Bool, false, not, _&&_, _||_}
@@ -11,10 +11,10 @@ use Rattle.state.specs.declared.network_model.NetworkModel.{NetworkModel}
 use Rattle.state.specs.Refusals.{rowOf}
 use Rattle.state.specs.declared.cycle.Cycle.{Cycle}
 use Rattle.words.specs.Words.{wordsAt}
-use Rattle.layout.specs.NetworkModel.{modelOf}
-use Rattle.layout.specs.Cycle.{cycleOf}
-use Rattle.dispatch.specs.declared.turn.Turn.{Turn}
-use Rattle.dispatch.specs.Turn.{turnOf}
+use Rattle.layout.specs.NetworkModel.{modelFrom}
+use Rattle.layout.specs.Cycle.{cycleFrom}
+use Rattle.dispatch.specs.declared.outcome.Outcome.{Outcome}
+use Rattle.dispatch.specs.Outcome.{outcomeOf}
 use Rattle.guovssalu.specs.Reply.{orShort, answered}
 use Rattle.layout.specs.StateWords.{stateWords, isState}
 use Rattle.dispatch.specs.OneCall.{callAt, answerWords}
@@ -32,26 +32,26 @@ abbrev pub callsIn : List ℕ → ℕ
 callsIn src = length src / 392
 
 -- the call at an index, carried out
-unfoldable pub turnAt : NetworkModel → Cycle → List ℕ → ℕ → Turn
-turnAt m y src at = turnOf (callAt src at) m y
+unfoldable pub outcomeAt : NetworkModel → Cycle → List ℕ → ℕ → Outcome
+outcomeAt m y src at = outcomeOf (callAt src at) m y
 
 -- the answers to the n calls from an index on, each carried out in the state that the one before it left
 unfoldable pub answersTo : NetworkModel → Cycle → List ℕ → ℕ → ℕ → List ℕ
 answersTo m y src at zero = []
 answersTo m y src at (suc n) =
-    let t = turnAt m y src at in answerWords t ++ answersTo (t .model) (t .cycle) src (at + 392) n
+    let t = outcomeAt m y src at in answerWords t ++ answersTo (t .model) (t .cycle) src (at + 392) n
 
 -- the words of the state that they leave
 unfoldable pub leftBy : NetworkModel → Cycle → List ℕ → ℕ → ℕ → List ℕ
 leftBy m y src at zero = stateWords m y
-leftBy m y src at (suc n) = let t = turnAt m y src at in leftBy (t .model) (t .cycle) src (at + 392) n
+leftBy m y src at (suc n) = let t = outcomeAt m y src at in leftBy (t .model) (t .cycle) src (at + 392) n
 
 -- all of them, from a state in bytes
 unfoldable pub answersFrom : (state src : List ℕ) → List ℕ
-answersFrom state src = answersTo (modelOf (stateIn state)) (cycleOf (stateIn state)) src 0 (callsIn src)
+answersFrom state src = answersTo (modelFrom (stateIn state)) (cycleFrom (stateIn state)) src 0 (callsIn src)
 
 unfoldable pub wordsLeft : (state src : List ℕ) → List ℕ
-wordsLeft state src = leftBy (modelOf (stateIn state)) (cycleOf (stateIn state)) src 0 (callsIn src)
+wordsLeft state src = leftBy (modelFrom (stateIn state)) (cycleFrom (stateIn state)) src 0 (callsIn src)
 
 -- docs/LAYOUT.md, "What the run itself replies", 1, 2 and 7: "Of several the lowest is given; then no byte is written"
 unfoldable pub modelRow : (state src : List ℕ) (room : ℕ) → ℕ

@@ -5,7 +5,7 @@ ghost use Prim.Native.Nat.{_+_, _*_, _≤_};
 ghost use lib.ListN.{length};
 ghost use Rattle.units.specs.Reply.{number};
 ghost use Rattle.filters.specs.WindowedFilter.{windowedNew, windowedNumber};
-ghost use Rattle.words.specs.Words.{word};
+ghost use Rattle.words.specs.Words.{wordAt};
 ghost use Rattle.guovssalu.specs.FilterRun.{pairs, afterPair, refuses, sampleIn, samples, samplesOf, runRow, runOut};
 ghost use Rattle.guovssalu.specs.Inner.{timesFall, setsWhere};
 use crate::reply::or_short;
@@ -110,7 +110,7 @@ fn put_samples(out: &mut [u8], at: usize, filter: WindowedFilter, writes: bool)
 // The update by the pair at an index.
 fn after_pair(filter: WindowedFilter, src: &[u8], at: usize) -> Updated
     requires { ⌜ at + 16 ≤ length (now src) ⌝ }
-    ensures reply { λ r. ⌜ number (r .reply) ≡ windowedNumber filter (word (now (src .entry)) at) ⌝ }
+    ensures reply { λ r. ⌜ number (r .reply) ≡ windowedNumber filter (wordAt (now (src .entry)) at) ⌝ }
     ensures filter { λ r. ⌜ r .filter ≡ afterPair filter (now (src .entry)) at ⌝ }
 {
     let time = get_word(src, at);

@@ -11,9 +11,9 @@ use dispatch::one_call::end;
 use dispatch::one_call::other;
 use dispatch::one_call::send;
 use dispatch::one_call::start;
-use layout::cycle::cycle_of;
+use layout::cycle::cycle_from;
 use layout::form::is_state;
-use layout::network_model::model_of;
+use layout::network_model::model_from;
 use layout::state_words::state_words;
 use state::Cycle;
 use state::NetworkModel;
@@ -38,7 +38,7 @@ pub extern "C" fn guovssalu_run(state: &mut [u8], calls: &[u8], answers: &mut [u
         return reply.row();
     }
     let words = state_in(state);
-    let left = run_calls(model_of(&words), cycle_of(&words), calls, answers);
+    let left = run_calls(model_from(&words), cycle_from(&words), calls, answers);
     put_words(state, 0, &left);
     reply.row()
 }
@@ -98,9 +98,9 @@ fn run_calls(model: NetworkModel, cycle: Cycle, calls: &[u8], answers: &mut [u8]
         } else if call == 4 {
             m = end(m, fine, calls, at, answers, to);
         } else {
-            let turn = other(m, y, calls, at, answers, to);
-            m = turn.model;
-            y = turn.cycle;
+            let outcome = other(m, y, calls, at, answers, to);
+            m = outcome.model;
+            y = outcome.cycle;
             fine = m.ok();
         }
         i += 1;

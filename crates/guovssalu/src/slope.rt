@@ -61,7 +61,7 @@ fn slope_words(rounds: u64, window: u64) -> [u64; 2]
         rounds,
         bytes: MaybeBytes::NoBytes,
         acked: 0,
-        limited: false,
+        applimited: false,
     };
     let raised = slope_raised(slope, window);
     let bytes = raised.bytes;

@@ -9,17 +9,17 @@ use Rattle.filters.specs.MaxBandwidthFilter.{maxGet}
 use Rattle.state.specs.declared.network_model.NetworkModel.{NetworkModel}
 use Rattle.state.specs.declared.params.Params.{Params}
 use Rattle.state.proofs.Rows.{none, and-both}
-use Rattle.state.specs.declared.congestion_event.Record.{Record}
+use Rattle.state.specs.declared.congestion_event.CongestionEvent.{CongestionEvent}
 use Rattle.state.proofs.Laws.{fails-right}
 use Rattle.judge.specs.Judge.{judgedNumber, hasGrown, countsFlat, growthFull, isQueueing, queueNumber}
 
-pub growth-room : (m : NetworkModel) (p : Params) (e : Record) (n : ℕ) → n ≡ judgedNumber m p e (growthFull m p e) → eqb n 0 ≡ true
-    → hasGrown (m .growth) (maxGet (m .most)) p ≡ false → countsFlat (m .growth) (e .state) ≡ true → eqb (m .growth .flat) (2 ^ 64 - 1) ≡ false
+pub growth-room : (m : NetworkModel) (p : Params) (e : CongestionEvent) (n : ℕ) → n ≡ judgedNumber m p e (growthFull m p e) → eqb n 0 ≡ true
+    → hasGrown (m .growth) (maxGet (m .maxbw)) p ≡ false → countsFlat (m .growth) (e .state) ≡ true → eqb (m .growth .flat) (2 ^ 64 - 1) ≡ false
 unfolding judgedNumber growthFull
 growth-room m p e n i z h k =
     let d = none _ _ _ _ _ (sym i ∙ eqb-true n 0 z) in
-    fails-right (not (hasGrown (m .growth) (maxGet (m .most)) p) && countsFlat (m .growth) (e .state)) (eqb (m .growth .flat) (2 ^ 64 - 1)) (d .not-full)
-    (and-both (not (hasGrown (m .growth) (maxGet (m .most)) p)) (countsFlat (m .growth) (e .state)) (ap not h) k)
+    fails-right (not (hasGrown (m .growth) (maxGet (m .maxbw)) p) && countsFlat (m .growth) (e .state)) (eqb (m .growth .flat) (2 ^ 64 - 1)) (d .not-full)
+    (and-both (not (hasGrown (m .growth) (maxGet (m .maxbw)) p)) (countsFlat (m .growth) (e .state)) (ap not h) k)
 
 pub queue-room : (m : NetworkModel) (p : Params) (g : Float) (n : ℕ) → n ≡ queueNumber m p g → eqb n 0 ≡ true → isQueueing m g ≡ true → eqb (m .growth .queueing) (2 ^ 64 - 1) ≡ false
 unfolding queueNumber

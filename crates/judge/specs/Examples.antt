@@ -11,7 +11,7 @@ use Rattle.state.specs.declared.params.Params.{Params}
 use Rattle.state.specs.declared.parts.MaybeBandwidth.the-variants.{Unset}
 use Rattle.state.specs.NetworkModel.{startNumber, startModel, one}
 use Rattle.state.specs.declared.congestion_event.MaybeLength.the-variants.{Missing}
-use Rattle.state.specs.declared.congestion_event.Record.{Record}
+use Rattle.state.specs.declared.congestion_event.CongestionEvent.{CongestionEvent}
 use Rattle.judge.specs.Judge.{hasGrown, growthFull, judgedNumber}
 
 -- parameters with the threshold 1.25
@@ -35,7 +35,7 @@ abbrev fresh : NetworkModel
 fresh = startModel usual (record { 0 = 0 }) (record { 0 = 0 })
 
 -- a record in which nothing happened
-abbrev idle : Record
+abbrev idle : CongestionEvent
 idle =
     record {
       time = record { 0 = 0 };
@@ -48,7 +48,7 @@ idle =
       probing = false;
       bandwidth = Unset;
       rtt = Missing;
-      state = record { valid = false; limited = false; acked = 0; inflight = 0 };
+      state = record { valid = false; applimited = false; acked = 0; inflight = 0 };
     }
 
 -- the number of has_bandwidth_growth on a fresh model
@@ -60,5 +60,5 @@ growthExamples =
     -- 12. A fresh model reports growth: 0 >= 0. Neither the start nor the question is refused
     eqb (startNumber usual (record { 0 = 0 }) (record { 0 = 0 })) 0
     ∷ eqb grown 0
-    ∷ settled grown (hasGrown (fresh .growth) (maxGet (fresh .most)) usual) false
+    ∷ settled grown (hasGrown (fresh .growth) (maxGet (fresh .maxbw)) usual) false
     ∷ []

@@ -20,16 +20,16 @@ use Rattle.state.specs.declared.parts.Growth.{Growth}
 use Rattle.state.specs.declared.parts.Round.{Round}
 use Rattle.state.specs.declared.refusals.Rows.{Rows}
 use Rattle.state.specs.Bounds.{all, gainOk}
-use Rattle.state.specs.NetworkModel.{one, bdpOf, withLeast, withGrowth, judgedRows}
+use Rattle.state.specs.NetworkModel.{one, bdpOf, withMinrtt, withGrowth, judgedRows}
 use Rattle.state.specs.declared.congestion_event.MaybeLength.{MaybeLength}
 use Rattle.state.specs.declared.congestion_event.MaybeLength.the-variants.{Missing, Length}
-use Rattle.state.specs.declared.congestion_event.Record.{Record}
-use Rattle.state.specs.declared.congestion_event.SendState.{SendState}
-use Rattle.state.specs.CongestionEvent.{recordOk}
-use Rattle.state.specs.Refusals.{isMost, lowest}
+use Rattle.state.specs.declared.congestion_event.CongestionEvent.{CongestionEvent}
+use Rattle.state.specs.declared.congestion_event.SendTimeState.{SendTimeState}
+use Rattle.state.specs.CongestionEvent.{eventOk}
+use Rattle.state.specs.Refusals.{isFullCounter, lowest}
 
-unfoldable pub judgedNumber : NetworkModel → Params → Record → Bool → ℕ
-judgedNumber m p e rises = lowest (judgedRows m p (recordOk e) rises)
+unfoldable pub judgedNumber : NetworkModel → Params → CongestionEvent → Bool → ℕ
+judgedNumber m p e rises = lowest (judgedRows m p (eventOk e) rises)
 
 -- ---- maybe_expire_min_rtt: "Expiry needs a sample and a moment not earlier than the stored one plus the period; the
 -- sample is then forced in"
@@ -43,16 +43,16 @@ isDue now f period = not (isBefore now (plus (f .timestamp) period))
 abbrev pub isExpired : MaybeLength → Moment → MinRttFilter → Duration → Bool
 isExpired sample now f period = isGiven sample && isDue now f period
 
-abbrev pub leastExpired : MaybeLength → Moment → MinRttFilter → Duration → MinRttFilter
-leastExpired Missing now f period = f
-leastExpired (Length d) now f period = cond (isDue now f period) (minForce d now) f
+abbrev pub minrttExpired : MaybeLength → Moment → MinRttFilter → Duration → MinRttFilter
+minrttExpired Missing now f period = f
+minrttExpired (Length d) now f period = cond (isDue now f period) (minForce d now) f
 
-unfoldable pub expireNext : NetworkModel → Params → Record → NetworkModel
-expireNext m p e = withLeast m (leastExpired (e .rtt) (e .time) (m .least) (p .period))
+unfoldable pub expireNext : NetworkModel → Params → CongestionEvent → NetworkModel
+expireNext m p e = withMinrtt m (minrttExpired (e .rtt) (e .time) (m .minrtt) (p .period))
 
 -- ---- is_inflight_too_high: a valid state, loss events at least the limit, inflight at send above 0, bytes lost above
 -- 0 and strictly above scale(inflight, threshold)
-unfoldable pub isTooHigh : Round → SendState → ℕ → Float → Bool
+unfoldable pub isTooHigh : Round → SendTimeState → ℕ → Float → Bool
 isTooHigh r t limit threshold =
     all
     (t .valid
@@ -67,48 +67,48 @@ unfoldable pub hasGrown : Growth → Bandwidth → Params → Bool
 hasGrown g most p = leb (timesF32 (g .baseline) (p .growth) .0) (most .0)
 
 -- without growth the round counts if the state is valid, unless it is app-limited and such rounds are ignored
-unfoldable pub countsFlat : Growth → SendState → Bool
-countsFlat g t = t .valid && not (g .ignore && t .limited)
+unfoldable pub countsFlat : Growth → SendTimeState → Bool
+countsFlat g t = t .valid && not (g .ignore && t .applimited)
 
-unfoldable pub flatAfter : Growth → SendState → ℕ
+unfoldable pub flatAfter : Growth → SendTimeState → ℕ
 flatAfter g t = cond (countsFlat g t) (g .flat + 1) (g .flat)
 
 -- "full_bandwidth_reached is only set to true when not app-limited"
-unfoldable pub growthFlat : Growth → SendState → Params → Growth
+unfoldable pub growthFlat : Growth → SendTimeState → Params → Growth
 growthFlat g t p =
     record {
-      reached = g .reached || (t .valid && leb (p .rounds) (flatAfter g t) && not (t .limited));
+      reached = g .reached || (t .valid && leb (p .rounds) (flatAfter g t) && not (t .applimited));
       baseline = g .baseline;
       flat = flatAfter g t;
       queueing = g .queueing;
       ignore = g .ignore;
     }
 
-unfoldable pub growthAfter : Growth → Bandwidth → SendState → Params → Growth
+unfoldable pub growthAfter : Growth → Bandwidth → SendTimeState → Params → Growth
 growthAfter g most t p =
     cond (hasGrown g most p)
     (record { reached = g .reached; baseline = most; flat = 0; queueing = g .queueing; ignore = g .ignore })
     (growthFlat g t p)
 
 -- row 5: the bandwidth has not grown, so that the round counts, and the count is full
-unfoldable pub growthFull : NetworkModel → Params → Record → Bool
+unfoldable pub growthFull : NetworkModel → Params → CongestionEvent → Bool
 growthFull m p e =
-    not (hasGrown (m .growth) (maxGet (m .most)) p) && countsFlat (m .growth) (e .state) && isMost (m .growth .flat)
+    not (hasGrown (m .growth) (maxGet (m .maxbw)) p) && countsFlat (m .growth) (e .state) && isFullCounter (m .growth .flat)
 
-abbrev pub growthRows : NetworkModel → Params → Record → Rows
-growthRows m p e = judgedRows m p (recordOk e) (growthFull m p e)
+abbrev pub growthRows : NetworkModel → Params → CongestionEvent → Rows
+growthRows m p e = judgedRows m p (eventOk e) (growthFull m p e)
 
-unfoldable pub growthNext : NetworkModel → Params → Record → NetworkModel
-growthNext m p e = withGrowth m (growthAfter (m .growth) (maxGet (m .most)) (e .state) p)
+unfoldable pub growthNext : NetworkModel → Params → CongestionEvent → NetworkModel
+growthNext m p e = withGrowth m (growthAfter (m .growth) (maxGet (m .maxbw)) (e .state) p)
 
 -- ---- check_persistent_queue: the target is `.bdp(self.max_bandwidth(), target_gain)`
 -- `.max(self.bdp0() + self.queueing_threshold_extra_bytes())`, and the round queues unless
 -- `self.min_bytes_in_flight_in_round < target`
 unfoldable pub queueTarget : NetworkModel → Float → ℕ
-queueTarget m gain = max (bdpOf m (maxGet (m .most)) gain) (bdpOf m (maxGet (m .most)) one + 2 * 1300)
+queueTarget m gain = max (bdpOf m (maxGet (m .maxbw)) gain) (bdpOf m (maxGet (m .maxbw)) one + 2 * 1300)
 
 unfoldable pub isQueueing : NetworkModel → Float → Bool
-isQueueing m gain = not (ltb (m .round .least) (queueTarget m gain))
+isQueueing m gain = not (ltb (m .round .mininflight) (queueTarget m gain))
 
 unfoldable pub queueAfter : Growth → Bool → Params → Growth
 queueAfter g queueing p =
@@ -124,7 +124,7 @@ queueAfter g queueing p =
 
 -- row 5: the round queues, and the count of such rounds is full
 abbrev pub queueRows : NetworkModel → Params → Float → Rows
-queueRows m p gain = judgedRows m p (gainOk gain) (isQueueing m gain && isMost (m .growth .queueing))
+queueRows m p gain = judgedRows m p (gainOk gain) (isQueueing m gain && isFullCounter (m .growth .queueing))
 
 unfoldable pub queueNumber : NetworkModel → Params → Float → ℕ
 queueNumber m p gain = lowest (queueRows m p gain)

@@ -6,15 +6,15 @@ ghost use lib.Dec.{ltb, eqb};
 ghost use Rattle.units.specs.Reply.{number};
 ghost use Rattle.filters.specs.MaxBandwidthFilter.{maxGet};
 ghost use Rattle.state.specs.Answers.{settled};
-ghost use Rattle.judge.specs.Judge.{judgedNumber, isGiven, isDue, isExpired, leastExpired, expireNext, isTooHigh, hasGrown, countsFlat, flatAfter, growthFlat, growthAfter, growthFull, growthNext, isQueueing, queueAfter, queueNumber, queueNext};
+ghost use Rattle.judge.specs.Judge.{judgedNumber, isGiven, isDue, isExpired, minrttExpired, expireNext, isTooHigh, hasGrown, countsFlat, flatAfter, growthFlat, growthAfter, growthFull, growthNext, isQueueing, queueAfter, queueNumber, queueNext};
 use filters::MinRttFilter;
 use state::NetworkModel;
 use state::Params;
 use state::answers::Flag;
 use state::bounds::gain_ok;
+use state::congestion_event::CongestionEvent;
 use state::congestion_event::MaybeLength;
-use state::congestion_event::Record;
-use state::congestion_event::SendState;
+use state::congestion_event::SendTimeState;
 use state::network_model::Changed;
 use state::parts::Growth;
 use state::parts::Round;
@@ -36,42 +36,42 @@ pub struct Decided {
 // ---- maybe_expire_min_rtt
 
 // Whether the minimum round trip has expired; the event's sample then takes its place.
-pub fn maybe_expire_min_rtt(model: NetworkModel, params: Params, event: Record) -> Decided
+pub fn maybe_expire_min_rtt(model: NetworkModel, params: Params, event: CongestionEvent) -> Decided
     ensures reply { λ r. ⌜ number (r .reply) ≡ judgedNumber model params event false ⌝ }
     ensures model { λ r. ⌜ r .model ≡ settled (judgedNumber model params event false)
         (expireNext model params event)
         model ⌝ }
     ensures yes { λ r. ⌜ r .yes ≡ settled (judgedNumber model params event false)
-        (isExpired (event .rtt) (event .time) (model .least) (params .period))
+        (isExpired (event .rtt) (event .time) (model .minrtt) (params .period))
         false ⌝ }
 {
     let rtt = event.rtt;
-    let yes = is_given(rtt) & is_due(event.time, model.least, params.period);
+    let yes = is_given(rtt) & is_due(event.time, model.minrtt, params.period);
     decide(
         judged_reply(model, params, event, false),
         model,
-        expired(model, params, event),
+        expire_next(model, params, event),
         yes,
     )
 }
 
-fn expired(model: NetworkModel, params: Params, event: Record) -> NetworkModel
+fn expire_next(model: NetworkModel, params: Params, event: CongestionEvent) -> NetworkModel
     ensures { λ r. ⌜ r ≡ expireNext model params event ⌝ }
 {
     let rtt = event.rtt;
-    let filter = least_expired(rtt, event.time, model.least, params.period);
+    let filter = minrtt_expired(rtt, event.time, model.minrtt, params.period);
     let mut next = model;
-    next.least = filter;
+    next.minrtt = filter;
     next
 }
 
-fn least_expired(
+fn minrtt_expired(
     sample: MaybeLength,
     now: Moment,
     filter: MinRttFilter,
     period: Duration,
 ) -> MinRttFilter
-    ensures { λ r. ⌜ r ≡ leastExpired sample now filter period ⌝ }
+    ensures { λ r. ⌜ r ≡ minrttExpired sample now filter period ⌝ }
 {
     let MaybeLength::Length(rtt) = sample else {
         return filter;
@@ -103,7 +103,12 @@ fn is_due(now: Moment, filter: MinRttFilter, period: Duration) -> bool
 // ---- is_inflight_too_high
 
 // Whether the round lost more than the threshold allows of what was in flight at the send.
-pub fn is_inflight_too_high(model: NetworkModel, params: Params, event: Record, limit: u64) -> Flag
+pub fn is_inflight_too_high(
+    model: NetworkModel,
+    params: Params,
+    event: CongestionEvent,
+    limit: u64,
+) -> Flag
     ensures reply { λ r. ⌜ number (r .reply) ≡ judgedNumber model params event false ⌝ }
     ensures yes { λ r. ⌜ r .yes ≡ settled (judgedNumber model params event false)
         (isTooHigh (model .round) (event .state) limit (params .loss))
@@ -113,11 +118,11 @@ pub fn is_inflight_too_high(model: NetworkModel, params: Params, event: Record, 
     let state = event.state;
     Flag::of(
         judged_reply(model, params, event, false),
-        too_high(round, state, limit, params.loss),
+        is_too_high(round, state, limit, params.loss),
     )
 }
 
-fn too_high(round: Round, state: SendState, limit: u64, threshold: f32) -> bool
+fn is_too_high(round: Round, state: SendTimeState, limit: u64, threshold: f32) -> bool
     ensures { λ r. ⌜ r ≡ isTooHigh round state limit threshold ⌝ }
 {
     state.valid
@@ -130,19 +135,19 @@ fn too_high(round: Round, state: SendState, limit: u64, threshold: f32) -> bool
 // ---- has_bandwidth_growth
 
 // Whether the maximum bandwidth has grown past the threshold since the baseline was set.
-pub fn has_bandwidth_growth(model: NetworkModel, params: Params, event: Record) -> Decided
+pub fn has_bandwidth_growth(model: NetworkModel, params: Params, event: CongestionEvent) -> Decided
     ensures reply { λ r. ⌜ number (r .reply) ≡ judgedNumber model params event (growthFull model params event) ⌝ }
     ensures model { λ r. ⌜ r .model ≡ settled (judgedNumber model params event (growthFull model params event))
         (growthNext model params event)
         model ⌝ }
     ensures yes { λ r. ⌜ r .yes ≡ settled (judgedNumber model params event (growthFull model params event))
-        (hasGrown (model .growth) (maxGet (model .most)) params)
+        (hasGrown (model .growth) (maxGet (model .maxbw)) params)
         false ⌝ }
 {
     let full = growth_full(model, params, event);
     let reply = judged_reply(model, params, event, full);
     if reply.is_done() {
-        let most = model.most;
+        let most = model.maxbw;
         let growth = model.growth;
         let state = event.state;
         let best = most.get();
@@ -164,17 +169,17 @@ pub fn has_bandwidth_growth(model: NetworkModel, params: Params, event: Record) 
     }
 }
 
-fn growth_full(model: NetworkModel, params: Params, event: Record) -> bool
+fn growth_full(model: NetworkModel, params: Params, event: CongestionEvent) -> bool
     ensures { λ r. ⌜ r ≡ growthFull model params event ⌝ }
 {
-    let most = model.most;
+    let most = model.maxbw;
     let growth = model.growth;
     let state = event.state;
     !has_grown(growth, most.get(), params) & counts_flat(growth, state) & (growth.flat == FULL)
 }
 
 // The growth after the maximum is compared with the baseline.
-fn growth_after(growth: Growth, most: Bandwidth, state: SendState, params: Params) -> Growth
+fn growth_after(growth: Growth, most: Bandwidth, state: SendTimeState, params: Params) -> Growth
     requires { ⌜ (hasGrown growth most params ≡ false → countsFlat growth state ≡ true
         → eqb (growth .flat) (2 ^ 64 - 1) ≡ false) ⌝ }
     ensures { λ r. ⌜ r ≡ growthAfter growth most state params ⌝ }
@@ -189,19 +194,19 @@ fn growth_after(growth: Growth, most: Bandwidth, state: SendState, params: Param
     }
 }
 
-fn growth_flat(growth: Growth, state: SendState, params: Params) -> Growth
+fn growth_flat(growth: Growth, state: SendTimeState, params: Params) -> Growth
     requires { ⌜ (countsFlat growth state ≡ true → eqb (growth .flat) (2 ^ 64 - 1) ≡ false) ⌝ }
     ensures { λ r. ⌜ r ≡ growthFlat growth state params ⌝ }
 {
     let flat = flat_after(growth, state);
     let mut next = growth;
     next.flat = flat;
-    next.reached = growth.reached | (state.valid & (params.rounds <= flat) & !state.limited);
+    next.reached = growth.reached | (state.valid & (params.rounds <= flat) & !state.applimited);
     next
 }
 
 // rounds_without_bandwidth_growth after a round without growth.
-fn flat_after(growth: Growth, state: SendState) -> u64
+fn flat_after(growth: Growth, state: SendTimeState) -> u64
     requires { ⌜ (countsFlat growth state ≡ true → eqb (growth .flat) (2 ^ 64 - 1) ≡ false) ⌝ }
     ensures { λ r. ⌜ r ≡ flatAfter growth state ⌝ }
 {
@@ -220,10 +225,10 @@ fn has_grown(growth: Growth, most: Bandwidth, params: Params) -> bool
     threshold.0 <= most.0
 }
 
-fn counts_flat(growth: Growth, state: SendState) -> bool
+fn counts_flat(growth: Growth, state: SendTimeState) -> bool
     ensures { λ r. ⌜ r ≡ countsFlat growth state ⌝ }
 {
-    state.valid & !(growth.ignore & state.limited)
+    state.valid & !(growth.ignore & state.applimited)
 }
 
 // ---- check_persistent_queue
@@ -262,11 +267,11 @@ fn queue_reply(model: NetworkModel, params: Params, gain: f32, queueing: bool) -
 fn is_queueing(model: NetworkModel, gain: f32) -> bool
     ensures { λ r. ⌜ r ≡ isQueueing model gain ⌝ }
 {
-    let most = model.most;
+    let most = model.maxbw;
     let best = most.get();
-    let least = model.round.least;
-    let target = model.product(best, gain);
-    let plain = model.product(best, 1.0);
+    let least = model.round.mininflight;
+    let target = model.bdp_of(best, gain);
+    let plain = model.bdp_of(best, 1.0);
     !(least < target) & !below_sum(least, plain, 2 * NetworkModel::DEFAULT_MSS)
 }
 
@@ -295,7 +300,7 @@ fn queue_after(growth: Growth, queueing: bool, params: Params) -> Growth
 
 // ---- what the calls share
 
-fn judged_reply(model: NetworkModel, params: Params, event: Record, full: bool) -> Reply
+fn judged_reply(model: NetworkModel, params: Params, event: CongestionEvent, full: bool) -> Reply
     ensures { λ r. ⌜ number r ≡ judgedNumber model params event full ⌝ }
 {
     refusal(Rows {

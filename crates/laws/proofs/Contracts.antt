@@ -14,7 +14,7 @@ use Rattle.state.specs.declared.params.Params.{Params}
 use Rattle.state.specs.Answers.{settled}
 use Rattle.state.specs.NetworkModel.{modelOk}
 use Rattle.state.specs.NetworkModel.{startModel}
-use Rattle.state.specs.CongestionEvent.{recordOk}
+use Rattle.state.specs.CongestionEvent.{eventOk}
 use Rattle.state.specs.Cycle.{cycleOk, freshCycle}
 use Rattle.state.proofs.Rows.{and-both}
 use Rattle.state.proofs.params.Params as params
@@ -67,7 +67,7 @@ every-call = record {
   queue = λ κs a x s g p. keeps modelOk _ _ _ _ _ (p .0) (p .1) (N.queue-kept _ _ _);
   expire = λ κs a x s g p. keeps modelOk _ _ _ _ _ (p .0) (p .1 .0) (N.expire-kept _ _ _);
   growth = λ κs a x s g p. keeps modelOk _ _ _ _ _ (p .0) (p .1 .0) (N.growth-kept _ _ _);
-  occurs = λ κs a x s g p. keeps-both modelOk recordOk _ _ _ _ _ _ _ _ (p .0) (p .1 .0) (p .1 .1) (λ h. (N.event-model-kept _ _ _ _ _ h (beta-fits (a .1 .0) _ (g .1 .0)), N.event-record-kept _ _ _ _ _ h));
+  occurs = λ κs a x s g p. keeps-both modelOk eventOk _ _ _ _ _ _ _ _ (p .0) (p .1 .0) (p .1 .1) (λ h. (N.event-model-kept _ _ _ _ _ h (beta-fits (a .1 .0) _ (g .1 .0)), N.event-record-kept _ _ _ _ _ h));
   down = λ κs a x s g p. keeps-both modelOk cycleOk _ _ _ _ _ _ _ _ (p .0) (p .1 .0) (p .1 .1) (P.down-kept _ _ _ _ _ _);
   cruise = λ κs a x s g p. keeps-both modelOk cycleOk _ _ _ _ _ _ _ _ (p .0) (p .1 .0) (p .1 .1) (P.cruise-kept _ _ _);
   refill = λ κs a x s g p. keeps-both modelOk cycleOk _ _ _ _ _ _ _ _ (p .0) (p .1 .0) (p .1 .1) (P.refill-kept _ _ _ _);

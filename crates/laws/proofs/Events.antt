@@ -28,16 +28,16 @@ use Rattle.state.specs.declared.parts.Totals.{Totals}
 use Rattle.state.specs.Bounds.{within, bytesOk, bytesOrUnsetOk, totalOk, momentOk, lengthOk, bandwidthOk, maybeOk, gainOk}
 use Rattle.state.specs.Params.{betaOk, paramsOk}
 use Rattle.state.specs.Parts.{roundOk, latestOk, lowerOk, totalsOk}
-use Rattle.state.specs.NetworkModel.{mostOk, leastOk, modelTests, modelOk}
-use Rattle.state.specs.NetworkModel.{withRound, withLeast, withGrowth}
+use Rattle.state.specs.NetworkModel.{maxbwOk, minrttOk, modelTests, modelOk}
+use Rattle.state.specs.NetworkModel.{withRound, withMinrtt, withGrowth}
 use Rattle.state.specs.Parts.{roundNew}
 use Rattle.laws.proofs.Model.{round-new-ok}
 use Rattle.state.proofs.Rows.{none, row-stored, row-argument, and-left, and-right, and-both, or-left, or-right, all-at, all-put}
 use Rattle.state.specs.declared.congestion_event.MaybeLength.{MaybeLength}
 use Rattle.state.specs.declared.congestion_event.MaybeLength.the-variants.{Missing, Length}
-use Rattle.state.specs.declared.congestion_event.Record.{Record}
-use Rattle.state.specs.declared.congestion_event.Sample.{Sample}
-use Rattle.state.specs.declared.congestion_event.SendState.{SendState}
+use Rattle.state.specs.declared.congestion_event.CongestionEvent.{CongestionEvent}
+use Rattle.state.specs.declared.congestion_event.CongestionEventSample.{CongestionEventSample}
+use Rattle.state.specs.declared.congestion_event.SendTimeState.{SendTimeState}
 use Rattle.events.specs.Event as E
 use Rattle.state.specs.CongestionEvent as H
 use Rattle.judge.specs.Judge as J
@@ -51,20 +51,20 @@ larger-ok : (a b k : ℕ) → leb a k ≡ true → leb b k ≡ true → leb (max
 larger-ok a b k p q = le-leb (max a b) k (omega (arith, leb-true a k p, leb-true b k q))
 
 -- ---- part by part
-pub most-kept : (f : MaxBandwidthFilter) (b : MaybeBandwidth) (c l : Bool) → mostOk f ≡ true → maybeOk b ≡ true → mostOk (E.mostAfter f b c l) ≡ true
+pub most-kept : (f : MaxBandwidthFilter) (b : MaybeBandwidth) (c l : Bool) → maxbwOk f ≡ true → maybeOk b ≡ true → maxbwOk (E.maxbwAfter f b c l) ≡ true
 unfolding maxUpdate
 most-kept f Unset c l h k = h
 most-kept f (Set b) c l h k =
-    arms mostOk (c && (not l || ltb (maxGet f .0) (b .0))) (maxUpdate f b) f
+    arms maxbwOk (c && (not l || ltb (maxGet f .0) (b .0))) (maxUpdate f b) f
     (and-both (bandwidthOk (f .slot0)) (leb (max (f .slot1 .0) (b .0)) (2 ^ 40)) (and-left (bandwidthOk (f .slot0)) (bandwidthOk (f .slot1)) h) (larger-ok (f .slot1 .0) (b .0) (2 ^ 40) (and-right (bandwidthOk (f .slot0)) (bandwidthOk (f .slot1)) h) k)) h
 
-least-kept : (f : MinRttFilter) (r : MaybeLength) (now : Moment) → leastOk f ≡ true → H.maybeLengthOk r ≡ true → momentOk now ≡ true → leastOk (E.leastAfter f r now) ≡ true
+least-kept : (f : MinRttFilter) (r : MaybeLength) (now : Moment) → minrttOk f ≡ true → H.maybeLengthOk r ≡ true → momentOk now ≡ true → minrttOk (E.minrttAfter f r now) ≡ true
 unfolding minUpdate
 least-kept f Missing now h k t = h
-least-kept f (Length d) now h k t = arms leastOk (ltb (d .0) (f .rtt .0)) (record { rtt = d; timestamp = now }) f (and-both (lengthOk d) (momentOk now) k t) h
+least-kept f (Length d) now h k t = arms minrttOk (ltb (d .0) (f .rtt .0)) (record { rtt = d; timestamp = now }) f (and-both (lengthOk d) (momentOk now) k t) h
 
 -- the largest of the filter
-pub most-max : (f : MaxBandwidthFilter) → mostOk f ≡ true → bandwidthOk (maxGet f) ≡ true
+pub most-max : (f : MaxBandwidthFilter) → maxbwOk f ≡ true → bandwidthOk (maxGet f) ≡ true
 unfolding maxGet
 most-max f h = larger-ok (f .slot0 .0) (f .slot1 .0) (2 ^ 40) (and-left (bandwidthOk (f .slot0)) (bandwidthOk (f .slot1)) h) (and-right (bandwidthOk (f .slot0)) (bandwidthOk (f .slot1)) h)
 
@@ -72,7 +72,7 @@ seed-kept : (b : MaybeBandwidth) (w : Bandwidth) → maybeOk b ≡ true → band
 seed-kept Unset w h k = k
 seed-kept (Set b) w h k = h
 
-raised-kept : (l : Latest) (s : Sample) → latestOk l ≡ true → maybeOk (s .bandwidth) ≡ true → bytesOk (s .inflight) ≡ true → latestOk (E.latestRaised l s) ≡ true
+raised-kept : (l : Latest) (s : CongestionEventSample) → latestOk l ≡ true → maybeOk (s .bandwidth) ≡ true → bytesOk (s .inflight) ≡ true → latestOk (E.latestRaised l s) ≡ true
 unfolding E.latestRaised
 raised-kept l s h b n =
     and-both (bandwidthOk (E.raisedBandwidth (l .bandwidth) (s .bandwidth))) (leb (max (l .inflight) (s .inflight)) (2 ^ 40)) (go (s .bandwidth) b) (larger-ok (l .inflight) (s .inflight) (2 ^ 40) (and-right (bandwidthOk (l .bandwidth)) (bytesOk (l .inflight)) h) n)
@@ -81,7 +81,7 @@ raised-kept l s h b n =
     go Unset k = and-left (bandwidthOk (l .bandwidth)) (bytesOk (l .inflight)) h
     go (Set x) k = larger-ok (l .bandwidth .0) (x .0) (2 ^ 40) (and-left (bandwidthOk (l .bandwidth)) (bytesOk (l .inflight)) h) k
 
-latest-kept : (l : Latest) (t : Bool) (s : Sample) → latestOk l ≡ true → maybeOk (s .bandwidth) ≡ true → bytesOk (s .inflight) ≡ true → latestOk (E.latestAfter l t s) ≡ true
+latest-kept : (l : Latest) (t : Bool) (s : CongestionEventSample) → latestOk l ≡ true → maybeOk (s .bandwidth) ≡ true → bytesOk (s .inflight) ≡ true → latestOk (E.latestAfter l t s) ≡ true
 unfolding E.latestAfter
 latest-kept l t s h b n =
     arms latestOk t (record { bandwidth = E.seedOf (s .bandwidth) (l .bandwidth); inflight = E.newestOf (l .inflight) (s .inflight) }) l
@@ -146,11 +146,11 @@ module _ (r : Round) (old new : Totals) (delivered inflight : ℕ) (H : roundOk 
 
   lost-was : r .lost ≤ old .lost
   unfolding roundOk
-  lost-was = leb-true _ _ (and-right (totalOk (r .lost) && totalOk (r .delivered) && bytesOrUnsetOk (r .least)) (leb (r .lost) (old .lost)) (and-left _ (leb (r .delivered) (old .acked)) H))
+  lost-was = leb-true _ _ (and-right (totalOk (r .lost) && totalOk (r .delivered) && bytesOrUnsetOk (r .mininflight)) (leb (r .lost) (old .lost)) (and-left _ (leb (r .delivered) (old .acked)) H))
 
   delivered-was : r .delivered ≤ old .acked
   unfolding roundOk
-  delivered-was = leb-true _ _ (and-right (totalOk (r .lost) && totalOk (r .delivered) && bytesOrUnsetOk (r .least) && leb (r .lost) (old .lost)) (leb (r .delivered) (old .acked)) H)
+  delivered-was = leb-true _ _ (and-right (totalOk (r .lost) && totalOk (r .delivered) && bytesOrUnsetOk (r .mininflight) && leb (r .lost) (old .lost)) (leb (r .delivered) (old .acked)) H)
 
   acked-ok : new .acked ≤ 2 ^ 62
   acked-ok = leb-true _ _ (and-left (totalOk (new .acked)) (totalOk (new .lost)) K)
@@ -173,14 +173,14 @@ module _ (r : Round) (old new : Totals) (delivered inflight : ℕ) (H : roundOk 
   round-kept =
       let x = cond (ltb 0 lost) (r .lost + lost) (r .lost) in
       let y = max (r .delivered) delivered in
-      let z = min (r .least) inflight in
+      let z = min (r .mininflight) inflight in
       and-both (totalOk x && totalOk y && bytesOrUnsetOk z && leb x (new .lost)) (leb y (new .acked))
       (and-both (totalOk x && totalOk y && bytesOrUnsetOk z) (leb x (new .lost))
-      (and-both (totalOk x && totalOk y) (bytesOrUnsetOk z) (and-both (totalOk x) (totalOk y) (le-leb x (2 ^ 62) (omega (arith, lost-now, lost-ok))) (le-leb y (2 ^ 62) (omega (arith, delivered-now, acked-ok)))) (least-inflight (r .least) inflight I))
+      (and-both (totalOk x && totalOk y) (bytesOrUnsetOk z) (and-both (totalOk x) (totalOk y) (le-leb x (2 ^ 62) (omega (arith, lost-now, lost-ok))) (le-leb y (2 ^ 62) (omega (arith, delivered-now, acked-ok)))) (least-inflight (r .mininflight) inflight I))
       (le-leb x (new .lost) lost-now))
       (le-leb y (new .acked) delivered-now)
 
-delivered-le : (t : SendState) (acked total : ℕ) → E.deliveredBy t acked total ≤ total
+delivered-le : (t : SendTimeState) (acked total : ℕ) → E.deliveredBy t acked total ≤ total
 unfolding E.deliveredBy
 delivered-le t acked total = go (ltb 0 acked && t .valid && ltb (t .acked) total)
   where
@@ -200,7 +200,7 @@ less-ok : (a b k : ℕ) → leb a k ≡ true → leb (a - b) k ≡ true
 less-ok a b k h = le-leb (a - b) k (omega (arith, leb-true a k h))
 
 -- ---- the event
-module _ (m : NetworkModel) (p : Params) (e : Record) (s : Sample) (acked : List ℕ) (N : E.eventNumber m p e s acked ≡ 0) where
+module _ (m : NetworkModel) (p : Params) (e : CongestionEvent) (s : CongestionEventSample) (acked : List ℕ) (N : E.eventNumber m p e s acked ≡ 0) where
   pub event-model : modelOk m ≡ true
   unfolding E.eventNumber
   event-model = and-left (modelOk m) (paramsOk p) (not-false (modelOk m && paramsOk p) (none _ _ _ _ _ N .stored-fine))
@@ -209,13 +209,13 @@ module _ (m : NetworkModel) (p : Params) (e : Record) (s : Sample) (acked : List
   unfolding E.eventNumber
   event-params = and-right (modelOk m) (paramsOk p) (not-false (modelOk m && paramsOk p) (none _ _ _ _ _ N .stored-fine))
 
-  event-record : H.recordOk e ≡ true
+  event-record : H.eventOk e ≡ true
   unfolding E.eventNumber
-  event-record = and-left (H.recordOk e) (H.sampleOk s) (not-false (H.recordOk e && H.sampleOk s) (none _ _ _ _ _ N .argument-fine))
+  event-record = and-left (H.eventOk e) (H.sampleOk s) (not-false (H.eventOk e && H.sampleOk s) (none _ _ _ _ _ N .argument-fine))
 
   pub event-sample : H.sampleOk s ≡ true
   unfolding E.eventNumber
-  event-sample = and-right (H.recordOk e) (H.sampleOk s) (not-false (H.recordOk e && H.sampleOk s) (none _ _ _ _ _ N .argument-fine))
+  event-sample = and-right (H.eventOk e) (H.sampleOk s) (not-false (H.eventOk e && H.sampleOk s) (none _ _ _ _ _ N .argument-fine))
 
   acked-up : m .totals .acked ≤ s .totals .acked
   unfolding E.eventNumber
@@ -225,99 +225,99 @@ module _ (m : NetworkModel) (p : Params) (e : Record) (s : Sample) (acked : List
   unfolding E.eventNumber
   lost-up = ltb-false _ _ (or-right (ltb (s .totals .acked) (m .totals .acked)) (ltb (s .totals .lost) (m .totals .lost)) (none _ _ _ _ _ N .no-lower))
 
-  abbrev after : Record
-  after = E.recordNext m e s acked
+  abbrev after : CongestionEvent
+  after = E.eventNext m e s acked
 
   inflight-ok : bytesOk (e .prior - E.bytesAcked m s - E.bytesLost m s) ≡ true
-  unfolding H.recordTests
-  inflight-ok = less-ok (e .prior - E.bytesAcked m s) (E.bytesLost m s) (2 ^ 40) (less-ok (e .prior) (E.bytesAcked m s) (2 ^ 40) (all-at (H.recordTests e) 2 event-record))
+  unfolding H.eventTests
+  inflight-ok = less-ok (e .prior - E.bytesAcked m s) (E.bytesLost m s) (2 ^ 40) (less-ok (e .prior) (E.bytesAcked m s) (2 ^ 40) (all-at (H.eventTests e) 2 event-record))
 
-  pub event-record-kept : H.recordOk (E.recordNext m e s acked) ≡ true
-  unfolding H.recordTests H.sampleTests E.recordNext E.recordOf E.stateAfter
+  pub event-record-kept : H.eventOk (E.eventNext m e s acked) ≡ true
+  unfolding H.eventTests H.sampleTests E.eventNext E.eventAfter E.stateAfter
   event-record-kept =
       let totals : totalsOk (s .totals) ≡ true = all-at (H.sampleTests s) 7 event-sample in
       simp (
-        all-at (H.recordTests e) 0 event-record,
-        all-at (H.recordTests e) 1 event-record,
-        all-at (H.recordTests e) 2 event-record,
+        all-at (H.eventTests e) 0 event-record,
+        all-at (H.eventTests e) 1 event-record,
+        all-at (H.eventTests e) 2 event-record,
         inflight-ok,
         less-ok (s .totals .acked) (m .totals .acked) (2 ^ 62) (and-left (totalOk (s .totals .acked)) (totalOk (s .totals .lost)) totals),
         less-ok (s .totals .lost) (m .totals .lost) (2 ^ 62) (and-right (totalOk (s .totals .acked)) (totalOk (s .totals .lost)) totals),
         bandwidth (s .bandwidth) (all-at (H.sampleTests s) 0 event-sample),
         rtt (s .rtt) (all-at (H.sampleTests s) 3 event-sample),
-        arms H.stateOk (s .state .valid) (s .state) (e .state) (all-at (H.sampleTests s) 6 event-sample) (all-at (H.recordTests e) 8 event-record),
+        arms H.stateOk (s .state .valid) (s .state) (e .state) (all-at (H.sampleTests s) 6 event-sample) (all-at (H.eventTests e) 8 event-record),
       )
     where
       bandwidth : (x : MaybeBandwidth) → maybeOk x ≡ true → maybeOk (E.bandwidthAfter (e .bandwidth) x (E.isChanged m s)) ≡ true
-      bandwidth Unset h = all-at (H.recordTests e) 6 event-record
-      bandwidth (Set b) h = arms maybeOk (E.isChanged m s) (Set b) (e .bandwidth) h (all-at (H.recordTests e) 6 event-record)
+      bandwidth Unset h = all-at (H.eventTests e) 6 event-record
+      bandwidth (Set b) h = arms maybeOk (E.isChanged m s) (Set b) (e .bandwidth) h (all-at (H.eventTests e) 6 event-record)
 
       rtt : (x : MaybeLength) → H.maybeLengthOk x ≡ true → H.maybeLengthOk (E.rttAfter (e .rtt) x) ≡ true
-      rtt Missing h = all-at (H.recordTests e) 7 event-record
+      rtt Missing h = all-at (H.eventTests e) 7 event-record
       rtt (Length d) h = h
 
   pub event-model-kept : T (fits binary32 (p .beta)) → modelOk (E.modelNext m p e s acked) ≡ true
-  unfolding modelTests H.recordTests H.sampleTests E.modelNext E.modelOf E.recordNext E.recordOf E.mostNext E.roundNext E.lowerNext
+  unfolding modelTests H.eventTests H.sampleTests E.modelNext E.modelAfter E.eventNext E.eventAfter E.maxbwNext E.roundNext E.lowerNext
   event-model-kept fit =
       let bandwidth = all-at (H.sampleTests s) 0 event-sample in
       let inflight = all-at (H.sampleTests s) 4 event-sample in
       let totals = all-at (H.sampleTests s) 7 event-sample in
-      let most = most-kept (m .most) (s .bandwidth) (E.isChanged m s) (s .limited) (all-at (modelTests m) 0 event-model) bandwidth in
+      let most = most-kept (m .maxbw) (s .bandwidth) (E.isChanged m s) (s .applimited) (all-at (modelTests m) 0 event-model) bandwidth in
       let raised = raised-kept (m .latest) s (all-at (modelTests m) 3 event-model) bandwidth inflight in
       simp (
         most,
-        least-kept (m .least) (s .rtt) (e .time) (all-at (modelTests m) 1 event-model) (all-at (H.sampleTests s) 3 event-sample) (all-at (H.recordTests e) 0 event-record),
+        least-kept (m .minrtt) (s .rtt) (e .time) (all-at (modelTests m) 1 event-model) (all-at (H.sampleTests s) 3 event-sample) (all-at (H.eventTests e) 0 event-record),
         round-kept (m .round) (m .totals) (s .totals) (E.deliveredBy (after .state) (E.bytesAcked m s) (s .totals .acked)) (e .prior - E.bytesAcked m s - E.bytesLost m s) (all-at (modelTests m) 2 event-model) totals acked-up lost-up (delivered-le (after .state) (E.bytesAcked m s) (s .totals .acked)) inflight-ok,
         latest-kept (E.latestRaised (m .latest) s) (after .ended) s raised bandwidth inflight,
-        lower-kept (m .lower) (E.acts (after .ended) (after .probing) (E.roundNext m after s .lost)) (maxGet (E.mostNext m s)) (E.latestRaised (m .latest) s) (e .window) (p .beta) (beta-parts p fit event-params) (all-at (modelTests m) 4 event-model) (most-max (E.mostNext m s) most) raised (all-at (H.recordTests e) 1 event-record),
+        lower-kept (m .lower) (E.acts (after .ended) (after .probing) (E.roundNext m after s .lost)) (maxGet (E.maxbwNext m s)) (E.latestRaised (m .latest) s) (e .window) (p .beta) (beta-parts p fit event-params) (all-at (modelTests m) 4 event-model) (most-max (E.maxbwNext m s) most) raised (all-at (H.eventTests e) 1 event-record),
         all-at (modelTests m) 5 event-model,
         all-at (modelTests m) 6 event-model,
         all-at (modelTests m) 7 event-model,
         and-both (maybeOk (s .send)) (maybeOk (s .ack)) (all-at (H.sampleTests s) 1 event-sample) (all-at (H.sampleTests s) 2 event-sample),
         totals,
-        all-at (H.recordTests e) 0 event-record,
+        all-at (H.eventTests e) 0 event-record,
       )
 
 -- ---- the calls that judge the round
-judged : (m : NetworkModel) (p : Params) (e : Record) (full : Bool) → J.judgedNumber m p e full ≡ 0 → (modelOk m ≡ true) × (H.recordOk e ≡ true)
+judged : (m : NetworkModel) (p : Params) (e : CongestionEvent) (full : Bool) → J.judgedNumber m p e full ≡ 0 → (modelOk m ≡ true) × (H.eventOk e ≡ true)
 unfolding J.judgedNumber
 judged m p e full h =
-    (and-left (modelOk m) (paramsOk p) (row-stored (modelOk m && paramsOk p) (not (H.recordOk e)) false false full h), row-argument (not (modelOk m && paramsOk p)) (H.recordOk e) false false full h)
+    (and-left (modelOk m) (paramsOk p) (row-stored (modelOk m && paramsOk p) (not (H.eventOk e)) false false full h), row-argument (not (modelOk m && paramsOk p)) (H.eventOk e) false false full h)
 
-pub finish-kept : (m : NetworkModel) (e : Record) → E.recordNumber m e ≡ 0 → modelOk (E.finishNext m e) ≡ true
-unfolding modelTests E.recordNumber E.finishNext withRound
+pub finish-kept : (m : NetworkModel) (e : CongestionEvent) → E.finishNumber m e ≡ 0 → modelOk (E.finishNext m e) ≡ true
+unfolding modelTests E.finishNumber E.finishNext withRound
 finish-kept m e done = go (e .ended)
   where
     h : modelOk m ≡ true
-    h = row-stored (modelOk m) (not (H.recordOk e)) false false false done
+    h = row-stored (modelOk m) (not (H.eventOk e)) false false false done
 
     go : (t : Bool) → modelOk (cond t (withRound m roundNew) m) ≡ true
     go true = all-put (modelTests m) 2 (roundOk roundNew (m .totals)) h (round-new-ok (m .totals))
     go false = h
 
-pub expire-kept : (m : NetworkModel) (p : Params) (e : Record) → J.judgedNumber m p e false ≡ 0 → modelOk (J.expireNext m p e) ≡ true
-unfolding modelTests H.recordTests J.expireNext withLeast
-expire-kept m p e done = all-put (modelTests m) 1 (leastOk (J.leastExpired (e .rtt) (e .time) (m .least) (p .period))) h (go (e .rtt) (all-at (H.recordTests e) 7 k))
+pub expire-kept : (m : NetworkModel) (p : Params) (e : CongestionEvent) → J.judgedNumber m p e false ≡ 0 → modelOk (J.expireNext m p e) ≡ true
+unfolding modelTests H.eventTests J.expireNext withMinrtt
+expire-kept m p e done = all-put (modelTests m) 1 (minrttOk (J.minrttExpired (e .rtt) (e .time) (m .minrtt) (p .period))) h (go (e .rtt) (all-at (H.eventTests e) 7 k))
   where
     h : modelOk m ≡ true
     h = judged m p e false done .0
 
-    k : H.recordOk e ≡ true
+    k : H.eventOk e ≡ true
     k = judged m p e false done .1
 
-    go : (x : MaybeLength) → H.maybeLengthOk x ≡ true → leastOk (J.leastExpired x (e .time) (m .least) (p .period)) ≡ true
+    go : (x : MaybeLength) → H.maybeLengthOk x ≡ true → minrttOk (J.minrttExpired x (e .time) (m .minrtt) (p .period)) ≡ true
     go Missing l = all-at (modelTests m) 1 h
-    go (Length d) l = arms leastOk (J.isDue (e .time) (m .least) (p .period)) (record { rtt = d; timestamp = e .time }) (m .least) (and-both (lengthOk d) (momentOk (e .time)) l (all-at (H.recordTests e) 0 k)) (all-at (modelTests m) 1 h)
+    go (Length d) l = arms minrttOk (J.isDue (e .time) (m .minrtt) (p .period)) (record { rtt = d; timestamp = e .time }) (m .minrtt) (and-both (lengthOk d) (momentOk (e .time)) l (all-at (H.eventTests e) 0 k)) (all-at (modelTests m) 1 h)
 
-pub growth-kept : (m : NetworkModel) (p : Params) (e : Record) → J.judgedNumber m p e (J.growthFull m p e) ≡ 0 → modelOk (J.growthNext m p e) ≡ true
+pub growth-kept : (m : NetworkModel) (p : Params) (e : CongestionEvent) → J.judgedNumber m p e (J.growthFull m p e) ≡ 0 → modelOk (J.growthNext m p e) ≡ true
 unfolding modelTests J.growthNext withGrowth J.growthAfter J.growthFlat
-growth-kept m p e done = go (J.hasGrown (m .growth) (maxGet (m .most)) p)
+growth-kept m p e done = go (J.hasGrown (m .growth) (maxGet (m .maxbw)) p)
   where
     h : modelOk m ≡ true
     h = judged m p e (J.growthFull m p e) done .0
 
-    go : (t : Bool) → modelOk (withGrowth m (cond t (record { reached = m .growth .reached; baseline = maxGet (m .most); flat = 0; queueing = m .growth .queueing; ignore = m .growth .ignore }) (J.growthFlat (m .growth) (e .state) p))) ≡ true
-    go true = all-put (modelTests m) 7 (bandwidthOk (maxGet (m .most))) h (most-max (m .most) (all-at (modelTests m) 0 h))
+    go : (t : Bool) → modelOk (withGrowth m (cond t (record { reached = m .growth .reached; baseline = maxGet (m .maxbw); flat = 0; queueing = m .growth .queueing; ignore = m .growth .ignore }) (J.growthFlat (m .growth) (e .state) p))) ≡ true
+    go true = all-put (modelTests m) 7 (bandwidthOk (maxGet (m .maxbw))) h (most-max (m .maxbw) (all-at (modelTests m) 0 h))
     go false = h
 
 pub queue-kept : (m : NetworkModel) (p : Params) (gain : Float) → J.queueNumber m p gain ≡ 0 → modelOk (J.queueNext m p gain) ≡ true

@@ -17,7 +17,7 @@ use Rattle.state.specs.Parts.{roundOk}
 use Rattle.state.specs.NetworkModel.{modelTests}
 use Rattle.state.specs.NetworkModel.{modelNew, startNumber, startModel}
 use Rattle.events.specs.Event.{lowerAfter, lowerReduced}
-use Rattle.state.specs.CongestionEvent.{recordTests}
+use Rattle.state.specs.CongestionEvent.{eventTests}
 use Rattle.events.specs.Examples.{eventExamples}
 use Rattle.judge.specs.Judge.{hasGrown, countsFlat, growthFull, judgedNumber}
 use Rattle.phases.specs.Slope.{slopeRaised}
@@ -26,5 +26,5 @@ use Rattle.phases.specs.Examples.{slopeExamples}
 use Rattle.laws.specs.Examples.{markedExamples}
 
 pub marked-examples : all markedExamples ≡ true
-unfolding all markedExamples conversions filterExamples eventExamples slopeExamples growthExamples scaled scaledF64 roundAway timesF32 Ieee.round Ieee.ofBits Ieee.sub Ieee.mul Ieee.ofInt Ieee.toUnsigned Ieee.eq maxGet maxAdvance windowedReset isReplaced raised shifted lingers renewed aged windowedNumber windowedUpdate settled within paramsOk roundOk modelTests rowOf modelNew startNumber startModel lowerAfter lowerReduced recordTests hasGrown countsFlat growthFull judgedNumber slopeRaised Ieee.le
+unfolding all markedExamples conversions filterExamples eventExamples slopeExamples growthExamples scaled scaledF64 roundAway timesF32 Ieee.round Ieee.ofBits Ieee.sub Ieee.mul Ieee.ofInt Ieee.toUnsigned Ieee.eq maxGet maxAdvance windowedReset isReplaced raised shifted lingers renewed aged windowedNumber windowedUpdate settled within paramsOk roundOk modelTests rowOf modelNew startNumber startModel lowerAfter lowerReduced eventTests hasGrown countsFlat growthFull judgedNumber slopeRaised Ieee.le
 marked-examples = refl

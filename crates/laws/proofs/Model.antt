@@ -19,9 +19,9 @@ use Rattle.state.specs.declared.parts.Totals.{Totals}
 use Rattle.state.specs.Bounds.{bytesOk, bytesOrUnsetOk, totalOk, lengthOk, fractionOk, gainOk, bandwidthOk, maybeOk, momentOk}
 use Rattle.state.specs.Params.{betaOk, thresholdOk, paramsOk}
 use Rattle.state.specs.Parts.{roundOk, lowerOk}
-use Rattle.state.specs.NetworkModel.{mostOk, modelTests, modelOk}
+use Rattle.state.specs.NetworkModel.{maxbwOk, modelTests, modelOk}
 use Rattle.state.specs.declared.params.Params.{Params}
-use Rattle.state.specs.NetworkModel.{withMost, withRounds, withRound, withLower, withGrowth, withMoment, withHigh, withGains, withLeast, growthRestarted, modelNew, startNumber, storedNumber, givenNumber, restartNext, capNext, clearInflightNext, clearBandwidthNext, advanceNext}
+use Rattle.state.specs.NetworkModel.{withMaxbw, withRounds, withRound, withLower, withGrowth, withMoment, withHigh, withGains, withMinrtt, growthRestarted, modelNew, startNumber, storedNumber, givenNumber, restartNext, capNext, clearInflightNext, clearBandwidthNext, advanceNext}
 use Rattle.changes.specs.Changes.{sentNumber, sentNext, reachedNext, pacingNext, cwndNext, postponed, postponeNumber, postponeNext}
 use Rattle.state.specs.Parts.{roundNew, roundSent, lowerCapped}
 use Rattle.state.proofs.Rows.{and-left, and-right, and-both, all-at, all-put, row-stored, row-argument}
@@ -48,11 +48,11 @@ lower-capped-ok l cap h k = go (eqb (l .inflight) (2 ^ 64 - 1))
         and-both (maybeOk (l .bandwidth)) (bytesOrUnsetOk (min cap (l .inflight))) (and-left (maybeOk (l .bandwidth)) (bytesOrUnsetOk (l .inflight)) h)
         (min-ok cap (l .inflight) k (and-right (maybeOk (l .bandwidth)) (bytesOrUnsetOk (l .inflight)) h))
 
-pub max-advance-ok : (f : MaxBandwidthFilter) → mostOk f ≡ true → mostOk (maxAdvance f) ≡ true
+pub max-advance-ok : (f : MaxBandwidthFilter) → maxbwOk f ≡ true → maxbwOk (maxAdvance f) ≡ true
 unfolding maxAdvance
 max-advance-ok f h = go (eqb (f .slot1 .0) 0)
   where
-    go : (t : Bool) → mostOk (cond t f (record { slot0 = f .slot1; slot1 = record { 0 = 0 } })) ≡ true
+    go : (t : Bool) → maxbwOk (cond t f (record { slot0 = f .slot1; slot1 = record { 0 = 0 } })) ≡ true
     go true = h
     go false = and-both (bandwidthOk (f .slot1)) true (and-right (bandwidthOk (f .slot0)) (bandwidthOk (f .slot1)) h) refl
 
@@ -88,8 +88,8 @@ clear-bandwidth-kept m h =
     all-put (modelTests m) 4 i h (and-right (maybeOk (m .lower .bandwidth)) i (all-at (modelTests m) 4 h))
 
 pub advance-kept : (m : NetworkModel) → modelOk m ≡ true → modelOk (advanceNext m) ≡ true
-unfolding modelTests advanceNext withMost
-advance-kept m h = all-put (modelTests m) 0 (mostOk (maxAdvance (m .most))) h (max-advance-ok (m .most) (all-at (modelTests m) 0 h))
+unfolding modelTests advanceNext withMaxbw
+advance-kept m h = all-put (modelTests m) 0 (maxbwOk (maxAdvance (m .maxbw))) h (max-advance-ok (m .maxbw) (all-at (modelTests m) 0 h))
 
 -- ---- the start, the send and the setters
 new-kept : (cwnd pacing : Float) (ignore : Bool) (rtt : Duration) (now : Moment) → gainOk cwnd ≡ true → gainOk pacing ≡ true → lengthOk rtt ≡ true → momentOk now ≡ true → modelOk (modelNew cwnd pacing ignore rtt now) ≡ true
@@ -136,15 +136,15 @@ sent-kept m now inflight packet bytes done =
     let r = m .round in
     let was = all-at (modelTests m) 2 h in
     let sums = totalOk (r .lost) && totalOk (r .delivered) in
-    let a = and-left (sums && bytesOrUnsetOk (r .least) && leb (r .lost) (m .totals .lost)) (leb (r .delivered) (m .totals .acked)) was in
-    let b = and-left (sums && bytesOrUnsetOk (r .least)) (leb (r .lost) (m .totals .lost)) a in
-    let least = min-ok (r .least) inflight (and-right sums (bytesOrUnsetOk (r .least)) b) (simp i) in
+    let a = and-left (sums && bytesOrUnsetOk (r .mininflight) && leb (r .lost) (m .totals .lost)) (leb (r .delivered) (m .totals .acked)) was in
+    let b = and-left (sums && bytesOrUnsetOk (r .mininflight)) (leb (r .lost) (m .totals .lost)) a in
+    let least = min-ok (r .mininflight) inflight (and-right sums (bytesOrUnsetOk (r .mininflight)) b) (simp i) in
     let round =
-    and-both (sums && bytesOrUnsetOk (min (r .least) inflight) && leb (r .lost) (m .totals .lost)) (leb (r .delivered) (m .totals .acked))
-    (and-both (sums && bytesOrUnsetOk (min (r .least) inflight)) (leb (r .lost) (m .totals .lost)) (and-both sums (bytesOrUnsetOk (min (r .least) inflight)) (and-left sums (bytesOrUnsetOk (r .least)) b) least)
-    (and-right (sums && bytesOrUnsetOk (r .least)) (leb (r .lost) (m .totals .lost)) a))
-    (and-right (sums && bytesOrUnsetOk (r .least) && leb (r .lost) (m .totals .lost)) (leb (r .delivered) (m .totals .acked)) was) in
-    all-put (set (modelTests m) 2 (sums && bytesOrUnsetOk (min (r .least) inflight) && leb (r .lost) (m .totals .lost) && leb (r .delivered) (m .totals .acked))) 10 (momentOk now) (all-put (modelTests m) 2 (sums && bytesOrUnsetOk (min (r .least) inflight) && leb (r .lost) (m .totals .lost) && leb (r .delivered) (m .totals .acked)) h round) t
+    and-both (sums && bytesOrUnsetOk (min (r .mininflight) inflight) && leb (r .lost) (m .totals .lost)) (leb (r .delivered) (m .totals .acked))
+    (and-both (sums && bytesOrUnsetOk (min (r .mininflight) inflight)) (leb (r .lost) (m .totals .lost)) (and-both sums (bytesOrUnsetOk (min (r .mininflight) inflight)) (and-left sums (bytesOrUnsetOk (r .mininflight)) b) least)
+    (and-right (sums && bytesOrUnsetOk (r .mininflight)) (leb (r .lost) (m .totals .lost)) a))
+    (and-right (sums && bytesOrUnsetOk (r .mininflight) && leb (r .lost) (m .totals .lost)) (leb (r .delivered) (m .totals .acked)) was) in
+    all-put (set (modelTests m) 2 (sums && bytesOrUnsetOk (min (r .mininflight) inflight) && leb (r .lost) (m .totals .lost) && leb (r .delivered) (m .totals .acked))) 10 (momentOk now) (all-put (modelTests m) 2 (sums && bytesOrUnsetOk (min (r .mininflight) inflight) && leb (r .lost) (m .totals .lost) && leb (r .delivered) (m .totals .acked)) h round) t
 
 pub reached-kept : (m : NetworkModel) → modelOk m ≡ true → modelOk (reachedNext m) ≡ true
 unfolding modelTests reachedNext withGrowth
@@ -163,8 +163,8 @@ unfolding modelTests withHigh
 high-kept m n h k = all-put (modelTests m) 5 (bytesOrUnsetOk n) h k
 
 pub postpone-kept : (m : NetworkModel) (d : Duration) → postponeNumber m d ≡ 0 → modelOk (postponeNext m d) ≡ true
-unfolding modelTests postponeNumber postponeNext withLeast
+unfolding modelTests postponeNumber postponeNext withMinrtt
 postpone-kept m d done =
     let h = given-stored m (lengthOk d && momentOk (postponed m d)) done in
     let k = and-right (lengthOk d) (momentOk (postponed m d)) (given-fine m (lengthOk d && momentOk (postponed m d)) done) in
-    all-put (modelTests m) 1 (lengthOk (m .least .rtt) && momentOk (postponed m d)) h (and-both (lengthOk (m .least .rtt)) (momentOk (postponed m d)) (and-left (lengthOk (m .least .rtt)) (momentOk (m .least .timestamp)) (all-at (modelTests m) 1 h)) k)
+    all-put (modelTests m) 1 (lengthOk (m .minrtt .rtt) && momentOk (postponed m d)) h (and-both (lengthOk (m .minrtt .rtt)) (momentOk (postponed m d)) (and-left (lengthOk (m .minrtt .rtt)) (momentOk (m .minrtt .timestamp)) (all-at (modelTests m) 1 h)) k)

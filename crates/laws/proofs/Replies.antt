@@ -10,11 +10,11 @@ use Rattle.filters.specs.RoundTripCounter.{endsRound, roundsFull, roundsNumber,
 use Rattle.filters.specs.WindowedFilter.{isAfter, windowedNumber, windowedUpdate}
 use Rattle.state.specs.Answers.{settled}
 use Rattle.state.specs.declared.refusals.Rows.{Rows}
-use Rattle.state.specs.Refusals.{isMost, rowOf, lowest}
+use Rattle.state.specs.Refusals.{isFullCounter, rowOf, lowest}
 use Rattle.state.specs.NetworkModel.{startNumber, startModel, storedNumber, givenNumber, headroomNumber}
 use Rattle.changes.specs.Changes.{sentNumber, postponeNumber}
 use Rattle.state.proofs.Rows.{None}
-use Rattle.events.specs.Event.{eventNumber, recordNumber}
+use Rattle.events.specs.Event.{eventNumber, finishNumber}
 use Rattle.judge.specs.Judge.{judgedNumber, growthFull, queueNumber}
 use Rattle.state.specs.Cycle.{freshNumber, freshCycle}
 use Rattle.phases.specs.Phases.{entryNumber, exitNumber, slopeNumber}
@@ -130,7 +130,7 @@ changes = record {
 }
 
 events : EveryEvent
-unfolding eventNumber recordNumber judgedNumber growthFull queueNumber
+unfolding eventNumber finishNumber judgedNumber growthFull queueNumber
 events = record {
   starts = λ κ a x s p. answered-both _ (p .0) (p .1 .0) (p .1 .1);
   finish = λ m e κ x s p. answered _ (p .0) (p .1);
@@ -175,7 +175,7 @@ filters = record {
   windowedUpdates = λ f sample time κ x s p. answered _ (p .0) (p .1 ∙ stays (isAfter (f .held) time) _ f);
   roundsAck = λ κ a x s p.
       let ends = endsRound (a .0 .end) (now (a .1 .0)) in
-      let most = isMost (a .0 .count) in
+      let most = isFullCounter (a .0 .count) in
       answered-both _ (p .0) (p .1 .0 ∙ counts ends most _ (a .0)) (p .1 .1 ∙ ended ends most);
 }
 

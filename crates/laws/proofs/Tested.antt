@@ -15,11 +15,11 @@ use Rattle.state.specs.Bounds.{bytesOk, momentOk}
 use Rattle.state.specs.NetworkModel.{modelOk}
 use Rattle.changes.specs.Changes.{sentNumber, sentNext}
 use Rattle.state.proofs.Rows.{row-stored}
-use Rattle.state.specs.declared.congestion_event.Record.{Record}
-use Rattle.state.specs.declared.congestion_event.Sample.{Sample}
-use Rattle.state.specs.CongestionEvent.{recordOk}
+use Rattle.state.specs.declared.congestion_event.CongestionEvent.{CongestionEvent}
+use Rattle.state.specs.declared.congestion_event.CongestionEventSample.{CongestionEventSample}
+use Rattle.state.specs.CongestionEvent.{eventOk}
 use Rattle.events.specs.Event.{eventNumber, modelNext}
-use Rattle.events.specs.Event.{recordNumber, finishNext}
+use Rattle.events.specs.Event.{finishNumber, finishNext}
 use Rattle.laws.proofs.Model.{sent-kept}
 use Rattle.laws.proofs.Events.{event-model, event-model-kept, finish-kept}
 
@@ -36,17 +36,17 @@ sent-model : (m : NetworkModel) (now : Moment) (inflight bytes : ℕ) → sentNu
 unfolding sentNumber
 sent-model m now inflight bytes done = row-stored (modelOk m) (not (momentOk now && bytesOk inflight && bytesOk bytes)) (isBefore now (m .moment)) false false done
 
-finish-model : (m : NetworkModel) (e : Record) → recordNumber m e ≡ 0 → modelOk m ≡ true
-unfolding recordNumber
-finish-model m e done = row-stored (modelOk m) (not (recordOk e)) false false false done
+finish-model : (m : NetworkModel) (e : CongestionEvent) → finishNumber m e ≡ 0 → modelOk m ≡ true
+unfolding finishNumber
+finish-model m e done = row-stored (modelOk m) (not (eventOk e)) false false false done
 
 pub sent-same : (m : NetworkModel) (now : Moment) (inflight packet bytes : ℕ) → modelOk (settled (sentNumber m now inflight bytes) (sentNext m now inflight packet bytes) m) ≡ modelOk m
 sent-same m now inflight packet bytes = settled-same modelOk _ _ m (sent-model m now inflight bytes) (sent-kept m now inflight packet bytes)
 
 pub start-same :
-    (m : NetworkModel) (p : Params) (e : Record) (s : Sample) (acked : List ℕ) → T (fits binary32 (p .beta)) →
+    (m : NetworkModel) (p : Params) (e : CongestionEvent) (s : CongestionEventSample) (acked : List ℕ) → T (fits binary32 (p .beta)) →
     modelOk (settled (eventNumber m p e s acked) (modelNext m p e s acked) m) ≡ modelOk m
 start-same m p e s acked fit = settled-same modelOk _ _ m (event-model m p e s acked) (λ done. event-model-kept m p e s acked done fit)
 
-pub finish-same : (m : NetworkModel) (e : Record) → modelOk (settled (recordNumber m e) (finishNext m e) m) ≡ modelOk m
+pub finish-same : (m : NetworkModel) (e : CongestionEvent) → modelOk (settled (finishNumber m e) (finishNext m e) m) ≡ modelOk m
 finish-same m e = settled-same modelOk _ _ m (finish-model m e) (finish-kept m e)

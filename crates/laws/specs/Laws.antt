@@ -13,14 +13,14 @@ use Rattle.units.specs.declared.reply.Reply.{Reply}
 use Rattle.units.specs.Reply.{number}
 use Rattle.state.specs.declared.network_model.NetworkModel.{NetworkModel}
 use Rattle.state.specs.declared.network_model.Changed.{Changed}
-use Rattle.state.specs.Answers.{noLength, noMoment}
+use Rattle.state.specs.Answers.{zeroLength, zeroMoment}
 use Rattle.state.specs.NetworkModel.{modelOk, modelNew, one}
-use Rattle.state.specs.declared.congestion_event.Record.{Record}
-use Rattle.events.specs.declared.event.Event.{Event}
+use Rattle.state.specs.declared.congestion_event.CongestionEvent.{CongestionEvent}
+use Rattle.events.specs.declared.event.Started.{Started}
 use Rattle.judge.specs.declared.judge.Decided.{Decided}
-use Rattle.state.specs.CongestionEvent.{recordOk}
+use Rattle.state.specs.CongestionEvent.{eventOk}
 use Rattle.state.specs.declared.cycle.Cycle.{Cycle}
-use Rattle.state.specs.declared.cycle.Turned.{Turned}
+use Rattle.state.specs.declared.cycle.CycleChanged.{CycleChanged}
 use Rattle.phases.specs.declared.phases.Entered.{Entered}
 use Rattle.state.specs.Cycle.{cycleOk, cycleNew}
 use Rattle.state.proofs.network_model.NetworkModel as model
@@ -66,10 +66,10 @@ DecidedKeeps ps learnt given = Keeps ps learnt (λ x. x .reply) (λ x. x .model)
 
 -- a model and an event's record
 abbrev pub EventKeeps : {n : ℕ} (ps : List (PK n)) {E : Lfts n → Type 0}
-    → (learnt : (κs : Lfts n) → Dens κs ps → Event → E κs → Type 0)
-    → (given : (κs : Lfts n) → Dens κs ps → NetworkModel × Record)
+    → (learnt : (κs : Lfts n) → Dens κs ps → Started → E κs → Type 0)
+    → (given : (κs : Lfts n) → Dens κs ps → NetworkModel × CongestionEvent)
     → Type 0
-EventKeeps ps learnt given = Keeps ps learnt (λ x. x .reply) (λ x. (x .model, x .record)) given (both modelOk recordOk)
+EventKeeps ps learnt given = Keeps ps learnt (λ x. x .reply) (λ x. (x .model, x .event)) given (both modelOk eventOk)
 
 -- a model and a cycle
 abbrev pub PhaseKeeps : {n : ℕ} (ps : List (PK n)) {E : Lfts n → Type 0}
@@ -80,7 +80,7 @@ PhaseKeeps ps learnt given = Keeps ps learnt (λ x. x .reply) (λ x. (x .model, 
 
 -- a cycle
 abbrev pub CycleKeeps : {n : ℕ} (ps : List (PK n)) {E : Lfts n → Type 0}
-    → (learnt : (κs : Lfts n) → Dens κs ps → Turned → E κs → Type 0)
+    → (learnt : (κs : Lfts n) → Dens κs ps → CycleChanged → E κs → Type 0)
     → (given : (κs : Lfts n) → Dens κs ps → Cycle)
     → Type 0
 CycleKeeps ps learnt given = Keeps ps learnt (λ x. x .reply) (λ x. x .cycle) given cycleOk
@@ -90,7 +90,7 @@ pub record EveryCall : Type 0 where
   -- a refused start leaves document 01's fresh model
   pub start :
       ModelKeeps model.new.Kinds.ps model.new.Reads.Learnt
-      (λ κs a. modelNew one one false noLength noMoment)
+      (λ κs a. modelNew one one false zeroLength zeroMoment)
   pub sent :
       ModelKeeps changes.on_packet_sent.Kinds.ps changes.on_packet_sent.Reads.Learnt
       (λ κs a. a .0)
@@ -157,7 +157,7 @@ pub record EveryCall : Type 0 where
   -- a refused fresh cycle is one at moment 0
   pub fresh :
       CycleKeeps cycle.new.Kinds.ps cycle.new.Reads.Learnt
-      (λ κs a. cycleNew noMoment)
+      (λ κs a. cycleNew zeroMoment)
   pub slope :
       CycleKeeps phases.raise_inflight_high_slope.Kinds.ps phases.raise_inflight_high_slope.Reads.Learnt
       (λ κs a. a .0)

@@ -30,17 +30,17 @@ use Rattle.filters.specs.RoundTripCounter.{endsRound, roundsAcked, roundsEnded}
 use Rattle.filters.specs.WindowedFilter.{isAfter, windowedUpdate}
 use Rattle.state.specs.declared.network_model.NetworkModel.{NetworkModel}
 use Rattle.state.specs.declared.params.Params.{Params}
-use Rattle.state.specs.Answers.{noBandwidth, noLength, noMoment, noGain}
+use Rattle.state.specs.Answers.{zeroBandwidth, zeroLength, zeroMoment, zeroGain}
 use Rattle.state.specs.declared.refusals.Rows.{Rows}
-use Rattle.state.specs.Refusals.{noRows, earlier, full, isMost}
+use Rattle.state.specs.Refusals.{noRows, earlier, full, isFullCounter}
 use Rattle.state.specs.Params.{paramsOk}
 use Rattle.state.specs.Bounds.{bytesOk, bytesOrUnsetOk, bandwidthOk, lengthOk, momentOk, gainOk}
 use Rattle.state.specs.NetworkModel.{startRows, storedRows, givenRows, judgedRows, one, modelNew, restartNext, withHigh, capNext, clearInflightNext, clearBandwidthNext, advanceNext, bdpOf}
 use Rattle.changes.specs.Changes.{sentRows, sentNext, reachedNext, pacingNext, cwndNext, postponed, postponeNext}
 use Rattle.reads.specs.Reads.{estimateOf, headroomOf}
-use Rattle.state.specs.declared.congestion_event.Record.{Record}
-use Rattle.state.specs.CongestionEvent.{recordOk}
-use Rattle.events.specs.Event.{eventRows, modelNext, recordNext, finishNext}
+use Rattle.state.specs.declared.congestion_event.CongestionEvent.{CongestionEvent}
+use Rattle.state.specs.CongestionEvent.{eventOk}
+use Rattle.events.specs.Event.{eventRows, modelNext, eventNext, finishNext}
 use Rattle.judge.specs.Judge.{isExpired, expireNext, isTooHigh, hasGrown, growthRows, growthNext, queueRows, queueNext}
 use Rattle.state.specs.declared.cycle.Cycle.{Cycle}
 use Rattle.state.specs.Cycle.{roundsOk, freshRows, cycleNew}
@@ -100,36 +100,36 @@ pub record EveryAnswer : Type 0 where
       (λ x. Answered (x .reply) (givenRows m (bandwidthOk b)) (x .value) (bdpOf m b one) 0)
   pub bdp0 : (m : NetworkModel) →
       Every reads.bdp0.Reads.Learnt (λ κ. (m, tt))
-      (λ x. Answered (x .reply) (storedRows m) (x .value) (bdpOf m (maxGet (m .most)) one) 0)
+      (λ x. Answered (x .reply) (storedRows m) (x .value) (bdpOf m (maxGet (m .maxbw)) one) 0)
   pub inflightHiWithHeadroom : (m : NetworkModel) (p : Params) →
       Every reads.inflight_hi_with_headroom.Reads.Learnt (λ κ. (m, (p, tt)))
       (λ x. Answered (x .reply) (judgedRows m p true false) (x .value) (headroomOf (m .high) (p .headroom)) 0)
-  pub isInflightTooHigh : (m : NetworkModel) (p : Params) (e : Record) (limit : ℕ) →
+  pub isInflightTooHigh : (m : NetworkModel) (p : Params) (e : CongestionEvent) (limit : ℕ) →
       Every judge.is_inflight_too_high.Reads.Learnt (λ κ. (m, (p, (e, (limit, tt)))))
-      (λ x. Answered (x .reply) (judgedRows m p (recordOk e) false) (x .yes)
+      (λ x. Answered (x .reply) (judgedRows m p (eventOk e) false) (x .yes)
       (isTooHigh (m .round) (e .state) limit (p .loss)) false)
   pub bandwidthEstimate : (m : NetworkModel) →
       Every reads.bandwidth_estimate.Reads.Learnt (λ κ. (m, tt))
       (λ x. Answered (x .reply) (storedRows m) (x .bandwidth)
-      (estimateOf (m .lower .bandwidth) (maxGet (m .most))) noBandwidth)
+      (estimateOf (m .lower .bandwidth) (maxGet (m .maxbw))) zeroBandwidth)
   pub maxBandwidth : (m : NetworkModel) →
       Every reads.max_bandwidth.Reads.Learnt (λ κ. (m, tt))
-      (λ x. Answered (x .reply) (storedRows m) (x .bandwidth) (maxGet (m .most)) noBandwidth)
+      (λ x. Answered (x .reply) (storedRows m) (x .bandwidth) (maxGet (m .maxbw)) zeroBandwidth)
   pub minRtt : (m : NetworkModel) →
       Every reads.min_rtt.Reads.Learnt (λ κ. (m, tt))
-      (λ x. Answered (x .reply) (storedRows m) (x .length) (m .least .rtt) noLength)
+      (λ x. Answered (x .reply) (storedRows m) (x .length) (m .minrtt .rtt) zeroLength)
   pub minRttTimestamp : (m : NetworkModel) →
       Every reads.min_rtt_timestamp.Reads.Learnt (λ κ. (m, tt))
-      (λ x. Answered (x .reply) (storedRows m) (x .moment) (m .least .timestamp) noMoment)
+      (λ x. Answered (x .reply) (storedRows m) (x .moment) (m .minrtt .timestamp) zeroMoment)
   pub fullBandwidthReached : (m : NetworkModel) →
       Every reads.full_bandwidth_reached.Reads.Learnt (λ κ. (m, tt))
       (λ x. Answered (x .reply) (storedRows m) (x .yes) (m .growth .reached) false)
   pub pacingGain : (m : NetworkModel) →
       Every reads.pacing_gain.Reads.Learnt (λ κ. (m, tt))
-      (λ x. Answered (x .reply) (storedRows m) (x .gain) (m .gains .pacing) noGain)
+      (λ x. Answered (x .reply) (storedRows m) (x .gain) (m .gains .pacing) zeroGain)
   pub cwndGain : (m : NetworkModel) →
       Every reads.cwnd_gain.Reads.Learnt (λ κ. (m, tt))
-      (λ x. Answered (x .reply) (storedRows m) (x .gain) (m .gains .cwnd) noGain)
+      (λ x. Answered (x .reply) (storedRows m) (x .gain) (m .gains .cwnd) zeroGain)
   pub maxBytesDeliveredInRound : (m : NetworkModel) →
       Every reads.max_bytes_delivered_in_round.Reads.Learnt (λ κ. (m, tt))
       (λ x. Answered (x .reply) (storedRows m) (x .value) (m .round .delivered) 0)
@@ -165,7 +165,7 @@ pub record EveryChange : Type 0 where
   pub start : (p : Params) (rtt : Duration) (t : Moment) →
       Every model.new.Reads.Learnt (λ κ. (p, (rtt, (t, tt))))
       (λ x. Answered (x .reply) (startRows p rtt t) (x .model)
-      (modelNew (p .cwnd) (p .pacing) (p .ignore) rtt t) (modelNew one one false noLength noMoment))
+      (modelNew (p .cwnd) (p .pacing) (p .ignore) rtt t) (modelNew one one false zeroLength zeroMoment))
   pub sent : (m : NetworkModel) (t : Moment) (inflight packet bytes : ℕ) →
       Every changes.on_packet_sent.Reads.Learnt (λ κ. (m, (t, (inflight, (packet, (bytes, tt))))))
       (λ x. Answered (x .reply) (sentRows m t inflight bytes) (x .model) (sentNext m t inflight packet bytes) m)
@@ -212,19 +212,19 @@ pub record EveryEvent : Type 0 where
       let e = a .1 .1 .0 in
       let y = a .1 .1 .1 .0 in
       let acked = now (a .1 .1 .1 .1 .0) in
-      Answered {A = NetworkModel × Record} (x .reply) (eventRows m p e y acked) (x .model, x .record)
-      (modelNext m p e y acked, recordNext m e y acked) (m, e))
-  pub finish : (m : NetworkModel) (e : Record) →
+      Answered {A = NetworkModel × CongestionEvent} (x .reply) (eventRows m p e y acked) (x .model, x .event)
+      (modelNext m p e y acked, eventNext m e y acked) (m, e))
+  pub finish : (m : NetworkModel) (e : CongestionEvent) →
       Every event.on_congestion_event_finish.Reads.Learnt (λ κ. (m, (e, tt)))
-      (λ x. Answered (x .reply) (givenRows m (recordOk e)) (x .model) (finishNext m e) m)
-  pub expire : (m : NetworkModel) (p : Params) (e : Record) →
+      (λ x. Answered (x .reply) (givenRows m (eventOk e)) (x .model) (finishNext m e) m)
+  pub expire : (m : NetworkModel) (p : Params) (e : CongestionEvent) →
       Every judge.maybe_expire_min_rtt.Reads.Learnt (λ κ. (m, (p, (e, tt))))
-      (λ x. Answered {A = NetworkModel × Bool} (x .reply) (judgedRows m p (recordOk e) false) (x .model, x .yes)
-      (expireNext m p e, isExpired (e .rtt) (e .time) (m .least) (p .period)) (m, false))
-  pub growth : (m : NetworkModel) (p : Params) (e : Record) →
+      (λ x. Answered {A = NetworkModel × Bool} (x .reply) (judgedRows m p (eventOk e) false) (x .model, x .yes)
+      (expireNext m p e, isExpired (e .rtt) (e .time) (m .minrtt) (p .period)) (m, false))
+  pub growth : (m : NetworkModel) (p : Params) (e : CongestionEvent) →
       Every judge.has_bandwidth_growth.Reads.Learnt (λ κ. (m, (p, (e, tt))))
       (λ x. Answered {A = NetworkModel × Bool} (x .reply) (growthRows m p e) (x .model, x .yes)
-      (growthNext m p e, hasGrown (m .growth) (maxGet (m .most)) p) (m, false))
+      (growthNext m p e, hasGrown (m .growth) (maxGet (m .maxbw)) p) (m, false))
   pub queue : (m : NetworkModel) (p : Params) (gain : Float) →
       Every judge.check_persistent_queue.Reads.Learnt (λ κ. (m, (p, (gain, tt))))
       (λ x. Answered (x .reply) (queueRows m p gain) (x .model) (queueNext m p gain) m)
@@ -235,7 +235,7 @@ pub record EveryPhase : Type 0 where
   pub fresh : (t : Moment) →
       Every cycle.new.Reads.Learnt (λ κ. (t, tt))
       (λ x. Answered (x .reply) (freshRows t) (x .cycle)
-      (cycleNew t) (cycleNew noMoment))
+      (cycleNew t) (cycleNew zeroMoment))
   pub down : (m : NetworkModel) (c : Cycle) (p : Params) (high risky : Bool) (t : Moment) →
       Every phases.enter_probe_down.Reads.Learnt (λ κ. (m, (c, (p, (high, (risky, (t, tt)))))))
       (λ x. Answered {A = NetworkModel × Cycle} (x .reply) (entryRows m c (paramsOk p) true t) (x .model, x .cycle)
@@ -273,7 +273,7 @@ pub record EveryFilter : Type 0 where
       let c = a .0 in
       let acked = now (a .1 .0) in
       Answered {A = RoundTripCounter × Bool} (x .reply)
-      (full (endsRound (c .end) acked && isMost (c .count)) noRows)
+      (full (endsRound (c .end) acked && isFullCounter (c .count)) noRows)
       (x .counter, x .ended) (roundsAcked c acked, roundsEnded c acked) (c, false))
 
 -- ---- every public call

@@ -7,8 +7,8 @@ use Rattle.layout.proofs.maybe as maybe
 use Rattle.layout.proofs.network_model as network-model
 use Rattle.layout.proofs.state_words as state-words
 
-pub one-cycle-cycle-of : OneReply cycle.cycle_of.Reads.Learnt
-one-cycle-cycle-of κ a x y s t p q = p ∙ sym q
+pub one-cycle-cycle-from : OneReply cycle.cycle_from.Reads.Learnt
+one-cycle-cycle-from κ a x y s t p q = p ∙ sym q
 
 pub one-form-is-state : OneReply form.is_state.Reads.Learnt
 one-form-is-state κ a x y s t p q = p ∙ sym q
@@ -25,8 +25,8 @@ one-maybe-bandwidth-of κ a x y s t p q = p ∙ sym q
 pub one-maybe-bandwidth-maybe : OneReply maybe.bandwidth_maybe.Reads.Learnt
 one-maybe-bandwidth-maybe κ a x y s t p q = p ∙ sym q
 
-pub one-network-model-model-of : OneReply network-model.model_of.Reads.Learnt
-one-network-model-model-of κ a x y s t p q = p ∙ sym q
+pub one-network-model-model-from : OneReply network-model.model_from.Reads.Learnt
+one-network-model-model-from κ a x y s t p q = p ∙ sym q
 
 pub one-state-words-state-words : OneReply state-words.state_words.Reads.Learnt
 one-state-words-state-words κ a x y s t p q = p ∙ sym q

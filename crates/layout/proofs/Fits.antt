@@ -17,16 +17,16 @@ use Rattle.state.specs.declared.cycle.MaybeLength.the-variants.{NoLength, Lengt
 use Rattle.layout.specs.declared.maybe.Maybe.{Maybe}
 use Rattle.words.specs.Word.{word, flagWord, flagOf, flagFits, floatWord, floatOf}
 use Rattle.layout.specs.Maybe.{unset, held, isUnset, numberIn, bandwidthMaybe, bandwidthOf}
-use Rattle.layout.specs.NetworkModel.{modelOf, modelWords, endMaybe, endOf}
-use Rattle.layout.specs.Cycle.{cycleOf, cycleWords, phaseWord, phaseOf, waitLengthMaybe, waitLengthOf, upBytesMaybe, upBytesOf}
+use Rattle.layout.specs.NetworkModel.{modelFrom, modelWords, endMaybe, endOf}
+use Rattle.layout.specs.Cycle.{cycleFrom, cycleWords, phaseWord, phaseOf, waitLengthMaybe, waitLengthOf, upBytesMaybe, upBytesOf}
 use Rattle.layout.specs.Form.{pairFits, floatFits, phaseFits, earlyFits, lateFits, cycleFits}
 use Rattle.layout.specs.StateWords.{sameWords, isState}
 
 same : (n : ℕ) → eqb n n ≡ true
 same n = eq-eqb n n refl
 
-turned : (a b : ℕ) → eqb a b ≡ eqb b a
-turned a b = go (eqb b a) refl
+eqb-swap : (a b : ℕ) → eqb a b ≡ eqb b a
+eqb-swap a b = go (eqb b a) refl
   where
     go : (t : Bool) → eqb b a ≡ t → eqb a b ≡ t
     go true h = eq-eqb a b (sym (eqb-true b a h))
@@ -57,7 +57,7 @@ narrow w h = go (leb (w % 0x8000_0000) 0x7f80_0000) refl
     go true e =
         let plain : T (not (isNan (ofBits binary32 w))) = rw (← nanBits-is binary32 w) (plain-bits binary32 w (leb-true _ _ e)) in
         eq-eqb _ w (toBits-ofBits binary32 w (omega arith) plain)
-    go false e = ap (λ (x : Float). eqb (toBits binary32 x) w) (nan-bits binary32 w (leb-false _ _ e)) ∙ turned 0x7fc0_0000 w
+    go false e = ap (λ (x : Float). eqb (toBits binary32 x) w) (nan-bits binary32 w (leb-false _ _ e)) ∙ eqb-swap 0x7fc0_0000 w
 
 -- a pattern, or more
 float : (w : ℕ) → eqb (floatWord (floatOf w)) w ≡ floatFits w
@@ -80,10 +80,10 @@ unfolding pairFits
 pair m a b t e = go (isUnset a b) (eqb a 1) refl refl
   where
     go : (u s : Bool) → isUnset a b ≡ u → eqb a 1 ≡ s → (eqb (m .set) a && (eqb (m .number) b && t)) ≡ ((s || u) && t)
-    go true true h k = rw (e, h, turned 0 a, and-left (eqb a 0) (eqb b 0) h, turned 0 b, and-right (eqb a 0) (eqb b 0) h)
-    go true false h k = rw (e, h, turned 0 a, and-left (eqb a 0) (eqb b 0) h, turned 0 b, and-right (eqb a 0) (eqb b 0) h)
-    go false true h k = rw (e, h, turned 1 a, k, same b)
-    go false false h k = rw (e, h, turned 1 a, k)
+    go true true h k = rw (e, h, eqb-swap 0 a, and-left (eqb a 0) (eqb b 0) h, eqb-swap 0 b, and-right (eqb a 0) (eqb b 0) h)
+    go true false h k = rw (e, h, eqb-swap 0 a, and-left (eqb a 0) (eqb b 0) h, eqb-swap 0 b, and-right (eqb a 0) (eqb b 0) h)
+    go false true h k = rw (e, h, eqb-swap 1 a, k, same b)
+    go false false h k = rw (e, h, eqb-swap 1 a, k)
 
 end-pair : (a b : ℕ) (t : Bool) → (eqb (endMaybe (endOf a b) .set) a && (eqb (endMaybe (endOf a b) .number) b && t)) ≡ (pairFits a b && t)
 end-pair a b t = pair (endMaybe (endOf a b)) a b t (cond-out endMaybe (isUnset a b) NotSet (At (numberIn a b)))
@@ -99,5 +99,5 @@ up-pair a b t = pair (upBytesMaybe (upBytesOf a b)) a b t (cond-out upBytesMaybe
 
 -- ---- all of them
 pub form : (w : List ℕ) → isState w ≡ (earlyFits w && lateFits w && cycleFits w)
-unfolding isState sameWords modelOf modelWords cycleOf cycleWords earlyFits lateFits cycleFits
+unfolding isState sameWords modelFrom modelWords cycleFrom cycleWords earlyFits lateFits cycleFits
 form w = simp (same, flag, float, phase, end-pair, rate-pair, wait-pair, up-pair, and-assoc, and-true)

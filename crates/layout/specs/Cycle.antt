@@ -52,10 +52,10 @@ abbrev pub waitOf : List ℕ → Wait
 waitOf l = record { start = record { 0 = word l 35 }; rounds = word l 38; length = waitLengthOf (word l 39) (word l 40) }
 
 abbrev pub slopeOf : List ℕ → Slope
-slopeOf l = record { rounds = word l 41; bytes = upBytesOf (word l 42) (word l 43); acked = word l 44; limited = flagOf (word l 45) }
+slopeOf l = record { rounds = word l 41; bytes = upBytesOf (word l 42) (word l 43); acked = word l 44; applimited = flagOf (word l 45) }
 
-unfoldable pub cycleOf : List ℕ → Cycle
-cycleOf l =
+unfoldable pub cycleFrom : List ℕ → Cycle
+cycleFrom l =
     record {
       stay = stayOf l;
       wait = waitOf l;
@@ -70,7 +70,7 @@ abbrev pub timesWords : Stay → Wait → List ℕ
 timesWords s w = phaseWord (s .phase) ∷ w .start .0 ∷ s .entered .0 ∷ s .rounds ∷ w .rounds ∷ maybeWords (waitLengthMaybe (w .length))
 
 abbrev pub slopeWords : Slope → List ℕ
-slopeWords s = s .rounds ∷ maybeWords (upBytesMaybe (s .bytes)) ++ s .acked ∷ flagWord (s .limited) ∷ []
+slopeWords s = s .rounds ∷ maybeWords (upBytesMaybe (s .bytes)) ++ s .acked ∷ flagWord (s .applimited) ∷ []
 
 abbrev pub marksWords : Bool → Bool → Last → List ℕ
 marksWords advanced probing last = flagWord advanced ∷ flagWord probing ∷ flagWord (last .high) ∷ flagWord (last .risky) ∷ []

@@ -31,7 +31,7 @@ abbrev pub roundsOf : List ℕ → RoundTripCounter
 roundsOf l = record { count = word l 0; sent = word l 1; end = endOf (word l 2) (word l 3) }
 
 abbrev pub roundOf : List ℕ → Round
-roundOf l = record { lost = word l 8; losses = word l 9; delivered = word l 10; least = word l 11; limited = flagOf (word l 12) }
+roundOf l = record { lost = word l 8; losses = word l 9; delivered = word l 10; mininflight = word l 11; hilimited = flagOf (word l 12) }
 
 abbrev pub lowerOf : List ℕ → Lower
 lowerOf l = record { bandwidth = bandwidthOf (word l 15) (word l 16); inflight = word l 17 }
@@ -45,18 +45,18 @@ growthOf l = record { reached = flagOf (word l 22); baseline = record { 0 = word
 abbrev pub ratesOf : List ℕ → Rates
 ratesOf l = record { send = bandwidthOf (word l 27) (word l 28); ack = bandwidthOf (word l 29) (word l 30) }
 
-unfoldable pub modelOf : List ℕ → NetworkModel
-modelOf l =
+unfoldable pub modelFrom : List ℕ → NetworkModel
+modelFrom l =
     record {
       rounds = roundsOf l;
-      most = record { slot0 = record { 0 = word l 4 }; slot1 = record { 0 = word l 5 } };
-      least = record { rtt = record { 0 = word l 6 }; timestamp = record { 0 = word l 7 } };
+      maxbw = record { slot0 = record { 0 = word l 4 }; slot1 = record { 0 = word l 5 } };
+      minrtt = record { rtt = record { 0 = word l 6 }; timestamp = record { 0 = word l 7 } };
       round = roundOf l;
       latest = record { bandwidth = record { 0 = word l 13 }; inflight = word l 14 };
       lower = lowerOf l;
       high = word l 18;
       gains = gainsOf l;
-      limited = flagOf (word l 21);
+      cwndlimited = flagOf (word l 21);
       growth = growthOf l;
       rates = ratesOf l;
       totals = record { acked = word l 31; lost = word l 32 };
@@ -67,14 +67,14 @@ modelOf l =
 abbrev pub roundsWords : RoundTripCounter → List ℕ
 roundsWords r = r .count ∷ r .sent ∷ maybeWords (endMaybe (r .end))
 
-abbrev pub mostWords : MaxBandwidthFilter → List ℕ
-mostWords f = f .slot0 .0 ∷ f .slot1 .0 ∷ []
+abbrev pub maxbwWords : MaxBandwidthFilter → List ℕ
+maxbwWords f = f .slot0 .0 ∷ f .slot1 .0 ∷ []
 
-abbrev pub leastWords : MinRttFilter → List ℕ
-leastWords f = f .rtt .0 ∷ f .timestamp .0 ∷ []
+abbrev pub minrttWords : MinRttFilter → List ℕ
+minrttWords f = f .rtt .0 ∷ f .timestamp .0 ∷ []
 
 abbrev pub roundWords : Round → List ℕ
-roundWords r = r .lost ∷ r .losses ∷ r .delivered ∷ r .least ∷ flagWord (r .limited) ∷ []
+roundWords r = r .lost ∷ r .losses ∷ r .delivered ∷ r .mininflight ∷ flagWord (r .hilimited) ∷ []
 
 abbrev pub latestWords : Latest → List ℕ
 latestWords l = l .bandwidth .0 ∷ l .inflight ∷ []
@@ -97,13 +97,13 @@ totalsWords t = t .acked ∷ t .lost ∷ []
 unfoldable pub modelWords : NetworkModel → List ℕ
 modelWords m =
     roundsWords (m .rounds)
-    ++ mostWords (m .most)
-    ++ leastWords (m .least)
+    ++ maxbwWords (m .maxbw)
+    ++ minrttWords (m .minrtt)
     ++ roundWords (m .round)
     ++ latestWords (m .latest)
     ++ lowerWords (m .lower)
     ++ m .high ∷ gainsWords (m .gains)
-    ++ flagWord (m .limited) ∷ growthWords (m .growth)
+    ++ flagWord (m .cwndlimited) ∷ growthWords (m .growth)
     ++ ratesWords (m .rates)
     ++ totalsWords (m .totals)
     ++ m .moment .0 ∷ []

@@ -6,8 +6,8 @@ use lib.Dec.{eqb}
 use lib.ListN.{getD}
 use Rattle.state.specs.declared.network_model.NetworkModel.{NetworkModel}
 use Rattle.state.specs.declared.cycle.Cycle.{Cycle}
-use Rattle.layout.specs.NetworkModel.{modelOf, modelWords}
-use Rattle.layout.specs.Cycle.{cycleOf, cycleWords}
+use Rattle.layout.specs.NetworkModel.{modelFrom, modelWords}
+use Rattle.layout.specs.Cycle.{cycleFrom, cycleWords}
 
 -- the words of a model and a cycle
 abbrev pub stateWords : NetworkModel → Cycle → List ℕ
@@ -20,4 +20,4 @@ sameWords a b at (suc n) = eqb (getD a at 0) (getD b at 0) && sameWords a b (at 
 
 -- words encode a state where what is read from them is written as they are
 unfoldable pub isState : List ℕ → Bool
-isState w = sameWords (stateWords (modelOf w) (cycleOf w)) w 0 50
+isState w = sameWords (stateWords (modelFrom w) (cycleFrom w)) w 0 50

@@ -2,7 +2,7 @@
 ghost use mathlib.Core.Path.{_≡_};
 ghost use mathlib.Core.List.{[], _∷_};
 ghost use lib.Seq.{sets};
-ghost use Rattle.layout.specs.Cycle.{phaseOf, phaseWord, waitLengthOf, waitLengthMaybe, upBytesOf, upBytesMaybe, stayOf, waitOf, slopeOf, cycleOf, timesWords, slopeWords, marksWords, cycleWords};
+ghost use Rattle.layout.specs.Cycle.{phaseOf, phaseWord, waitLengthOf, waitLengthMaybe, upBytesOf, upBytesMaybe, stayOf, waitOf, slopeOf, cycleFrom, timesWords, slopeWords, marksWords, cycleWords};
 use crate::maybe::Maybe;
 use crate::maybe::is_unset;
 use crate::maybe::number_in;
@@ -21,8 +21,8 @@ use words::word::flag_word;
 // ---- from words
 
 // The cycle in the state's words.
-pub fn cycle_of(n: &[u64; 50]) -> Cycle
-    ensures { λ r. ⌜ r ≡ cycleOf (now (n .entry)) ⌝ }
+pub fn cycle_from(n: &[u64; 50]) -> Cycle
+    ensures { λ r. ⌜ r ≡ cycleFrom (now (n .entry)) ⌝ }
 {
     Cycle {
         stay: stay_of(n),
@@ -86,7 +86,7 @@ fn slope_of(n: &[u64; 50]) -> Slope
         rounds: n[41],
         bytes: up_bytes_of(n[42], n[43]),
         acked: n[44],
-        limited: n[45] == 1,
+        applimited: n[45] == 1,
     }
 }
 
@@ -165,7 +165,7 @@ fn with_slope(n: [u64; 50], slope: Slope) -> [u64; 50]
     next[42] = held.set;
     next[43] = held.number;
     next[44] = slope.acked;
-    next[45] = flag_word(slope.limited);
+    next[45] = flag_word(slope.applimited);
     next
 }
 

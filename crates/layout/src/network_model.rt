@@ -3,7 +3,7 @@ ghost use mathlib.Core.Path.{_≡_};
 ghost use mathlib.Core.List.{[], _∷_, _++_};
 ghost use lib.Seq.{sets};
 ghost use Rattle.words.specs.Word.{flagWord};
-ghost use Rattle.layout.specs.NetworkModel.{endOf, endMaybe, roundsOf, roundOf, lowerOf, gainsOf, growthOf, ratesOf, modelOf, roundsWords, mostWords, leastWords, roundWords, latestWords, lowerWords, gainsWords, growthWords, ratesWords, totalsWords, modelWords};
+ghost use Rattle.layout.specs.NetworkModel.{endOf, endMaybe, roundsOf, roundOf, lowerOf, gainsOf, growthOf, ratesOf, modelFrom, roundsWords, maxbwWords, minrttWords, roundWords, latestWords, lowerWords, gainsWords, growthWords, ratesWords, totalsWords, modelWords};
 use crate::maybe::Maybe;
 use crate::maybe::bandwidth_maybe;
 use crate::maybe::bandwidth_of;
@@ -31,16 +31,16 @@ use words::word::float_word;
 // ---- from words
 
 // The model in the state's words.
-pub fn model_of(n: &[u64; 50]) -> NetworkModel
-    ensures { λ r. ⌜ r ≡ modelOf (now (n .entry)) ⌝ }
+pub fn model_from(n: &[u64; 50]) -> NetworkModel
+    ensures { λ r. ⌜ r ≡ modelFrom (now (n .entry)) ⌝ }
 {
     NetworkModel {
         rounds: rounds_of(n),
-        most: MaxBandwidthFilter {
+        maxbw: MaxBandwidthFilter {
             slot0: Bandwidth(n[4]),
             slot1: Bandwidth(n[5]),
         },
-        least: MinRttFilter {
+        minrtt: MinRttFilter {
             rtt: Duration(n[6]),
             timestamp: Moment(n[7]),
         },
@@ -52,7 +52,7 @@ pub fn model_of(n: &[u64; 50]) -> NetworkModel
         lower: lower_of(n),
         high: n[18],
         gains: gains_of(n),
-        limited: n[21] == 1,
+        cwndlimited: n[21] == 1,
         growth: growth_of(n),
         rates: rates_of(n),
         totals: Totals {
@@ -90,8 +90,8 @@ fn round_of(n: &[u64; 50]) -> Round
         lost: n[8],
         losses: n[9],
         delivered: n[10],
-        least: n[11],
-        limited: n[12] == 1,
+        mininflight: n[11],
+        hilimited: n[12] == 1,
     }
 }
 
@@ -141,8 +141,8 @@ pub(crate) fn with_model(n: [u64; 50], model: NetworkModel) -> [u64; 50]
     ensures { λ r. ⌜ r ≡ sets n 0 (modelWords model) ⌝ }
 {
     let rounds = model.rounds;
-    let most = model.most;
-    let least = model.least;
+    let most = model.maxbw;
+    let least = model.minrtt;
     let round = model.round;
     let latest = model.latest;
     let lower = model.lower;
@@ -153,7 +153,7 @@ pub(crate) fn with_model(n: [u64; 50], model: NetworkModel) -> [u64; 50]
     let moment = model.moment;
     let filtered = with_filters(with_rounds(n, rounds), most, least);
     let bounded = with_bounds(with_round(filtered, round), latest, lower, model.high);
-    let grown = with_growth(with_gains(bounded, gains, model.limited), growth);
+    let grown = with_growth(with_gains(bounded, gains, model.cwndlimited), growth);
     with_totals(with_rates(grown, rates), totals, moment)
 }
 
@@ -180,7 +180,7 @@ fn end_maybe(end: RoundEnd) -> Maybe
 }
 
 fn with_filters(n: [u64; 50], most: MaxBandwidthFilter, least: MinRttFilter) -> [u64; 50]
-    ensures { λ r. ⌜ r ≡ sets n 4 (mostWords most ++ leastWords least) ⌝ }
+    ensures { λ r. ⌜ r ≡ sets n 4 (maxbwWords most ++ minrttWords least) ⌝ }
 {
     let mut next = n;
     next[4] = most.slot0.0;
@@ -197,8 +197,8 @@ fn with_round(n: [u64; 50], round: Round) -> [u64; 50]
     next[8] = round.lost;
     next[9] = round.losses;
     next[10] = round.delivered;
-    next[11] = round.least;
-    next[12] = flag_word(round.limited);
+    next[11] = round.mininflight;
+    next[12] = flag_word(round.hilimited);
     next
 }
 

@@ -6,7 +6,7 @@ use Rattle.state.specs.declared.network_model.NetworkModel.{NetworkModel}
 use Rattle.phases.specs.declared.phases.Entered.{Entered}
 use Rattle.units.specs.declared.reply.Reply.{Reply}
 use Rattle.state.specs.declared.cycle.Cycle.{Cycle}
-use Rattle.state.proofs.Determined.{turned}
+use Rattle.state.proofs.Determined.{cyclechanged}
 use Rattle.phases.proofs.phases as phases
 use Rattle.phases.proofs.slope as slope
 
@@ -19,7 +19,7 @@ pub one-phases-exit-probe-down : OneReply phases.exit_probe_down.Reads.Learnt
 one-phases-exit-probe-down κ a x y s t p q = entered (number-injective _ _ (p .0 ∙ sym (q .0))) (p .1 .0 ∙ sym (q .1 .0)) (p .1 .1 ∙ sym (q .1 .1))
 
 pub one-phases-raise-inflight-high-slope : OneReply phases.raise_inflight_high_slope.Reads.Learnt
-one-phases-raise-inflight-high-slope κ a x y s t p q = turned (number-injective _ _ (p .0 ∙ sym (q .0))) (p .1 ∙ sym (q .1))
+one-phases-raise-inflight-high-slope κ a x y s t p q = cyclechanged (number-injective _ _ (p .0 ∙ sym (q .0))) (p .1 ∙ sym (q .1))
 
 pub one-phases-enter-probe-down : OneReply phases.enter_probe_down.Reads.Learnt
 one-phases-enter-probe-down κ a x y s t p q = entered (number-injective _ _ (p .0 ∙ sym (q .0))) (p .1 .0 ∙ sym (q .1 .0)) (p .1 .1 ∙ sym (q .1 .1))

@@ -14,7 +14,7 @@ bytesAre (Bytes b) n = eqb b n
 
 -- the slope that follows the rounds given, with the window 26,000
 abbrev pub raisedFrom : ℕ → Slope
-raisedFrom rounds = slopeRaised (record { rounds = rounds; bytes = NoBytes; acked = 0; limited = false }) 26_000
+raisedFrom rounds = slopeRaised (record { rounds = rounds; bytes = NoBytes; acked = 0; applimited = false }) 26_000
 
 abbrev pub gives : Slope → ℕ → ℕ → Bool
 gives s bytes rounds = bytesAre (s .bytes) bytes && eqb (s .rounds) rounds

@@ -100,7 +100,7 @@ downCycle c p high risky now =
     record {
       stay = stayFrom Down now;
       wait = record { start = now; rounds = 0; length = Length (record { 0 = p .base .0 + 500_000 }) };
-      slope = record { rounds = c .slope .rounds; bytes = NoBytes; acked = c .slope .acked; limited = false };
+      slope = record { rounds = c .slope .rounds; bytes = NoBytes; acked = c .slope .acked; applimited = false };
       advanced = false;
       probing = c .probing;
       last = record { high = high; risky = risky };
@@ -144,7 +144,7 @@ refilled c rounds =
     record {
       stay = c .stay;
       wait = c .wait;
-      slope = record { rounds = rounds; bytes = c .slope .bytes; acked = 0; limited = c .slope .limited };
+      slope = record { rounds = rounds; bytes = c .slope .bytes; acked = 0; applimited = c .slope .applimited };
       advanced = c .advanced;
       probing = c .probing;
       last = record { high = c .last .high; risky = false };

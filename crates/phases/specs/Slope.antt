@@ -16,5 +16,5 @@ slopeRaised s window =
       rounds = nextRounds (s .rounds);
       bytes = Bytes (upBytes window (s .rounds));
       acked = s .acked;
-      limited = s .limited;
+      applimited = s .applimited;
     }

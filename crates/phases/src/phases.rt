@@ -13,12 +13,12 @@ use state::NetworkModel;
 use state::Params;
 use state::bounds::bytes_ok;
 use state::bounds::moment_ok;
+use state::cycle::CycleChanged;
 use state::cycle::Last;
 use state::cycle::MaybeBytes;
 use state::cycle::MaybeLength;
 use state::cycle::Slope;
 use state::cycle::Stay;
-use state::cycle::Turned;
 use state::cycle::Wait;
 use state::refusals::Rows;
 use state::refusals::refusal;
@@ -62,17 +62,17 @@ fn settle(
     model: NetworkModel,
     cycle: Cycle,
     next: NetworkModel,
-    turned: Cycle,
+    after: Cycle,
 ) -> Entered
     ensures reply { λ r. ⌜ r .reply ≡ reply ⌝ }
     ensures model { λ r. ⌜ r .model ≡ settled (number reply) next model ⌝ }
-    ensures cycle { λ r. ⌜ r .cycle ≡ settled (number reply) turned cycle ⌝ }
+    ensures cycle { λ r. ⌜ r .cycle ≡ settled (number reply) after cycle ⌝ }
 {
     if reply.is_done() {
         Entered {
             reply,
             model: next,
-            cycle: turned,
+            cycle: after,
         }
     } else {
         Entered {
@@ -84,7 +84,7 @@ fn settle(
 }
 
 // The model, with the moment as the last accepted one.
-fn accepted(model: NetworkModel, now: Moment) -> NetworkModel
+fn with_moment(model: NetworkModel, now: Moment) -> NetworkModel
     ensures { λ r. ⌜ r ≡ withMoment model now ⌝ }
 {
     let mut next = model;
@@ -93,10 +93,10 @@ fn accepted(model: NetworkModel, now: Moment) -> NetworkModel
 }
 
 // The model whose round begins anew, at the moment accepted.
-fn restarted(model: NetworkModel, now: Moment) -> NetworkModel
+fn restarted_at(model: NetworkModel, now: Moment) -> NetworkModel
     ensures { λ r. ⌜ r ≡ restartedAt model now ⌝ }
 {
-    accepted(model.restarted(), now)
+    with_moment(model.restart_next(), now)
 }
 
 // The cycle in a phase that begins now.
@@ -143,7 +143,7 @@ fn exit_model(model: NetworkModel, cycle: Cycle) -> NetworkModel
     if cycle.advanced {
         model
     } else {
-        model.advanced()
+        model.advance_next()
     }
 }
 
@@ -199,18 +199,18 @@ fn left_cycle(cycle: Cycle) -> Cycle
 // ---- raise_inflight_high_slope
 
 // probe_up_bytes for the next round, by the window.
-pub fn raise_inflight_high_slope(cycle: Cycle, window: u64) -> Turned
+pub fn raise_inflight_high_slope(cycle: Cycle, window: u64) -> CycleChanged
     ensures reply { λ r. ⌜ number (r .reply) ≡ slopeNumber cycle window ⌝ }
     ensures cycle { λ r. ⌜ r .cycle ≡ settled (slopeNumber cycle window) (slopeCycle cycle window) cycle ⌝ }
 {
     let reply = slope_reply(cycle, window);
     if reply.is_done() {
-        Turned {
+        CycleChanged {
             reply,
             cycle: slope_cycle(cycle, window),
         }
     } else {
-        Turned { reply, cycle }
+        CycleChanged { reply, cycle }
     }
 }
 
@@ -255,7 +255,7 @@ pub fn enter_probe_down(
     if reply.is_done() {
         Entered {
             reply,
-            model: restarted(model, now),
+            model: restarted_at(model, now),
             cycle: down_cycle(cycle, params, high, risky, now),
         }
     } else {
@@ -290,7 +290,7 @@ fn down_cycle(cycle: Cycle, params: Params, high: bool, risky: bool, now: Moment
             rounds: cycle.slope.rounds,
             bytes: MaybeBytes::NoBytes,
             acked: cycle.slope.acked,
-            limited: false,
+            applimited: false,
         },
         advanced: false,
         probing: cycle.probing,
@@ -319,13 +319,13 @@ pub fn enter_probe_cruise(model: NetworkModel, cycle: Cycle, now: Moment) -> Ent
 fn capped_by_high(model: NetworkModel) -> NetworkModel
     ensures { λ r. ⌜ r ≡ cappedByHigh model ⌝ }
 {
-    model.capped(model.high)
+    model.cap_next(model.high)
 }
 
 fn cruise_model(model: NetworkModel, cycle: Cycle, now: Moment) -> NetworkModel
     ensures { λ r. ⌜ r ≡ cruiseModel model cycle now ⌝ }
 {
-    accepted(capped_by_high(left_model(model, cycle)), now)
+    with_moment(capped_by_high(left_model(model, cycle)), now)
 }
 
 fn cruise_cycle(cycle: Cycle, now: Moment) -> Cycle
@@ -360,9 +360,9 @@ fn refill_model(model: NetworkModel, cycle: Cycle, now: Moment) -> NetworkModel
     ensures { λ r. ⌜ r ≡ refillModel model cycle now ⌝ }
 {
     let left = left_model(model, cycle);
-    let unbounded = left.bandwidth_cleared();
-    let cleared = unbounded.inflight_cleared();
-    restarted(cleared, now)
+    let unbounded = left.clear_bandwidth_next();
+    let cleared = unbounded.clear_inflight_next();
+    restarted_at(cleared, now)
 }
 
 fn refilled(cycle: Cycle, rounds: u64) -> Cycle
@@ -401,7 +401,7 @@ pub fn enter_probe_up(model: NetworkModel, cycle: Cycle, now: Moment, window: u6
         reply,
         model,
         cycle,
-        restarted(model, now),
+        restarted_at(model, now),
         up_cycle(cycle, now, window),
     )
 }

@@ -40,6 +40,6 @@ pub fn slope_raised(slope: Slope, window: u64) -> Slope
         rounds: next_rounds(slope.rounds),
         bytes: MaybeBytes::Bytes(bytes),
         acked: slope.acked,
-        limited: slope.limited,
+        applimited: slope.applimited,
     }
 }

@@ -4,7 +4,7 @@ ghost use mathlib.Core.Bool.{_&&_, false};
 ghost use Prim.Native.Nat.{_*_, _-_, _^_};
 ghost use Rattle.units.specs.Reply.{number};
 ghost use Rattle.filters.specs.MaxBandwidthFilter.{maxGet};
-ghost use Rattle.state.specs.Answers.{settled, noBandwidth, noLength, noMoment, noGain};
+ghost use Rattle.state.specs.Answers.{settled, zeroBandwidth, zeroLength, zeroMoment, zeroGain};
 ghost use Rattle.state.specs.Bounds.{bandwidthOk, gainOk};
 ghost use Rattle.state.specs.NetworkModel.{one, storedNumber, givenNumber, bdpOf, headroomNumber};
 ghost use Rattle.reads.specs.Reads.{estimateOf, headroomOf};
@@ -22,7 +22,7 @@ use state::bounds::gain_ok;
 use state::parts::MaybeBandwidth;
 use units::Bandwidth;
 
-fn estimate(lo: MaybeBandwidth, most: Bandwidth) -> Bandwidth
+fn estimate_of(lo: MaybeBandwidth, most: Bandwidth) -> Bandwidth
     ensures { λ r. ⌜ r ≡ estimateOf lo most ⌝ }
 {
     let MaybeBandwidth::Set(bandwidth) = lo else {
@@ -40,7 +40,7 @@ pub fn bdp(model: NetworkModel, bandwidth: Bandwidth, gain: f32) -> Number
 {
     Number::of(
         model.given(bandwidth_ok(bandwidth) & gain_ok(gain)),
-        model.product(bandwidth, gain),
+        model.bdp_of(bandwidth, gain),
     )
 }
 
@@ -53,17 +53,17 @@ pub fn bdp1(model: NetworkModel, bandwidth: Bandwidth) -> Number
 {
     Number::of(
         model.given(bandwidth_ok(bandwidth)),
-        model.product(bandwidth, 1.0),
+        model.bdp_of(bandwidth, 1.0),
     )
 }
 
 // The same of the maximum bandwidth.
 pub fn bdp0(model: NetworkModel) -> Number
     ensures reply { λ r. ⌜ number (r .reply) ≡ storedNumber model ⌝ }
-    ensures value { λ r. ⌜ r .value ≡ settled (storedNumber model) (bdpOf model (maxGet (model .most)) one) 0 ⌝ }
+    ensures value { λ r. ⌜ r .value ≡ settled (storedNumber model) (bdpOf model (maxGet (model .maxbw)) one) 0 ⌝ }
 {
-    let most = model.most;
-    Number::of(model.stored(), model.product(most.get(), 1.0))
+    let most = model.maxbw;
+    Number::of(model.stored(), model.bdp_of(most.get(), 1.0))
 }
 
 // inflight_hi less the headroom that the parameters ask for.
@@ -83,36 +83,36 @@ pub fn inflight_hi_with_headroom(model: NetworkModel, params: Params) -> Number
 pub fn bandwidth_estimate(model: NetworkModel) -> BandwidthRead
     ensures reply { λ r. ⌜ number (r .reply) ≡ storedNumber model ⌝ }
     ensures bandwidth { λ r. ⌜ r .bandwidth ≡ settled (storedNumber model)
-        (estimateOf (model .lower .bandwidth) (maxGet (model .most)))
-        noBandwidth ⌝ }
+        (estimateOf (model .lower .bandwidth) (maxGet (model .maxbw)))
+        zeroBandwidth ⌝ }
 {
-    let most = model.most;
+    let most = model.maxbw;
     let lower = model.lower;
     let lo = lower.bandwidth;
-    BandwidthRead::of(model.stored(), estimate(lo, most.get()))
+    BandwidthRead::of(model.stored(), estimate_of(lo, most.get()))
 }
 
 pub fn max_bandwidth(model: NetworkModel) -> BandwidthRead
     ensures reply { λ r. ⌜ number (r .reply) ≡ storedNumber model ⌝ }
-    ensures bandwidth { λ r. ⌜ r .bandwidth ≡ settled (storedNumber model) (maxGet (model .most)) noBandwidth ⌝ }
+    ensures bandwidth { λ r. ⌜ r .bandwidth ≡ settled (storedNumber model) (maxGet (model .maxbw)) zeroBandwidth ⌝ }
 {
-    let most = model.most;
+    let most = model.maxbw;
     BandwidthRead::of(model.stored(), most.get())
 }
 
 pub fn min_rtt(model: NetworkModel) -> LengthRead
     ensures reply { λ r. ⌜ number (r .reply) ≡ storedNumber model ⌝ }
-    ensures length { λ r. ⌜ r .length ≡ settled (storedNumber model) (model .least .rtt) noLength ⌝ }
+    ensures length { λ r. ⌜ r .length ≡ settled (storedNumber model) (model .minrtt .rtt) zeroLength ⌝ }
 {
-    let least = model.least;
+    let least = model.minrtt;
     LengthRead::of(model.stored(), least.rtt)
 }
 
 pub fn min_rtt_timestamp(model: NetworkModel) -> MomentRead
     ensures reply { λ r. ⌜ number (r .reply) ≡ storedNumber model ⌝ }
-    ensures moment { λ r. ⌜ r .moment ≡ settled (storedNumber model) (model .least .timestamp) noMoment ⌝ }
+    ensures moment { λ r. ⌜ r .moment ≡ settled (storedNumber model) (model .minrtt .timestamp) zeroMoment ⌝ }
 {
-    let least = model.least;
+    let least = model.minrtt;
     MomentRead::of(model.stored(), least.timestamp)
 }
 
@@ -125,14 +125,14 @@ pub fn full_bandwidth_reached(model: NetworkModel) -> Flag
 
 pub fn pacing_gain(model: NetworkModel) -> GainRead
     ensures reply { λ r. ⌜ number (r .reply) ≡ storedNumber model ⌝ }
-    ensures gain { λ r. ⌜ r .gain ≡ settled (storedNumber model) (model .gains .pacing) noGain ⌝ }
+    ensures gain { λ r. ⌜ r .gain ≡ settled (storedNumber model) (model .gains .pacing) zeroGain ⌝ }
 {
     GainRead::of(model.stored(), model.gains.pacing)
 }
 
 pub fn cwnd_gain(model: NetworkModel) -> GainRead
     ensures reply { λ r. ⌜ number (r .reply) ≡ storedNumber model ⌝ }
-    ensures gain { λ r. ⌜ r .gain ≡ settled (storedNumber model) (model .gains .cwnd) noGain ⌝ }
+    ensures gain { λ r. ⌜ r .gain ≡ settled (storedNumber model) (model .gains .cwnd) zeroGain ⌝ }
 {
     GainRead::of(model.stored(), model.gains.cwnd)
 }

@@ -10,10 +10,10 @@ use events::on_congestion_event_start;
 use reads::inflight_lo;
 use state::NetworkModel;
 use state::Params;
+use state::congestion_event::CongestionEvent;
+use state::congestion_event::CongestionEventSample;
 use state::congestion_event::MaybeLength;
-use state::congestion_event::Record;
-use state::congestion_event::Sample;
-use state::congestion_event::SendState;
+use state::congestion_event::SendTimeState;
 use state::network_model::Changed;
 use state::parts::MaybeBandwidth;
 use state::parts::Totals;
@@ -40,18 +40,18 @@ fn params() -> Params {
     }
 }
 
-fn no_state() -> SendState {
-    SendState {
+fn no_state() -> SendTimeState {
+    SendTimeState {
         valid: false,
-        limited: false,
+        applimited: false,
         acked: 0,
         inflight: 0,
     }
 }
 
 // What is known of an event before it is told to the model: its moment and the window.
-fn event_at(time: Moment) -> Record {
-    Record {
+fn event_at(time: Moment) -> CongestionEvent {
+    CongestionEvent {
         time,
         window: WINDOW,
         prior: WINDOW,
@@ -67,12 +67,12 @@ fn event_at(time: Moment) -> Record {
 }
 
 // A sampler's answer that knows no more than what was lost.
-fn lost_by(lost: u64) -> Sample {
-    Sample {
+fn lost_by(lost: u64) -> CongestionEventSample {
+    CongestionEventSample {
         bandwidth: MaybeBandwidth::Unset,
         send: MaybeBandwidth::Unset,
         ack: MaybeBandwidth::Unset,
-        limited: false,
+        applimited: false,
         rtt: MaybeLength::Missing,
         inflight: 0,
         extra: 0,
@@ -90,7 +90,7 @@ fn lossy_event(model: NetworkModel, time: Moment, packet: u64, lost: u64) -> Cha
     if !reply.is_done() {
         return Changed { reply, model: next };
     }
-    let record = event.record;
+    let record = event.event;
     on_congestion_event_finish(next, record)
 }
 

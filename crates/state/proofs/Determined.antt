@@ -6,7 +6,7 @@ use Rattle.state.specs.declared.network_model.NetworkModel.{NetworkModel
 use Rattle.units.specs.declared.reply.Reply.{Reply}
 use Rattle.state.specs.declared.network_model.Changed.{Changed}
 use Rattle.state.specs.declared.cycle.Cycle.{Cycle}
-use Rattle.state.specs.declared.cycle.Turned.{Turned}
+use Rattle.state.specs.declared.cycle.CycleChanged.{CycleChanged}
 use Rattle.state.specs.declared.answers.Number.{Number}
 use Prim.Native.Nat.{ℕ}
 use Rattle.state.specs.declared.answers.Flag.{Flag}
@@ -26,8 +26,8 @@ use Rattle.state.proofs.answers.BandwidthRead as answers-bandwidthread
 use Rattle.state.proofs.answers.LengthRead as answers-lengthread
 use Rattle.state.proofs.answers.MomentRead as answers-momentread
 use Rattle.state.proofs.bounds as bounds
-use Rattle.state.proofs.congestion_event.Record as congestion-event-record
-use Rattle.state.proofs.congestion_event.Sample as congestion-event-sample
+use Rattle.state.proofs.congestion_event.CongestionEvent as congestion-event-record
+use Rattle.state.proofs.congestion_event.CongestionEventSample as congestion-event-sample
 use Rattle.state.proofs.cycle.Stay as cycle-stay
 use Rattle.state.proofs.cycle.Cycle as cycle-cycle
 use Rattle.state.proofs.network_model.NetworkModel as network-model-networkmodel
@@ -41,10 +41,10 @@ pub changed :
     _≡_ {A = Changed} (record { reply = a; model = b }) (record { reply = a′; model = b′ })
 changed p q = cc
 
-pub turned :
+pub cyclechanged :
     {a a′ : Reply} {b b′ : Cycle} → a ≡ a′ → b ≡ b′ →
-    _≡_ {A = Turned} (record { reply = a; cycle = b }) (record { reply = a′; cycle = b′ })
-turned p q = cc
+    _≡_ {A = CycleChanged} (record { reply = a; cycle = b }) (record { reply = a′; cycle = b′ })
+cyclechanged p q = cc
 
 pub number :
     {a a′ : Reply} {b b′ : ℕ} → a ≡ a′ → b ≡ b′ →
@@ -131,7 +131,7 @@ pub one-cycle-stay-from : OneReply cycle-stay.from.Reads.Learnt
 one-cycle-stay-from κ a x y s t p q = p ∙ sym q
 
 pub one-cycle-cycle-new : OneReply cycle-cycle.new.Reads.Learnt
-one-cycle-cycle-new κ a x y s t p q = turned (number-injective _ _ (p .0 ∙ sym (q .0))) (p .1 ∙ sym (q .1))
+one-cycle-cycle-new κ a x y s t p q = cyclechanged (number-injective _ _ (p .0 ∙ sym (q .0))) (p .1 ∙ sym (q .1))
 
 pub one-cycle-cycle-ok : OneReply cycle-cycle.ok.Reads.Learnt
 one-cycle-cycle-ok κ a x y s t p q = p ∙ sym q
@@ -154,23 +154,23 @@ one-network-model-networkmodel-given κ a x y s t p q = number-injective _ _ (p 
 pub one-network-model-networkmodel-settle : OneReply network-model-networkmodel.settle.Reads.Learnt
 one-network-model-networkmodel-settle κ a x y s t p q = changed (p .0 ∙ sym (q .0)) (p .1 ∙ sym (q .1))
 
-pub one-network-model-networkmodel-restarted : OneReply network-model-networkmodel.restarted.Reads.Learnt
-one-network-model-networkmodel-restarted κ a x y s t p q = p ∙ sym q
+pub one-network-model-networkmodel-restart-next : OneReply network-model-networkmodel.restart_next.Reads.Learnt
+one-network-model-networkmodel-restart-next κ a x y s t p q = p ∙ sym q
 
-pub one-network-model-networkmodel-capped : OneReply network-model-networkmodel.capped.Reads.Learnt
-one-network-model-networkmodel-capped κ a x y s t p q = p ∙ sym q
+pub one-network-model-networkmodel-cap-next : OneReply network-model-networkmodel.cap_next.Reads.Learnt
+one-network-model-networkmodel-cap-next κ a x y s t p q = p ∙ sym q
 
-pub one-network-model-networkmodel-inflight-cleared : OneReply network-model-networkmodel.inflight_cleared.Reads.Learnt
-one-network-model-networkmodel-inflight-cleared κ a x y s t p q = p ∙ sym q
+pub one-network-model-networkmodel-clear-inflight-next : OneReply network-model-networkmodel.clear_inflight_next.Reads.Learnt
+one-network-model-networkmodel-clear-inflight-next κ a x y s t p q = p ∙ sym q
 
-pub one-network-model-networkmodel-bandwidth-cleared : OneReply network-model-networkmodel.bandwidth_cleared.Reads.Learnt
-one-network-model-networkmodel-bandwidth-cleared κ a x y s t p q = p ∙ sym q
+pub one-network-model-networkmodel-clear-bandwidth-next : OneReply network-model-networkmodel.clear_bandwidth_next.Reads.Learnt
+one-network-model-networkmodel-clear-bandwidth-next κ a x y s t p q = p ∙ sym q
 
-pub one-network-model-networkmodel-advanced : OneReply network-model-networkmodel.advanced.Reads.Learnt
-one-network-model-networkmodel-advanced κ a x y s t p q = p ∙ sym q
+pub one-network-model-networkmodel-advance-next : OneReply network-model-networkmodel.advance_next.Reads.Learnt
+one-network-model-networkmodel-advance-next κ a x y s t p q = p ∙ sym q
 
-pub one-network-model-networkmodel-product : OneReply network-model-networkmodel.product.Reads.Learnt
-one-network-model-networkmodel-product κ a x y s t p q = p ∙ sym q
+pub one-network-model-networkmodel-bdp-of : OneReply network-model-networkmodel.bdp_of.Reads.Learnt
+one-network-model-networkmodel-bdp-of κ a x y s t p q = p ∙ sym q
 
 pub one-params-params-ok : OneReply params-params.ok.Reads.Learnt
 one-params-params-ok κ a x y s t p q = p ∙ sym q

@@ -11,14 +11,14 @@ use Rattle.units.specs.declared.time.Moment.{Moment}
 unfoldable pub settled : {A : Type 0} → ℕ → A → A → A
 settled n next old = cond (eqb n 0) next old
 
-abbrev pub noBandwidth : Bandwidth
-noBandwidth = record { 0 = 0 }
+abbrev pub zeroBandwidth : Bandwidth
+zeroBandwidth = record { 0 = 0 }
 
-abbrev pub noLength : Duration
-noLength = record { 0 = 0 }
+abbrev pub zeroLength : Duration
+zeroLength = record { 0 = 0 }
 
-abbrev pub noMoment : Moment
-noMoment = record { 0 = 0 }
+abbrev pub zeroMoment : Moment
+zeroMoment = record { 0 = 0 }
 
-abbrev pub noGain : Float
-noGain = ofBits binary32 0
+abbrev pub zeroGain : Float
+zeroGain = ofBits binary32 0

@@ -6,19 +6,19 @@ use Rattle.state.specs.Bounds.{all, bytesOk, totalOk, momentOk, lengthOk
 use Rattle.state.specs.Parts.{totalsOk}
 use Rattle.state.specs.declared.congestion_event.MaybeLength.{MaybeLength}
 use Rattle.state.specs.declared.congestion_event.MaybeLength.the-variants.{Missing, Length}
-use Rattle.state.specs.declared.congestion_event.Record.{Record}
-use Rattle.state.specs.declared.congestion_event.Sample.{Sample}
-use Rattle.state.specs.declared.congestion_event.SendState.{SendState}
+use Rattle.state.specs.declared.congestion_event.CongestionEvent.{CongestionEvent}
+use Rattle.state.specs.declared.congestion_event.CongestionEventSample.{CongestionEventSample}
+use Rattle.state.specs.declared.congestion_event.SendTimeState.{SendTimeState}
 
 abbrev pub maybeLengthOk : MaybeLength → Bool
 maybeLengthOk Missing = true
 maybeLengthOk (Length d) = lengthOk d
 
-abbrev pub stateOk : SendState → Bool
+abbrev pub stateOk : SendTimeState → Bool
 stateOk t = totalOk (t .acked) && bytesOk (t .inflight)
 
-unfoldable pub recordTests : Record → List Bool
-recordTests e =
+unfoldable pub eventTests : CongestionEvent → List Bool
+eventTests e =
     momentOk (e .time)
     ∷ bytesOk (e .window)
     ∷ bytesOk (e .prior)
@@ -30,10 +30,10 @@ recordTests e =
     ∷ stateOk (e .state)
     ∷ []
 
-abbrev pub recordOk : Record → Bool
-recordOk e = all (recordTests e)
+abbrev pub eventOk : CongestionEvent → Bool
+eventOk e = all (eventTests e)
 
-unfoldable pub sampleTests : Sample → List Bool
+unfoldable pub sampleTests : CongestionEventSample → List Bool
 sampleTests s =
     maybeOk (s .bandwidth)
     ∷ maybeOk (s .send)
@@ -45,5 +45,5 @@ sampleTests s =
     ∷ totalsOk (s .totals)
     ∷ []
 
-abbrev pub sampleOk : Sample → Bool
+abbrev pub sampleOk : CongestionEventSample → Bool
 sampleOk s = all (sampleTests s)

@@ -4,7 +4,7 @@ use mathlib.Core.Bool.{Bool, true, false, not}
 use mathlib.Core.List.{List, [], _∷_}
 use lib.Dec.{leb}
 use Rattle.units.specs.declared.time.Moment.{Moment}
-use Rattle.state.specs.Answers.{settled, noMoment}
+use Rattle.state.specs.Answers.{settled, zeroMoment}
 use Rattle.state.specs.Bounds.{all, bytesOk, momentOk}
 use Rattle.state.specs.Refusals.{noRows, argument, lowest}
 use Rattle.state.specs.declared.cycle.Cycle.{Cycle}
@@ -57,7 +57,7 @@ cycleNew now =
     record {
       stay = stayFrom NotStarted now;
       wait = record { start = now; rounds = 0; length = NoLength };
-      slope = record { rounds = 0; bytes = NoBytes; acked = 0; limited = false };
+      slope = record { rounds = 0; bytes = NoBytes; acked = 0; applimited = false };
       advanced = false;
       probing = false;
       last = record { high = false; risky = false };
@@ -71,4 +71,4 @@ unfoldable pub freshNumber : Moment → ℕ
 freshNumber now = lowest (freshRows now)
 
 unfoldable pub freshCycle : Moment → Cycle
-freshCycle now = settled (freshNumber now) (cycleNew now) (cycleNew noMoment)
+freshCycle now = settled (freshNumber now) (cycleNew now) (cycleNew zeroMoment)

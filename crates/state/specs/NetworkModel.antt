@@ -27,19 +27,19 @@ use Rattle.units.specs.Bandwidth.{timesF32, bytesPerPeriod}
 use Rattle.filters.specs.MaxBandwidthFilter.{maxNew, maxAdvance}
 use Rattle.filters.specs.MinRttFilter.{minForce}
 use Rattle.filters.specs.RoundTripCounter.{roundsNew, roundsRestart}
-use Rattle.state.specs.Answers.{settled, noLength, noMoment}
+use Rattle.state.specs.Answers.{settled, zeroLength, zeroMoment}
 
 -- ---- the bounds, part by part. "Counters and packet numbers are free"
-abbrev pub mostOk : MaxBandwidthFilter → Bool
-mostOk f = bandwidthOk (f .slot0) && bandwidthOk (f .slot1)
+abbrev pub maxbwOk : MaxBandwidthFilter → Bool
+maxbwOk f = bandwidthOk (f .slot0) && bandwidthOk (f .slot1)
 
-abbrev pub leastOk : MinRttFilter → Bool
-leastOk f = lengthOk (f .rtt) && momentOk (f .timestamp)
+abbrev pub minrttOk : MinRttFilter → Bool
+minrttOk f = lengthOk (f .rtt) && momentOk (f .timestamp)
 
 unfoldable pub modelTests : NetworkModel → List Bool
 modelTests m =
-    mostOk (m .most)
-    ∷ leastOk (m .least)
+    maxbwOk (m .maxbw)
+    ∷ minrttOk (m .minrtt)
     ∷ roundOk (m .round) (m .totals)
     ∷ latestOk (m .latest)
     ∷ lowerOk (m .lower)
@@ -59,50 +59,50 @@ unfoldable pub withRounds : NetworkModel → RoundTripCounter → NetworkModel
 withRounds m x =
     record {
       rounds = x;
-      most = m .most;
-      least = m .least;
+      maxbw = m .maxbw;
+      minrtt = m .minrtt;
       round = m .round;
       latest = m .latest;
       lower = m .lower;
       high = m .high;
       gains = m .gains;
-      limited = m .limited;
+      cwndlimited = m .cwndlimited;
       growth = m .growth;
       rates = m .rates;
       totals = m .totals;
       moment = m .moment;
     }
 
-unfoldable pub withMost : NetworkModel → MaxBandwidthFilter → NetworkModel
-withMost m x =
+unfoldable pub withMaxbw : NetworkModel → MaxBandwidthFilter → NetworkModel
+withMaxbw m x =
     record {
       rounds = m .rounds;
-      most = x;
-      least = m .least;
+      maxbw = x;
+      minrtt = m .minrtt;
       round = m .round;
       latest = m .latest;
       lower = m .lower;
       high = m .high;
       gains = m .gains;
-      limited = m .limited;
+      cwndlimited = m .cwndlimited;
       growth = m .growth;
       rates = m .rates;
       totals = m .totals;
       moment = m .moment;
     }
 
-unfoldable pub withLeast : NetworkModel → MinRttFilter → NetworkModel
-withLeast m x =
+unfoldable pub withMinrtt : NetworkModel → MinRttFilter → NetworkModel
+withMinrtt m x =
     record {
       rounds = m .rounds;
-      most = m .most;
-      least = x;
+      maxbw = m .maxbw;
+      minrtt = x;
       round = m .round;
       latest = m .latest;
       lower = m .lower;
       high = m .high;
       gains = m .gains;
-      limited = m .limited;
+      cwndlimited = m .cwndlimited;
       growth = m .growth;
       rates = m .rates;
       totals = m .totals;
@@ -113,14 +113,14 @@ unfoldable pub withRound : NetworkModel → Round → NetworkModel
 withRound m x =
     record {
       rounds = m .rounds;
-      most = m .most;
-      least = m .least;
+      maxbw = m .maxbw;
+      minrtt = m .minrtt;
       round = x;
       latest = m .latest;
       lower = m .lower;
       high = m .high;
       gains = m .gains;
-      limited = m .limited;
+      cwndlimited = m .cwndlimited;
       growth = m .growth;
       rates = m .rates;
       totals = m .totals;
@@ -131,14 +131,14 @@ unfoldable pub withLower : NetworkModel → Lower → NetworkModel
 withLower m x =
     record {
       rounds = m .rounds;
-      most = m .most;
-      least = m .least;
+      maxbw = m .maxbw;
+      minrtt = m .minrtt;
       round = m .round;
       latest = m .latest;
       lower = x;
       high = m .high;
       gains = m .gains;
-      limited = m .limited;
+      cwndlimited = m .cwndlimited;
       growth = m .growth;
       rates = m .rates;
       totals = m .totals;
@@ -149,14 +149,14 @@ unfoldable pub withHigh : NetworkModel → ℕ → NetworkModel
 withHigh m x =
     record {
       rounds = m .rounds;
-      most = m .most;
-      least = m .least;
+      maxbw = m .maxbw;
+      minrtt = m .minrtt;
       round = m .round;
       latest = m .latest;
       lower = m .lower;
       high = x;
       gains = m .gains;
-      limited = m .limited;
+      cwndlimited = m .cwndlimited;
       growth = m .growth;
       rates = m .rates;
       totals = m .totals;
@@ -167,14 +167,14 @@ unfoldable pub withGains : NetworkModel → Gains → NetworkModel
 withGains m x =
     record {
       rounds = m .rounds;
-      most = m .most;
-      least = m .least;
+      maxbw = m .maxbw;
+      minrtt = m .minrtt;
       round = m .round;
       latest = m .latest;
       lower = m .lower;
       high = m .high;
       gains = x;
-      limited = m .limited;
+      cwndlimited = m .cwndlimited;
       growth = m .growth;
       rates = m .rates;
       totals = m .totals;
@@ -185,14 +185,14 @@ unfoldable pub withGrowth : NetworkModel → Growth → NetworkModel
 withGrowth m x =
     record {
       rounds = m .rounds;
-      most = m .most;
-      least = m .least;
+      maxbw = m .maxbw;
+      minrtt = m .minrtt;
       round = m .round;
       latest = m .latest;
       lower = m .lower;
       high = m .high;
       gains = m .gains;
-      limited = m .limited;
+      cwndlimited = m .cwndlimited;
       growth = x;
       rates = m .rates;
       totals = m .totals;
@@ -203,14 +203,14 @@ unfoldable pub withMoment : NetworkModel → Moment → NetworkModel
 withMoment m x =
     record {
       rounds = m .rounds;
-      most = m .most;
-      least = m .least;
+      maxbw = m .maxbw;
+      minrtt = m .minrtt;
       round = m .round;
       latest = m .latest;
       lower = m .lower;
       high = m .high;
       gains = m .gains;
-      limited = m .limited;
+      cwndlimited = m .cwndlimited;
       growth = m .growth;
       rates = m .rates;
       totals = m .totals;
@@ -222,14 +222,14 @@ unfoldable pub modelNew : Float → Float → Bool → Duration → Moment → N
 modelNew cwnd pacing ignore rtt now =
     record {
       rounds = roundsNew;
-      most = maxNew;
-      least = minForce rtt now;
+      maxbw = maxNew;
+      minrtt = minForce rtt now;
       round = roundNew;
       latest = record { bandwidth = record { 0 = 0 }; inflight = 0 };
       lower = record { bandwidth = Unset; inflight = 2 ^ 64 - 1 };
       high = 2 ^ 64 - 1;
       gains = record { cwnd = cwnd; pacing = pacing };
-      limited = false;
+      cwndlimited = false;
       growth = record { reached = false; baseline = record { 0 = 0 }; flat = 0; queueing = 0; ignore = ignore };
       rates = record { send = Unset; ack = Unset };
       totals = record { acked = 0; lost = 0 };
@@ -250,7 +250,7 @@ unfoldable pub startModel : Params → Duration → Moment → NetworkModel
 startModel p rtt now =
     settled (startNumber p rtt now)
     (modelNew (p .cwnd) (p .pacing) (p .ignore) rtt now)
-    (modelNew one one false noLength noMoment)
+    (modelNew one one false zeroLength zeroMoment)
 
 -- ---- a call that is given nothing: the stored numbers alone are tested
 abbrev pub storedRows : NetworkModel → Rows
@@ -299,8 +299,8 @@ unfoldable pub clearBandwidthNext : NetworkModel → NetworkModel
 clearBandwidthNext m = withLower m (record { bandwidth = Unset; inflight = m .lower .inflight })
 
 unfoldable pub advanceNext : NetworkModel → NetworkModel
-advanceNext m = withMost m (maxAdvance (m .most))
+advanceNext m = withMaxbw m (maxAdvance (m .maxbw))
 
 -- ---- bdp: (bandwidth * gain).to_bytes_per_period(min_rtt)
 unfoldable pub bdpOf : NetworkModel → Bandwidth → Float → ℕ
-bdpOf m b g = bytesPerPeriod (timesF32 b g) (m .least .rtt)
+bdpOf m b g = bytesPerPeriod (timesF32 b g) (m .minrtt .rtt)

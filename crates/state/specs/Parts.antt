@@ -21,7 +21,7 @@ roundOk s t =
     all
     (totalOk (s .lost)
     ∷ totalOk (s .delivered)
-    ∷ bytesOrUnsetOk (s .least)
+    ∷ bytesOrUnsetOk (s .mininflight)
     ∷ leb (s .lost) (t .lost)
     ∷ leb (s .delivered) (t .acked)
     ∷ [])
@@ -46,7 +46,7 @@ totalsOk t = totalOk (t .acked) && totalOk (t .lost)
 
 -- on_new_round
 abbrev pub roundNew : Round
-roundNew = record { lost = 0; losses = 0; delivered = 0; least = 2 ^ 64 - 1; limited = false }
+roundNew = record { lost = 0; losses = 0; delivered = 0; mininflight = 2 ^ 64 - 1; hilimited = false }
 
 -- on_packet_sent: the minimum takes the bytes in flight before the packet; the flag is set where inflight_hi is reached
 unfoldable pub roundSent : Round → ℕ → Bool → Round
@@ -55,8 +55,8 @@ roundSent s inflight hit =
       lost = s .lost;
       losses = s .losses;
       delivered = s .delivered;
-      least = min (s .least) inflight;
-      limited = s .limited || hit;
+      mininflight = min (s .mininflight) inflight;
+      hilimited = s .hilimited || hit;
     }
 
 -- cap_inflight_lo: "An unset inflight_lo is left unset by a cap"

@@ -31,8 +31,8 @@ lower holds r =
     record { stored = r .stored; argument = r .argument; earlier = r .earlier; lower = holds; full = r .full }
 
 -- row 5: "the call's rule adds 1 to a counter that is 2^64 - 1"
-abbrev pub isMost : ℕ → Bool
-isMost n = eqb n (2 ^ 64 - 1)
+abbrev pub isFullCounter : ℕ → Bool
+isFullCounter n = eqb n (2 ^ 64 - 1)
 
 abbrev pub full : Bool → Rows → Rows
 full holds r =

@@ -2,7 +2,7 @@
 ghost use mathlib.Core.Path.{_≡_};
 ghost use mathlib.Core.Bool.{false};
 ghost use Rattle.units.specs.Reply.{number};
-ghost use Rattle.state.specs.Answers.{settled, noBandwidth, noLength, noMoment, noGain};
+ghost use Rattle.state.specs.Answers.{settled, zeroBandwidth, zeroLength, zeroMoment, zeroGain};
 use units::Bandwidth;
 use units::Duration;
 use units::Moment;
@@ -70,7 +70,7 @@ impl GainRead {
     // The gain, or 0 where the call is refused.
     pub fn of(reply: Reply, gain: f32) -> GainRead
         ensures reply { λ r. ⌜ r .reply ≡ reply ⌝ }
-        ensures gain { λ r. ⌜ r .gain ≡ settled (number reply) gain noGain ⌝ }
+        ensures gain { λ r. ⌜ r .gain ≡ settled (number reply) gain zeroGain ⌝ }
     {
         if reply.is_done() {
             GainRead { reply, gain }
@@ -84,7 +84,7 @@ impl BandwidthRead {
     // The bandwidth, or 0 where the call is refused.
     pub fn of(reply: Reply, bandwidth: Bandwidth) -> BandwidthRead
         ensures reply { λ r. ⌜ r .reply ≡ reply ⌝ }
-        ensures bandwidth { λ r. ⌜ r .bandwidth ≡ settled (number reply) bandwidth noBandwidth ⌝ }
+        ensures bandwidth { λ r. ⌜ r .bandwidth ≡ settled (number reply) bandwidth zeroBandwidth ⌝ }
     {
         if reply.is_done() {
             BandwidthRead { reply, bandwidth }
@@ -101,7 +101,7 @@ impl LengthRead {
     // The length of time, or 0 where the call is refused.
     pub fn of(reply: Reply, length: Duration) -> LengthRead
         ensures reply { λ r. ⌜ r .reply ≡ reply ⌝ }
-        ensures length { λ r. ⌜ r .length ≡ settled (number reply) length noLength ⌝ }
+        ensures length { λ r. ⌜ r .length ≡ settled (number reply) length zeroLength ⌝ }
     {
         if reply.is_done() {
             LengthRead { reply, length }
@@ -118,7 +118,7 @@ impl MomentRead {
     // The moment, or 0 where the call is refused.
     pub fn of(reply: Reply, moment: Moment) -> MomentRead
         ensures reply { λ r. ⌜ r .reply ≡ reply ⌝ }
-        ensures moment { λ r. ⌜ r .moment ≡ settled (number reply) moment noMoment ⌝ }
+        ensures moment { λ r. ⌜ r .moment ≡ settled (number reply) moment zeroMoment ⌝ }
     {
         if reply.is_done() {
             MomentRead { reply, moment }

@@ -1,6 +1,6 @@
 // An event's record and what the sampler says to it, with their bounds.
 ghost use mathlib.Core.Path.{_≡_};
-ghost use Rattle.state.specs.CongestionEvent.{maybeLengthOk, stateOk, recordOk, sampleOk};
+ghost use Rattle.state.specs.CongestionEvent.{maybeLengthOk, stateOk, eventOk, sampleOk};
 use crate::bounds::bytes_ok;
 use crate::bounds::length_ok;
 use crate::bounds::maybe_ok;
@@ -18,9 +18,9 @@ pub enum MaybeLength {
 }
 
 // SendTimeState: is_valid, is_app_limited, total_bytes_acked, bytes_in_flight.
-pub struct SendState {
+pub struct SendTimeState {
     pub valid: bool,
-    pub limited: bool,
+    pub applimited: bool,
     pub acked: u64,
     pub inflight: u64,
 }
@@ -28,7 +28,7 @@ pub struct SendState {
 // BBRv2CongestionEvent: event_time, prior_cwnd, prior_bytes_in_flight, bytes_in_flight, bytes_acked,
 // bytes_lost, end_of_round_trip, is_probing_for_bandwidth, sample_max_bandwidth, sample_min_rtt,
 // last_packet_send_state.
-pub struct Record {
+pub struct CongestionEvent {
     pub time: Moment,
     pub window: u64,
     pub prior: u64,
@@ -39,21 +39,21 @@ pub struct Record {
     pub probing: bool,
     pub bandwidth: MaybeBandwidth,
     pub rtt: MaybeLength,
-    pub state: SendState,
+    pub state: SendTimeState,
 }
 
 // The sampler's answer: sample_max_bandwidth, sample_max_send_rate, sample_max_ack_rate,
 // sample_is_app_limited, sample_rtt, sample_max_inflight, extra_acked, last_packet_send_state, and
 // the totals after the event.
-pub struct Sample {
+pub struct CongestionEventSample {
     pub bandwidth: MaybeBandwidth,
     pub send: MaybeBandwidth,
     pub ack: MaybeBandwidth,
-    pub limited: bool,
+    pub applimited: bool,
     pub rtt: MaybeLength,
     pub inflight: u64,
     pub extra: u64,
-    pub state: SendState,
+    pub state: SendTimeState,
     pub totals: Totals,
 }
 
@@ -68,7 +68,7 @@ impl MaybeLength {
     }
 }
 
-impl SendState {
+impl SendTimeState {
     pub(crate) fn ok(self) -> bool
         ensures { λ r. ⌜ r ≡ stateOk self ⌝ }
     {
@@ -76,10 +76,10 @@ impl SendState {
     }
 }
 
-impl Record {
+impl CongestionEvent {
     // Whether every number is within its bounds.
     pub fn ok(self) -> bool
-        ensures { λ r. ⌜ r ≡ recordOk self ⌝ }
+        ensures { λ r. ⌜ r ≡ eventOk self ⌝ }
     {
         let time = self.time;
         let bandwidth = self.bandwidth;
@@ -97,7 +97,7 @@ impl Record {
     }
 }
 
-impl Sample {
+impl CongestionEventSample {
     // Whether every number is within its bounds.
     pub fn ok(self) -> bool
         ensures { λ r. ⌜ r ≡ sampleOk self ⌝ }

@@ -45,12 +45,12 @@ pub struct Wait {
     pub length: MaybeLength,
 }
 
-// probe_up_rounds, probe_up_bytes, probe_up_acked, probe_up_app_limited_since_inflight_hi_limited.
+// probe_up_rounds, probe_up_bytes, probe_up_acked, probe_up_app_limited_since_inflight_hi_applimited.
 pub struct Slope {
     pub rounds: u64,
     pub bytes: MaybeBytes,
     pub acked: u64,
-    pub limited: bool,
+    pub applimited: bool,
 }
 
 // last_cycle_probed_too_high, last_cycle_stopped_risky_probe.
@@ -71,7 +71,7 @@ pub struct Cycle {
 }
 
 // A call's reply, and the cycle after it.
-pub struct Turned {
+pub struct CycleChanged {
     pub reply: Reply,
     pub cycle: Cycle,
 }
@@ -124,17 +124,17 @@ impl Cycle {
     pub const EXTRA_WAIT: Duration = Duration(500_000);
 
     // A cycle that has not started, with the start's moment.
-    pub fn new(now: Moment) -> Turned
+    pub fn new(now: Moment) -> CycleChanged
         ensures reply { λ r. ⌜ number (r .reply) ≡ freshNumber now ⌝ }
         ensures cycle { λ r. ⌜ r .cycle ≡ freshCycle now ⌝ }
     {
         let reply = fresh_reply(now);
         if reply.is_done() {
             let cycle = Cycle::fresh(now);
-            Turned { reply, cycle }
+            CycleChanged { reply, cycle }
         } else {
             let cycle = Cycle::fresh(Moment(0));
-            Turned { reply, cycle }
+            CycleChanged { reply, cycle }
         }
     }
 
@@ -152,7 +152,7 @@ impl Cycle {
                 rounds: 0,
                 bytes: MaybeBytes::NoBytes,
                 acked: 0,
-                limited: false,
+                applimited: false,
             },
             advanced: false,
             probing: false,

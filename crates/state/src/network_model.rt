@@ -3,7 +3,7 @@ ghost use mathlib.Core.Path.{_≡_};
 ghost use mathlib.Core.Bool.{false};
 ghost use Rattle.units.specs.Reply.{number};
 ghost use Rattle.state.specs.Answers.{settled};
-ghost use Rattle.state.specs.NetworkModel.{mostOk, leastOk, modelOk, modelNew, startNumber, startModel, storedNumber, givenNumber, restartNext, capNext, clearInflightNext, clearBandwidthNext, advanceNext, bdpOf, headroomNumber};
+ghost use Rattle.state.specs.NetworkModel.{maxbwOk, minrttOk, modelOk, modelNew, startNumber, startModel, storedNumber, givenNumber, restartNext, capNext, clearInflightNext, clearBandwidthNext, advanceNext, bdpOf, headroomNumber};
 use crate::Params;
 use crate::bounds::UNSET;
 use crate::bounds::bandwidth_ok;
@@ -30,8 +30,8 @@ use units::Reply;
 
 pub struct NetworkModel {
     pub rounds: RoundTripCounter,
-    pub most: MaxBandwidthFilter,
-    pub least: MinRttFilter,
+    pub maxbw: MaxBandwidthFilter,
+    pub minrtt: MinRttFilter,
     pub round: Round,
     pub latest: Latest,
     pub lower: Lower,
@@ -39,7 +39,7 @@ pub struct NetworkModel {
     pub high: u64,
     pub gains: Gains,
     // cwnd_limited_before_aggregation_epoch.
-    pub limited: bool,
+    pub cwndlimited: bool,
     pub growth: Growth,
     pub rates: Rates,
     pub totals: Totals,
@@ -53,16 +53,16 @@ pub struct Changed {
     pub model: NetworkModel,
 }
 
-fn most_ok(f: MaxBandwidthFilter) -> bool
-    ensures { λ r. ⌜ r ≡ mostOk f ⌝ }
+fn maxbw_ok(f: MaxBandwidthFilter) -> bool
+    ensures { λ r. ⌜ r ≡ maxbwOk f ⌝ }
 {
     let slot0 = f.slot0;
     let slot1 = f.slot1;
     bandwidth_ok(slot0) & bandwidth_ok(slot1)
 }
 
-fn least_ok(f: MinRttFilter) -> bool
-    ensures { λ r. ⌜ r ≡ leastOk f ⌝ }
+fn minrtt_ok(f: MinRttFilter) -> bool
+    ensures { λ r. ⌜ r ≡ minrttOk f ⌝ }
 {
     let rtt = f.rtt;
     let timestamp = f.timestamp;
@@ -87,8 +87,8 @@ impl NetworkModel {
     pub fn ok(self) -> bool
         ensures { λ r. ⌜ r ≡ modelOk self ⌝ }
     {
-        let most = self.most;
-        let least = self.least;
+        let most = self.maxbw;
+        let least = self.minrtt;
         let round = self.round;
         let latest = self.latest;
         let lower = self.lower;
@@ -97,8 +97,8 @@ impl NetworkModel {
         let rates = self.rates;
         let totals = self.totals;
         let moment = self.moment;
-        most_ok(most)
-            & least_ok(least)
+        maxbw_ok(most)
+            & minrtt_ok(least)
             & round.ok(totals)
             & latest.ok()
             & lower.ok()
@@ -116,8 +116,8 @@ impl NetworkModel {
     {
         NetworkModel {
             rounds: RoundTripCounter::new(),
-            most: MaxBandwidthFilter::new(),
-            least: MinRttFilter::new(rtt, now),
+            maxbw: MaxBandwidthFilter::new(),
+            minrtt: MinRttFilter::new(rtt, now),
             round: Round::new(),
             latest: Latest {
                 bandwidth: Bandwidth::ZERO,
@@ -129,7 +129,7 @@ impl NetworkModel {
             },
             high: UNSET,
             gains: Gains { cwnd, pacing },
-            limited: false,
+            cwndlimited: false,
             growth: Growth {
                 reached: false,
                 baseline: Bandwidth::ZERO,
@@ -204,7 +204,7 @@ impl NetworkModel {
         }
     }
 
-    pub fn restarted(self) -> NetworkModel
+    pub fn restart_next(self) -> NetworkModel
         ensures { λ r. ⌜ r ≡ restartNext self ⌝ }
     {
         let rounds = self.rounds;
@@ -219,7 +219,7 @@ impl NetworkModel {
         next
     }
 
-    pub fn capped(self, cap: u64) -> NetworkModel
+    pub fn cap_next(self, cap: u64) -> NetworkModel
         ensures { λ r. ⌜ r ≡ capNext self cap ⌝ }
     {
         let lower = self.lower;
@@ -229,7 +229,7 @@ impl NetworkModel {
         next
     }
 
-    pub fn inflight_cleared(self) -> NetworkModel
+    pub fn clear_inflight_next(self) -> NetworkModel
         ensures { λ r. ⌜ r ≡ clearInflightNext self ⌝ }
     {
         let mut lower = self.lower;
@@ -239,7 +239,7 @@ impl NetworkModel {
         next
     }
 
-    pub fn bandwidth_cleared(self) -> NetworkModel
+    pub fn clear_bandwidth_next(self) -> NetworkModel
         ensures { λ r. ⌜ r ≡ clearBandwidthNext self ⌝ }
     {
         let lower = Lower {
@@ -251,20 +251,20 @@ impl NetworkModel {
         next
     }
 
-    pub fn advanced(self) -> NetworkModel
+    pub fn advance_next(self) -> NetworkModel
         ensures { λ r. ⌜ r ≡ advanceNext self ⌝ }
     {
-        let most = self.most;
+        let most = self.maxbw;
         let filter = most.advance();
         let mut next = self;
-        next.most = filter;
+        next.maxbw = filter;
         next
     }
 
-    pub fn product(self, bandwidth: Bandwidth, gain: f32) -> u64
+    pub fn bdp_of(self, bandwidth: Bandwidth, gain: f32) -> u64
         ensures { λ r. ⌜ r ≡ bdpOf self bandwidth gain ⌝ }
     {
-        let least = self.least;
+        let least = self.minrtt;
         let scaled = bandwidth.mul_f32(gain);
         scaled.to_bytes_per_period(least.rtt)
     }

@@ -24,8 +24,8 @@ pub struct Round {
     pub lost: u64,
     pub losses: u64,
     pub delivered: u64,
-    pub least: u64,
-    pub limited: bool,
+    pub mininflight: u64,
+    pub hilimited: bool,
 }
 
 // bandwidth_latest, inflight_latest.
@@ -77,8 +77,8 @@ impl Round {
             lost: 0,
             losses: 0,
             delivered: 0,
-            least: UNSET,
-            limited: false,
+            mininflight: UNSET,
+            hilimited: false,
         }
     }
 
@@ -90,8 +90,8 @@ impl Round {
             lost: self.lost,
             losses: self.losses,
             delivered: self.delivered,
-            least: smaller(self.least, inflight),
-            limited: self.limited | hit,
+            mininflight: smaller(self.mininflight, inflight),
+            hilimited: self.hilimited | hit,
         }
     }
 
@@ -101,7 +101,7 @@ impl Round {
     {
         total_ok(self.lost)
             & total_ok(self.delivered)
-            & bytes_or_unset_ok(self.least)
+            & bytes_or_unset_ok(self.mininflight)
             & (self.lost <= totals.lost)
             & (self.delivered <= totals.acked)
     }

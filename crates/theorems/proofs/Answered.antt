@@ -1,4 +1,4 @@
--- What a run writes into the answers' bytes: for each call the 18 words of its turn, in the state that the calls before it left. Assumes nothing.
+-- What a run writes into the answers' bytes: for each call the 18 words of its outcome, in the state that the calls before it left. Assumes nothing.
 use Prim.Native.Nat.{ℕ, zero, suc, _+_, _*_, _^_, _≤_, _<_}
 use mathlib.Core.List.{List, _∷_, _++_, append-assoc}
 use mathlib.Core.Path.{_≡_, refl, sym, ap, _∙_}
@@ -7,48 +7,48 @@ use native.Mathlib.Omega.{arith}
 use lib.ListN.{length, take, drop, length-append}
 use lib.Seq.{sets-eq, drop-drop, take-at, drop-at}
 use borrow.Author.Tests.{eq-eqb}
-use Rattle.words.specs.Words.{word, bytes, allBytes}
+use Rattle.words.specs.Words.{wordAt, bytes, allBytes}
 use Rattle.words.proofs.Laws.{length-bytes, allBytes-append, word-drop, word-of}
-use Rattle.dispatch.specs.declared.turn.Turn.{Turn}
+use Rattle.dispatch.specs.declared.outcome.Outcome.{Outcome}
 use Rattle.guovssalu.specs.Reply.{answered}
 use Rattle.dispatch.specs.OneCall.{callAt, answerWords}
-use Rattle.guovssalu.specs.ModelRun.{turnAt, answersTo, answersFrom, modelRow, answersOut}
+use Rattle.guovssalu.specs.ModelRun.{outcomeAt, answersTo, answersFrom, modelRow, answersOut}
 use Rattle.guovssalu.proofs.ModelRun.{length-answer, run-room}
 use Rattle.drift.specs.Calls.{State}
-use Rattle.theorems.specs.Steps.{stepOf, afterStep, stepsFrom, walk, stateLeft, turnIn}
+use Rattle.theorems.specs.Steps.{stepOf, afterStep, stepsFrom, walk, stateLeft, outcomeIn}
 use Rattle.theorems.specs.Runs.{Run, Ran, stateFrom, count, call, before, answer, answerWord}
-use Rattle.theorems.proofs.Decoded.{every-turn}
+use Rattle.theorems.proofs.Decoded.{every-outcome}
 use Rattle.theorems.proofs.Exported.{run-is}
 
 -- its bytes, and what follows them
-record From (l : List ℕ) (t : Turn) : Type 0 where
+record From (l : List ℕ) (t : Outcome) : Type 0 where
   pub rest : List ℕ
   pub split : l ≡ allBytes (answerWords t) ++ rest
 
-length-turn : (calls : List ℕ) (at : ℕ) (s : State) → length (allBytes (answerWords (turnIn (callAt calls at) s))) ≡ 144
-unfolding turnAt
-length-turn calls at s = length-answer (s .model) (s .cycle) calls at
+length-outcome : (calls : List ℕ) (at : ℕ) (s : State) → length (allBytes (answerWords (outcomeIn (callAt calls at) s))) ≡ 144
+unfolding outcomeAt
+length-outcome calls at s = length-answer (s .model) (s .cycle) calls at
 
 abbrev answers : List ℕ → ℕ → ℕ → State → List ℕ
 answers calls at n s = allBytes (answersTo (s .model) (s .cycle) calls at n)
 
 -- the first answer, and the others
 answers-more : (calls : List ℕ) (at n : ℕ) (s : State) (rest : List ℕ) →
-    answers calls at (suc n) s ++ rest ≡ allBytes (answerWords (turnIn (callAt calls at) s)) ++ (answers calls (at + 392) n (afterStep (stepOf (callAt calls at)) s) ++ rest)
-unfolding answersTo turnAt
+    answers calls at (suc n) s ++ rest ≡ allBytes (answerWords (outcomeIn (callAt calls at) s)) ++ (answers calls (at + 392) n (afterStep (stepOf (callAt calls at)) s) ++ rest)
+unfolding answersTo outcomeAt
 answers-more calls at n s rest =
-    let t = turnIn (callAt calls at) s in
+    let t = outcomeIn (callAt calls at) s in
     let more = answers calls (at + 392) n (stateLeft t) in
     ap (λ (l : List ℕ). l ++ rest) (allBytes-append (answerWords t) (answersTo (t .model) (t .cycle) calls (at + 392) n))
     ∙ append-assoc (allBytes (answerWords t)) more rest
-    ∙ ap (λ (z : State). allBytes (answerWords t) ++ (answers calls (at + 392) n z ++ rest)) (every-turn (callAt calls at) s .leaves)
+    ∙ ap (λ (z : State). allBytes (answerWords t) ++ (answers calls (at + 392) n z ++ rest)) (every-outcome (callAt calls at) s .leaves)
 
 length-answers : (calls : List ℕ) (at n : ℕ) (s : State) → length (answers calls at n s) ≡ 144 * n
-unfolding answersTo allBytes turnAt
+unfolding answersTo allBytes outcomeAt
 length-answers calls at zero s = refl
 length-answers calls at (suc n) s =
-    let t = turnIn (callAt calls at) s in
-    rw (allBytes-append, length-append, length-turn calls at s) (omega (arith, length-answers calls (at + 392) n (stateLeft t)))
+    let t = outcomeIn (callAt calls at) s in
+    rw (allBytes-append, length-append, length-outcome calls at s) (omega (arith, length-answers calls (at + 392) n (stateLeft t)))
 
 next-answer : (i : ℕ) → 144 + 144 * i ≡ 144 * suc i
 next-answer i = omega arith
@@ -57,27 +57,27 @@ next-call : (at i : ℕ) → at + 392 * suc i ≡ at + 392 + 392 * i
 next-call at i = omega arith
 
 answer-at : (calls : List ℕ) (i at n : ℕ) (s : State) (rest : List ℕ) → i < n →
-    From (drop (144 * i) (answers calls at n s ++ rest)) (turnIn (callAt calls (at + 392 * i)) (walk (stepsFrom calls at i) s))
+    From (drop (144 * i) (answers calls at n s ++ rest)) (outcomeIn (callAt calls (at + 392 * i)) (walk (stepsFrom calls at i) s))
 unfolding stepsFrom walk
 answer-at calls i at zero s rest l = absurd (omega (arith, l))
 answer-at calls zero at (suc n) s rest l = rw add-zero (record { rest = _; split = answers-more calls at n s rest })
 answer-at calls (suc i) at (suc n) s rest l =
-    let first = allBytes (answerWords (turnIn (callAt calls at) s)) in
+    let first = allBytes (answerWords (outcomeIn (callAt calls at) s)) in
     let z = afterStep (stepOf (callAt calls at)) s in
     let more = answers calls (at + 392) n z ++ rest in
     let e : drop (144 * suc i) (answers calls at (suc n) s ++ rest) ≡ drop (144 * i) more =
     ap (λ (k : ℕ). drop k (answers calls at (suc n) s ++ rest)) (sym (next-answer i))
     ∙ sym (drop-drop (144 * i) 144 (answers calls at (suc n) s ++ rest))
     ∙ ap (λ (l : List ℕ). drop (144 * i) (drop 144 l)) (answers-more calls at n s rest)
-    ∙ ap (drop (144 * i)) (drop-at first more 144 (length-turn calls at s)) in
+    ∙ ap (drop (144 * i)) (drop-at first more 144 (length-outcome calls at s)) in
     rw (e, next-call at i) (answer-at calls i (at + 392) n z rest (omega arith))
 
 -- ---- a run that is done
-abbrev pub turnOfCall : Run → ℕ → Turn
-turnOfCall r i = turnIn (call r i) (before r i)
+abbrev pub outcomeOfCall : Run → ℕ → Outcome
+outcomeOfCall r i = outcomeIn (call r i) (before r i)
 
 module _ (r : Run) (ran : Ran r) (done : r .reply ≡ 0) (i : ℕ) (l : i < count r) where
-  answer-from : From (drop (144 * i) (r .written)) (turnOfCall r i)
+  answer-from : From (drop (144 * i) (r .written)) (outcomeOfCall r i)
   unfolding answersOut answered answersFrom stateFrom
   answer-from =
       let row = modelRow (r .state) (r .calls) (length (r .answers)) in
@@ -88,34 +88,34 @@ module _ (r : Run) (ran : Ran r) (done : r .reply ≡ 0) (i : ℕ) (l : i < coun
       run-is r ran .2 ∙ rw row-done (sets-eq all (r .answers) 0 room ∙ ap (λ (k : ℕ). all ++ drop k (r .answers)) (zero-add (length all))) in
       rw (whole, ← zero-add (392 * i)) (answer-at (r .calls) i 0 (count r) (stateFrom (r .state)) (drop (length all) (r .answers)) l)
 
-  pub answer-bytes : answer r i ≡ allBytes (answerWords (turnOfCall r i))
-  unfolding turnAt
+  pub answer-bytes : answer r i ≡ allBytes (answerWords (outcomeOfCall r i))
+  unfolding outcomeAt
   answer-bytes =
       let f = answer-from in
-      ap (take 144) (f .split) ∙ take-at (allBytes (answerWords (turnOfCall r i))) (f .rest) 144 (length-turn (r .calls) (392 * i) (before r i))
+      ap (take 144) (f .split) ∙ take-at (allBytes (answerWords (outcomeOfCall r i))) (f .rest) 144 (length-outcome (r .calls) (392 * i) (before r i))
 
   -- its first two words, numbers of 64 bits
-  pub reply-word : turnOfCall r i .reply < 2 ^ 64 → answerWord r i 0 ≡ turnOfCall r i .reply
+  pub reply-word : outcomeOfCall r i .reply < 2 ^ 64 → answerWord r i 0 ≡ outcomeOfCall r i .reply
   unfolding answerWords allBytes
   reply-word h =
       let f = answer-from in
-      let t = turnOfCall r i in
+      let t = outcomeOfCall r i in
       sym (word-drop (144 * i) (r .written) 0)
-      ∙ ap (λ (l : List ℕ). word l 0) (f .split ∙ append-assoc (bytes (t .reply)) (allBytes (t .value ∷ t .event)) (f .rest))
+      ∙ ap (λ (l : List ℕ). wordAt l 0) (f .split ∙ append-assoc (bytes (t .reply)) (allBytes (t .value ∷ t .event)) (f .rest))
       ∙ word-of (t .reply) (allBytes (t .value ∷ t .event) ++ f .rest) h
 
-  pub value-word : turnOfCall r i .value < 2 ^ 64 → answerWord r i 1 ≡ turnOfCall r i .value
+  pub value-word : outcomeOfCall r i .value < 2 ^ 64 → answerWord r i 1 ≡ outcomeOfCall r i .value
   unfolding answerWords allBytes
   value-word h =
       let f = answer-from in
-      let t = turnOfCall r i in
+      let t = outcomeOfCall r i in
       let more = bytes (t .value) ++ (allBytes (t .event) ++ f .rest) in
       let split : drop (144 * i) (r .written) ≡ bytes (t .reply) ++ more =
       f .split
       ∙ append-assoc (bytes (t .reply)) (allBytes (t .value ∷ t .event)) (f .rest)
       ∙ ap (λ (l : List ℕ). bytes (t .reply) ++ l) (append-assoc (bytes (t .value)) (allBytes (t .event)) (f .rest)) in
       sym (word-drop (144 * i) (r .written) 8)
-      ∙ ap (λ (l : List ℕ). word l 8) split
+      ∙ ap (λ (l : List ℕ). wordAt l 8) split
       ∙ sym (word-drop 8 (bytes (t .reply) ++ more) 0)
-      ∙ ap (λ (l : List ℕ). word l 0) (drop-at (bytes (t .reply)) more 8 (length-bytes (t .reply)))
+      ∙ ap (λ (l : List ℕ). wordAt l 0) (drop-at (bytes (t .reply)) more 8 (length-bytes (t .reply)))
       ∙ word-of (t .value) (allBytes (t .event) ++ f .rest) h

@@ -1,4 +1,4 @@
--- A call's turn is its step (`every-turn`): the tests of both are the same, so the two go side by side. Assumes nothing.
+-- A call's outcome is its step (`every-outcome`): the tests of both are the same, so the two go side by side. Assumes nothing.
 use Prim.Native.Nat.{ℕ}
 use mathlib.Core.Bool.{Bool, true, false, cond}
 use mathlib.Core.List.{List}
@@ -8,8 +8,8 @@ use Rattle.state.specs.declared.network_model.NetworkModel.{NetworkModel}
 use Rattle.state.specs.Answers.{settled}
 use Rattle.state.specs.declared.cycle.Cycle.{Cycle}
 use Rattle.words.specs.Word.{word, flagWord}
-use Rattle.dispatch.specs.declared.turn.Turn.{Turn}
-use Rattle.dispatch.specs.Turn.{noRecord, isJudged, isAsked, startTurn, sendTurn, eventTurn, finishTurn, judgeTurn, askTurn, enterTurn, changeTurn, turnOf}
+use Rattle.dispatch.specs.declared.outcome.Outcome.{Outcome}
+use Rattle.dispatch.specs.Outcome.{noEvent, isJudged, isAsked, startOutcome, sendOutcome, eventOutcome, finishOutcome, judgeOutcome, askOutcome, enterOutcome, changeOutcome, outcomeOf}
 use Rattle.calls.specs.Change.{Change, changeOf, changeMore}
 use Rattle.calls.specs.Question.{Judged, judgeOf}
 use Rattle.calls.specs.Enter.{Entry, enterOf}
@@ -54,15 +54,15 @@ settled-both n m y = go (eqb n 0)
     go false = refl
 
 module _ (w : List ℕ) (m : NetworkModel) (y : Cycle) where
-  abbrev R : Turn → Step → Type 0
+  abbrev R : Outcome → Step → Type 0
   R t c = (state (t .model) (t .cycle) ≡ afterStep c (state m y)) × Replies c (state m y) (t .reply)
 
   -- ---- the calls that change the model alone
   abbrev Changes : Change → Step → Type 0
-  Changes c d = R (record { model = settled (c .number) (c .next) m; cycle = y; reply = c .number; value = 0; event = noRecord }) d
+  Changes c d = R (record { model = settled (c .number) (c .next) m; cycle = y; reply = c .number; value = 0; event = noEvent }) d
 
-  change : R (changeTurn w m y) (changeStep w)
-  unfolding changeTurn changeStep changeOf changeMore afterStep after numberOf otherNumber nextOf otherNext
+  change : R (changeOutcome w m y) (changeStep w)
+  unfolding changeOutcome changeStep changeOf changeMore afterStep after numberOf otherNumber nextOf otherNext
   change =
       let n = word w 0 in
       both Changes (eqb n 8) _ _ _ _ (settled-model _ m _ y, refl)
@@ -78,10 +78,10 @@ module _ (w : List ℕ) (m : NetworkModel) (y : Cycle) where
 
   -- ---- the questions about an event, and the queue's
   abbrev Judges : Judged → Step → Type 0
-  Judges j d = R (record { model = settled (j .number) (j .next) m; cycle = y; reply = j .number; value = flagWord (settled (j .number) (j .yes) false); event = noRecord }) d
+  Judges j d = R (record { model = settled (j .number) (j .next) m; cycle = y; reply = j .number; value = flagWord (settled (j .number) (j .yes) false); event = noEvent }) d
 
-  judge : R (judgeTurn w m y) (judgeStep w)
-  unfolding judgeTurn judgeStep judgeOf afterStep after numberOf otherNumber nextOf otherNext
+  judge : R (judgeOutcome w m y) (judgeStep w)
+  unfolding judgeOutcome judgeStep judgeOf afterStep after numberOf otherNumber nextOf otherNext
   judge =
       let n = word w 0 in
       both Judges (eqb n 5) _ _ _ _ (settled-model _ m _ y, refl)
@@ -91,10 +91,10 @@ module _ (w : List ℕ) (m : NetworkModel) (y : Cycle) where
 
   -- ---- the calls on model and cycle
   abbrev Enters : Entry → Step → Type 0
-  Enters e d = R (record { model = settled (e .number) (e .model) m; cycle = settled (e .number) (e .cycle) y; reply = e .number; value = 0; event = noRecord }) d
+  Enters e d = R (record { model = settled (e .number) (e .model) m; cycle = settled (e .number) (e .cycle) y; reply = e .number; value = 0; event = noEvent }) d
 
-  enter : R (enterTurn w m y) (enterStep w)
-  unfolding enterTurn enterStep enterOf afterStep after numberOf otherNumber nextOf otherNext
+  enter : R (enterOutcome w m y) (enterStep w)
+  unfolding enterOutcome enterStep enterOf afterStep after numberOf otherNumber nextOf otherNext
   enter =
       let n = word w 0 in
       both Enters (eqb n 40) _ _ _ _ (settled-state _ m _ y _, refl)
@@ -105,9 +105,9 @@ module _ (w : List ℕ) (m : NetworkModel) (y : Cycle) where
       (both Enters (eqb n 45) _ _ _ _ (settled-state _ m _ y _, refl) (settled-both _ m y, tt))))))
 
   -- ---- all of them
-  turn : R (turnOf w m y) (stepOf w)
-  unfolding turnOf stepOf startTurn sendTurn eventTurn finishTurn askTurn afterStep begun after numberOf otherNumber nextOf otherNext
-  turn =
+  outcome : R (outcomeOf w m y) (stepOf w)
+  unfolding outcomeOf stepOf startOutcome sendOutcome eventOutcome finishOutcome askOutcome afterStep begun after numberOf otherNumber nextOf otherNext
+  outcome =
       let n = word w 0 in
       both R (eqb n 1) _ _ _ _ (settled-model _ m _ y, refl)
       (both R (eqb n 3) _ _ _ _ (settled-model _ m _ y, refl)
@@ -117,5 +117,5 @@ module _ (w : List ℕ) (m : NetworkModel) (y : Cycle) where
       (both R (isAsked n) _ _ _ _ (refl, tt)
       (both R (leb 40 n) _ _ _ _ enter change))))))
 
-pub every-turn : (w : List ℕ) (s : State) → Makes w s
-every-turn w s = let t = turn w (s .model) (s .cycle) in record { leaves = t .0; replies = t .1 }
+pub every-outcome : (w : List ℕ) (s : State) → Makes w s
+every-outcome w s = let t = outcome w (s .model) (s .cycle) in record { leaves = t .0; replies = t .1 }

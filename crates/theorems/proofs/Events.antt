@@ -8,25 +8,25 @@ use lib.Dec.{leb, eqb}
 use lib.ListN.{getD}
 use borrow.Author.Tests.{eqb-true}
 use Rattle.state.specs.declared.params.Params.{Params}
-use Rattle.state.specs.declared.congestion_event.Record.{Record}
-use Rattle.state.specs.declared.congestion_event.Sample.{Sample}
-use Rattle.arguments.specs.Params.{paramsOf}
-use Rattle.arguments.specs.Record.{recordOf}
-use Rattle.arguments.specs.Sample.{sampleOf}
-use Rattle.dispatch.specs.Turn.{isJudged, isAsked}
+use Rattle.state.specs.declared.congestion_event.CongestionEvent.{CongestionEvent}
+use Rattle.state.specs.declared.congestion_event.CongestionEventSample.{CongestionEventSample}
+use Rattle.arguments.specs.Params.{paramsFrom}
+use Rattle.arguments.specs.CongestionEvent.{eventFrom}
+use Rattle.arguments.specs.Sample.{sampleFrom}
+use Rattle.dispatch.specs.Outcome.{isJudged, isAsked}
 use Rattle.dispatch.specs.OneCall.{callAt}
 use Rattle.drift.specs.Calls.{Call, State}
 use Rattle.drift.specs.Drift.{OfEvent}
-use Rattle.drift.specs.Exact.{Turn}
+use Rattle.drift.specs.Exact.{Effect}
 use Rattle.theorems.specs.Steps.{Step, Replies, judgeStep, enterStep, changeStep, stepOf, afterStep, stepsFrom, walk}
 use Rattle.theorems.specs.Runs.{Run, Ran, AreBytes, stateFrom, count, call, before, Each, OfEvents}
-use Rattle.theorems.proofs.Answered.{turnOfCall, reply-word}
+use Rattle.theorems.proofs.Answered.{outcomeOfCall, reply-word}
 use Rattle.theorems.proofs.Choice.{arms, either}
-use Rattle.theorems.proofs.Decoded.{every-turn}
+use Rattle.theorems.proofs.Decoded.{every-outcome}
 use Rattle.theorems.proofs.Reached.{OfStep, AlongSteps, Fair}
 
 -- ---- of one call
-module _ (Q : Params → Record → Sample → Type 0) (w : List ℕ) (s : State) (n : ℕ) where
+module _ (Q : Params → CongestionEvent → CongestionEventSample → Type 0) (w : List ℕ) (s : State) (n : ℕ) where
   -- of a step that is answered n
   abbrev At : Step → Type 0
   At c = Replies c s n → OfStep (OfEvent Q) c s
@@ -54,7 +54,7 @@ module _ (Q : Params → Record → Sample → Type 0) (w : List ℕ) (s : State
       (either At (eqb k 17) _ _ (λ r d. tt)
       (either At (eqb k 18) _ _ (λ r d. tt) (either At (eqb k 19) _ _ (λ r d. tt) (either At (eqb k 20) _ _ (λ r d. tt) (either At (eqb k 21) _ _ (λ r d. tt) (either At (eqb k 22) _ _ (λ r d. tt) (λ r. tt))))))))))
 
-  step-at : (getD w 0 0 ≡ 3 → n ≡ 0 → Q (paramsOf w) (recordOf w) (sampleOf w)) → At (stepOf w)
+  step-at : (getD w 0 0 ≡ 3 → n ≡ 0 → Q (paramsFrom w) (eventFrom w) (sampleFrom w)) → At (stepOf w)
   unfolding stepOf
   step-at h =
       let k = getD w 0 0 in
@@ -79,18 +79,18 @@ along-each P calls at (suc n) s h =
           (λ i l. subst (λ (k : ℕ). OfStep P (stepOf (callAt calls k)) (walk (stepsFrom calls (at + 392) i) z)) (next-call at i) (h (suc i) (omega arith))),
     )
 
-module _ (turn : Call → State → Turn) (parts : ℕ) (W : List ℕ → Type 0) (Q : Params → Record → Sample → Type 0) (of-words : (w : List ℕ) → W w → Q (paramsOf w) (recordOf w) (sampleOf w)) where
+module _ (effect : Call → State → Effect) (parts : ℕ) (W : List ℕ → Type 0) (Q : Params → CongestionEvent → CongestionEventSample → Type 0) (of-words : (w : List ℕ) → W w → Q (paramsFrom w) (eventFrom w) (sampleFrom w)) where
   event-at : (r : Run) → Ran r → OfEvents W r → r .reply ≡ 0 → (i : ℕ) → i < count r → OfStep (OfEvent Q) (stepOf (call r i)) (before r i)
   event-at r ran h done i l =
       let w = call r i in
-      let t = turnOfCall r i in
+      let t = outcomeOfCall r i in
       step-at Q w (before r i) (t .reply)
       (λ e z.
       let small : t .reply < 2 ^ 64 = omega (arith, z) in
       of-words w (h i (record { done = done; made = l; named = e; accepted = reply-word r ran done i l small ∙ z })))
-      (every-turn w (before r i) .replies)
+      (every-outcome w (before r i) .replies)
 
-  fair : (r : Run) → Ran r → AreBytes (r .state) × AreBytes (r .calls) → OfEvents W r → Fair turn parts (OfEvent Q) r
+  fair : (r : Run) → Ran r → AreBytes (r .state) × AreBytes (r .calls) → OfEvents W r → Fair effect parts (OfEvent Q) r
   fair r ran b h =
       record {
         ran = ran;
@@ -99,6 +99,6 @@ module _ (turn : Call → State → Turn) (parts : ℕ) (W : List ℕ → Type 0
         along = λ done. along-each (OfEvent Q) (r .calls) 0 (count r) (stateFrom (r .state)) (λ i l. rw (zero-add (392 * i)) (event-at r ran h done i l));
       }
 
-  pub each-fair : (runs : List Run) → Each Ran runs → Each (λ r. AreBytes (r .state) × AreBytes (r .calls)) runs → Each (OfEvents W) runs → Each (Fair turn parts (OfEvent Q)) runs
+  pub each-fair : (runs : List Run) → Each Ran runs → Each (λ r. AreBytes (r .state) × AreBytes (r .calls)) runs → Each (OfEvents W) runs → Each (Fair effect parts (OfEvent Q)) runs
   each-fair [] a b c = tt
   each-fair (r ∷ runs) a b c = (fair r (a .0) (b .0) (c .0), each-fair runs (a .1) (b .1) (c .1))

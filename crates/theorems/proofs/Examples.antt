@@ -16,36 +16,36 @@ use Rattle.state.specs.NetworkModel.{modelTests}
 use Rattle.state.specs.NetworkModel.{withRounds, withRound, withLower, withMoment, modelNew, startNumber, startModel, storedNumber, givenNumber}
 use Rattle.changes.specs.Changes.{sentNumber, sentNext}
 use Rattle.state.specs.Parts.{roundSent, lowerCapped}
-use Rattle.state.specs.CongestionEvent.{recordTests, sampleTests}
-use Rattle.events.specs.Event.{stateAfter, deliveredBy, roundAfter, latestRaised, lowerReduced, lowerAfter, latestAfter, recordOf, recordNext, mostNext, roundNext, lowerNext, modelOf, modelNext, isFull, eventNumber, limitedAfter}
+use Rattle.state.specs.CongestionEvent.{eventTests, sampleTests}
+use Rattle.events.specs.Event.{stateAfter, deliveredBy, roundAfter, latestRaised, lowerReduced, lowerAfter, latestAfter, eventAfter, eventNext, maxbwNext, roundNext, lowerNext, modelAfter, modelNext, isFull, eventNumber, cwndlimitedAfter}
 use Rattle.state.specs.Cycle.{cycleNew, stayFrom, freshNumber, freshCycle, cycleTests}
 use Rattle.words.specs.Words.{numberAt, lowBytes, wordsAt, allBytes}
 use Rattle.layout.specs.NetworkModel as N
-use Rattle.layout.specs.Cycle.{cycleOf, cycleWords}
-use Rattle.arguments.specs.Params.{paramsOf}
-use Rattle.arguments.specs.Record.{recordFits, recordFrom, wordsFrom, recordWords}
-use Rattle.arguments.specs.Sample.{sampleFits, sampleOf, ackedOf}
+use Rattle.layout.specs.Cycle.{cycleFrom, cycleWords}
+use Rattle.arguments.specs.Params.{paramsFrom}
+use Rattle.arguments.specs.CongestionEvent.{eventFits, eventFromWord, wordsFrom, eventWords}
+use Rattle.arguments.specs.Sample.{sampleFits, sampleFrom, ackedOf}
 use Rattle.calls.specs.Ask.{askOf, readOf, readMore}
 use Rattle.calls.specs.Enter.{enterOf}
-use Rattle.dispatch.specs.Turn.{startTurn, sendTurn, eventTurn, finishTurn, judgeTurn, askTurn, enterTurn, changeTurn, turnOf}
+use Rattle.dispatch.specs.Outcome.{startOutcome, sendOutcome, eventOutcome, finishOutcome, judgeOutcome, askOutcome, enterOutcome, changeOutcome, outcomeOf}
 use Rattle.layout.specs.StateWords.{sameWords, isState}
-use Rattle.guovssalu.specs.ModelRun.{encodesNone, turnAt, answersTo, leftBy, answersFrom, wordsLeft, modelRow, answersOut, stateOut}
+use Rattle.guovssalu.specs.ModelRun.{encodesNone, outcomeAt, answersTo, leftBy, answersFrom, wordsLeft, modelRow, answersOut, stateOut}
 use Rattle.dispatch.specs.OneCall.{answerWords}
 use Rattle.guovssalu.specs.Reply.{orShort, answered}
 use Rattle.drift.specs.Calls.{otherNumber, numberOf, otherNext, nextOf, after}
-use Rattle.drift.specs.Exact.{isReduced, inflightTurn, exactly}
+use Rattle.drift.specs.Exact.{isReduced, inflightEffect, exactly}
 use Rattle.theorems.specs.Steps.{judgeStep, enterStep, changeStep, stepOf, begun, afterStep, stepsFrom, walk, exactStep, exactWalk}
 use Rattle.theorems.specs.Runs.{stateFrom, exactAfter, exactRuns, lowWord}
 use Rattle.theorems.specs.Examples.{firstExamples, secondExamples, thirdExamples}
 
 pub first-examples : all firstExamples ≡ true
-unfolding firstExamples scaled scaledF64 roundAway timesF32 Ieee.round Ieee.ofBits Ieee.toBits Ieee.sub Ieee.mul Ieee.ofInt Ieee.toUnsigned Ieee.eq Ieee.le maxGet maxUpdate roundsSent endsRound roundsFull roundsEnded roundsAcked settled within paramsOk roundOk modelTests rowOf withRounds withRound withLower withMoment modelNew startNumber startModel storedNumber givenNumber sentNumber sentNext lowerCapped roundSent recordTests sampleTests stateAfter deliveredBy roundAfter latestRaised lowerReduced lowerAfter latestAfter recordOf recordNext mostNext roundNext lowerNext modelOf modelNext isFull eventNumber limitedAfter cycleNew stayFrom freshNumber freshCycle cycleTests numberAt lowBytes wordsAt allBytes N.modelOf N.modelWords cycleOf cycleWords paramsOf recordFits recordFrom wordsFrom recordWords sampleFits sampleOf ackedOf askOf readOf readMore enterOf startTurn sendTurn eventTurn finishTurn judgeTurn askTurn enterTurn changeTurn turnOf sameWords isState encodesNone turnAt answerWords answersTo leftBy answersFrom wordsLeft modelRow answersOut stateOut orShort answered otherNumber numberOf otherNext nextOf after isReduced inflightTurn exactly judgeStep enterStep changeStep stepOf begun afterStep stateFrom stepsFrom walk exactStep exactWalk exactAfter exactRuns lowWord
+unfolding firstExamples scaled scaledF64 roundAway timesF32 Ieee.round Ieee.ofBits Ieee.toBits Ieee.sub Ieee.mul Ieee.ofInt Ieee.toUnsigned Ieee.eq Ieee.le maxGet maxUpdate roundsSent endsRound roundsFull roundsEnded roundsAcked settled within paramsOk roundOk modelTests rowOf withRounds withRound withLower withMoment modelNew startNumber startModel storedNumber givenNumber sentNumber sentNext lowerCapped roundSent eventTests sampleTests stateAfter deliveredBy roundAfter latestRaised lowerReduced lowerAfter latestAfter eventAfter eventNext maxbwNext roundNext lowerNext modelAfter modelNext isFull eventNumber cwndlimitedAfter cycleNew stayFrom freshNumber freshCycle cycleTests numberAt lowBytes wordsAt allBytes N.modelFrom N.modelWords cycleFrom cycleWords paramsFrom eventFits eventFromWord wordsFrom eventWords sampleFits sampleFrom ackedOf askOf readOf readMore enterOf startOutcome sendOutcome eventOutcome finishOutcome judgeOutcome askOutcome enterOutcome changeOutcome outcomeOf sameWords isState encodesNone outcomeAt answerWords answersTo leftBy answersFrom wordsLeft modelRow answersOut stateOut orShort answered otherNumber numberOf otherNext nextOf after isReduced inflightEffect exactly judgeStep enterStep changeStep stepOf begun afterStep stateFrom stepsFrom walk exactStep exactWalk exactAfter exactRuns lowWord
 first-examples = refl
 
 pub second-examples : all secondExamples ≡ true
-unfolding secondExamples scaled scaledF64 roundAway timesF32 Ieee.round Ieee.ofBits Ieee.toBits Ieee.sub Ieee.mul Ieee.ofInt Ieee.toUnsigned Ieee.eq Ieee.le maxGet maxUpdate roundsSent endsRound roundsFull roundsEnded roundsAcked settled within paramsOk roundOk modelTests rowOf withRounds withRound withLower withMoment modelNew startNumber startModel storedNumber givenNumber sentNumber sentNext lowerCapped roundSent recordTests sampleTests stateAfter deliveredBy roundAfter latestRaised lowerReduced lowerAfter latestAfter recordOf recordNext mostNext roundNext lowerNext modelOf modelNext isFull eventNumber limitedAfter cycleNew stayFrom freshNumber freshCycle cycleTests numberAt lowBytes wordsAt allBytes N.modelOf N.modelWords cycleOf cycleWords paramsOf recordFits recordFrom wordsFrom recordWords sampleFits sampleOf ackedOf askOf readOf readMore enterOf startTurn sendTurn eventTurn finishTurn judgeTurn askTurn enterTurn changeTurn turnOf sameWords isState encodesNone turnAt answerWords answersTo leftBy answersFrom wordsLeft modelRow answersOut stateOut orShort answered otherNumber numberOf otherNext nextOf after isReduced inflightTurn exactly judgeStep enterStep changeStep stepOf begun afterStep stateFrom stepsFrom walk exactStep exactWalk exactAfter exactRuns lowWord
+unfolding secondExamples scaled scaledF64 roundAway timesF32 Ieee.round Ieee.ofBits Ieee.toBits Ieee.sub Ieee.mul Ieee.ofInt Ieee.toUnsigned Ieee.eq Ieee.le maxGet maxUpdate roundsSent endsRound roundsFull roundsEnded roundsAcked settled within paramsOk roundOk modelTests rowOf withRounds withRound withLower withMoment modelNew startNumber startModel storedNumber givenNumber sentNumber sentNext lowerCapped roundSent eventTests sampleTests stateAfter deliveredBy roundAfter latestRaised lowerReduced lowerAfter latestAfter eventAfter eventNext maxbwNext roundNext lowerNext modelAfter modelNext isFull eventNumber cwndlimitedAfter cycleNew stayFrom freshNumber freshCycle cycleTests numberAt lowBytes wordsAt allBytes N.modelFrom N.modelWords cycleFrom cycleWords paramsFrom eventFits eventFromWord wordsFrom eventWords sampleFits sampleFrom ackedOf askOf readOf readMore enterOf startOutcome sendOutcome eventOutcome finishOutcome judgeOutcome askOutcome enterOutcome changeOutcome outcomeOf sameWords isState encodesNone outcomeAt answerWords answersTo leftBy answersFrom wordsLeft modelRow answersOut stateOut orShort answered otherNumber numberOf otherNext nextOf after isReduced inflightEffect exactly judgeStep enterStep changeStep stepOf begun afterStep stateFrom stepsFrom walk exactStep exactWalk exactAfter exactRuns lowWord
 second-examples = refl
 
 pub third-examples : all thirdExamples ≡ true
-unfolding thirdExamples scaled scaledF64 roundAway timesF32 Ieee.round Ieee.ofBits Ieee.toBits Ieee.sub Ieee.mul Ieee.ofInt Ieee.toUnsigned Ieee.eq Ieee.le maxGet maxUpdate roundsSent endsRound roundsFull roundsEnded roundsAcked settled within paramsOk roundOk modelTests rowOf withRounds withRound withLower withMoment modelNew startNumber startModel storedNumber givenNumber sentNumber sentNext lowerCapped roundSent recordTests sampleTests stateAfter deliveredBy roundAfter latestRaised lowerReduced lowerAfter latestAfter recordOf recordNext mostNext roundNext lowerNext modelOf modelNext isFull eventNumber limitedAfter cycleNew stayFrom freshNumber freshCycle cycleTests numberAt lowBytes wordsAt allBytes N.modelOf N.modelWords cycleOf cycleWords paramsOf recordFits recordFrom wordsFrom recordWords sampleFits sampleOf ackedOf askOf readOf readMore enterOf startTurn sendTurn eventTurn finishTurn judgeTurn askTurn enterTurn changeTurn turnOf sameWords isState encodesNone turnAt answerWords answersTo leftBy answersFrom wordsLeft modelRow answersOut stateOut orShort answered otherNumber numberOf otherNext nextOf after isReduced inflightTurn exactly judgeStep enterStep changeStep stepOf begun afterStep stateFrom stepsFrom walk exactStep exactWalk exactAfter exactRuns lowWord
+unfolding thirdExamples scaled scaledF64 roundAway timesF32 Ieee.round Ieee.ofBits Ieee.toBits Ieee.sub Ieee.mul Ieee.ofInt Ieee.toUnsigned Ieee.eq Ieee.le maxGet maxUpdate roundsSent endsRound roundsFull roundsEnded roundsAcked settled within paramsOk roundOk modelTests rowOf withRounds withRound withLower withMoment modelNew startNumber startModel storedNumber givenNumber sentNumber sentNext lowerCapped roundSent eventTests sampleTests stateAfter deliveredBy roundAfter latestRaised lowerReduced lowerAfter latestAfter eventAfter eventNext maxbwNext roundNext lowerNext modelAfter modelNext isFull eventNumber cwndlimitedAfter cycleNew stayFrom freshNumber freshCycle cycleTests numberAt lowBytes wordsAt allBytes N.modelFrom N.modelWords cycleFrom cycleWords paramsFrom eventFits eventFromWord wordsFrom eventWords sampleFits sampleFrom ackedOf askOf readOf readMore enterOf startOutcome sendOutcome eventOutcome finishOutcome judgeOutcome askOutcome enterOutcome changeOutcome outcomeOf sameWords isState encodesNone outcomeAt answerWords answersTo leftBy answersFrom wordsLeft modelRow answersOut stateOut orShort answered otherNumber numberOf otherNext nextOf after isReduced inflightEffect exactly judgeStep enterStep changeStep stepOf begun afterStep stateFrom stepsFrom walk exactStep exactWalk exactAfter exactRuns lowWord
 third-examples = refl

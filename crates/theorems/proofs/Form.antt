@@ -32,8 +32,8 @@ use Rattle.state.specs.Cycle.{waitOk, upBytesOk, cycleTests, cycleOk}
 use Rattle.words.proofs.Laws.{AllWords}
 use Rattle.words.specs.Word.{outside, flagWord, flagOf, floatWord}
 use Rattle.layout.specs.Maybe.{isUnset, numberIn, bandwidthMaybe, bandwidthOf}
-use Rattle.layout.specs.NetworkModel.{endMaybe, modelOf, modelWords}
-use Rattle.layout.specs.Cycle.{phaseWord, waitLengthMaybe, upBytesMaybe, cycleOf, cycleWords}
+use Rattle.layout.specs.NetworkModel.{endMaybe, modelFrom, modelWords}
+use Rattle.layout.specs.Cycle.{phaseWord, waitLengthMaybe, upBytesMaybe, cycleFrom, cycleWords}
 use Rattle.layout.proofs.Laws.{float-fits}
 use Rattle.drift.specs.Calls.{State}
 use Rattle.theorems.proofs.Choice.{either}
@@ -76,13 +76,13 @@ FreeModel m = Free (m .rounds) (m .round .losses) (m .growth .flat) (m .growth .
 
 -- what `modelOk` bounds
 pub record Bound (m : NetworkModel) : Type 0 where
-  pub slot0 : Word (m .most .slot0 .0)
-  pub slot1 : Word (m .most .slot1 .0)
-  pub rtt : Word (m .least .rtt .0)
-  pub timestamp : Word (m .least .timestamp .0)
+  pub slot0 : Word (m .maxbw .slot0 .0)
+  pub slot1 : Word (m .maxbw .slot1 .0)
+  pub rtt : Word (m .minrtt .rtt .0)
+  pub timestamp : Word (m .minrtt .timestamp .0)
   pub lost : Word (m .round .lost)
   pub delivered : Word (m .round .delivered)
-  pub least : Word (m .round .least)
+  pub mininflight : Word (m .round .mininflight)
   pub bandwidth : Word (m .latest .bandwidth .0)
   pub inflight : Word (m .latest .inflight)
   pub lowBandwidth : BandwidthForm (m .lower .bandwidth)
@@ -155,16 +155,16 @@ bound-ok m h =
     let totals = all-at (modelTests m) 9 h in
     let r = m .round in
     let t = m .totals in
-    let sums = and-left (totalOk (r .lost) && totalOk (r .delivered) && bytesOrUnsetOk (r .least)) (leb (r .lost) (t .lost)) (and-left (totalOk (r .lost) && totalOk (r .delivered) && bytesOrUnsetOk (r .least) && leb (r .lost) (t .lost)) (leb (r .delivered) (t .acked)) round) in
-    let both = and-left (totalOk (r .lost) && totalOk (r .delivered)) (bytesOrUnsetOk (r .least)) sums in
+    let sums = and-left (totalOk (r .lost) && totalOk (r .delivered) && bytesOrUnsetOk (r .mininflight)) (leb (r .lost) (t .lost)) (and-left (totalOk (r .lost) && totalOk (r .delivered) && bytesOrUnsetOk (r .mininflight) && leb (r .lost) (t .lost)) (leb (r .delivered) (t .acked)) round) in
+    let both = and-left (totalOk (r .lost) && totalOk (r .delivered)) (bytesOrUnsetOk (r .mininflight)) sums in
     record {
-      slot0 = bytes-word _ (and-left (bandwidthOk (m .most .slot0)) (bandwidthOk (m .most .slot1)) most);
-      slot1 = bytes-word _ (and-right (bandwidthOk (m .most .slot0)) (bandwidthOk (m .most .slot1)) most);
-      rtt = length-word _ (and-left (lengthOk (m .least .rtt)) (momentOk (m .least .timestamp)) least);
-      timestamp = total-word _ (and-right (lengthOk (m .least .rtt)) (momentOk (m .least .timestamp)) least);
+      slot0 = bytes-word _ (and-left (bandwidthOk (m .maxbw .slot0)) (bandwidthOk (m .maxbw .slot1)) most);
+      slot1 = bytes-word _ (and-right (bandwidthOk (m .maxbw .slot0)) (bandwidthOk (m .maxbw .slot1)) most);
+      rtt = length-word _ (and-left (lengthOk (m .minrtt .rtt)) (momentOk (m .minrtt .timestamp)) least);
+      timestamp = total-word _ (and-right (lengthOk (m .minrtt .rtt)) (momentOk (m .minrtt .timestamp)) least);
       lost = total-word _ (and-left (totalOk (r .lost)) (totalOk (r .delivered)) both);
       delivered = total-word _ (and-right (totalOk (r .lost)) (totalOk (r .delivered)) both);
-      least = unset-word _ (and-right (totalOk (r .lost) && totalOk (r .delivered)) (bytesOrUnsetOk (r .least)) sums);
+      mininflight = unset-word _ (and-right (totalOk (r .lost) && totalOk (r .delivered)) (bytesOrUnsetOk (r .mininflight)) sums);
       bandwidth = bytes-word _ (and-left (bandwidthOk (m .latest .bandwidth)) (bytesOk (m .latest .inflight)) latest);
       inflight = bytes-word _ (and-right (bandwidthOk (m .latest .bandwidth)) (bytesOk (m .latest .inflight)) latest);
       lowBandwidth = maybe-word (m .lower .bandwidth) (and-left (maybeOk (m .lower .bandwidth)) (bytesOrUnsetOk (m .lower .inflight)) lower);
@@ -203,8 +203,8 @@ number-word : (set n : ℕ) → Word n → Word (numberIn set n)
 number-word set n h = either Word (flagOf set) n outside h (omega arith)
 
 module _ (w : List ℕ) (h : AllWords w) where
-  read-free : FreeModel (modelOf w)
-  unfolding modelOf
+  read-free : FreeModel (modelFrom w)
+  unfolding modelFrom
   read-free =
       record {
         count = h 0;
@@ -220,8 +220,8 @@ module _ (w : List ℕ) (h : AllWords w) where
   read-bandwidth : (i j : ℕ) → BandwidthForm (bandwidthOf (getD w i 0) (getD w j 0))
   read-bandwidth i j = let set = getD w i 0 in let n = getD w j 0 in either BandwidthForm (isUnset set n) Unset (Set (record { 0 = numberIn set n })) tt (number-word set n (h j))
 
-  read-bound : Bound (modelOf w)
-  unfolding modelOf
+  read-bound : Bound (modelFrom w)
+  unfolding modelFrom
   read-bound =
       record {
         slot0 = h 4;
@@ -230,7 +230,7 @@ module _ (w : List ℕ) (h : AllWords w) where
         timestamp = h 7;
         lost = h 8;
         delivered = h 10;
-        least = h 11;
+        mininflight = h 11;
         bandwidth = h 13;
         inflight = h 14;
         lowBandwidth = read-bandwidth 15 16;
@@ -244,12 +244,12 @@ module _ (w : List ℕ) (h : AllWords w) where
         moment = h 33;
       }
 
-  read-cycle-free : FreeCycle (cycleOf w)
-  unfolding cycleOf
+  read-cycle-free : FreeCycle (cycleFrom w)
+  unfolding cycleFrom
   read-cycle-free = (h 37, h 38)
 
-  read-cycle-bound : BoundCycle (cycleOf w)
-  unfolding cycleOf
+  read-cycle-bound : BoundCycle (cycleFrom w)
+  unfolding cycleFrom
   read-cycle-bound =
       record {
         entered = h 36;
@@ -260,7 +260,7 @@ module _ (w : List ℕ) (h : AllWords w) where
         acked = h 44;
       }
 
-  pub read-form : InForm (record { model = modelOf w; cycle = cycleOf w })
+  pub read-form : InForm (record { model = modelFrom w; cycle = cycleFrom w })
   read-form = record { free = read-free; bound = read-bound; freeCycle = read-cycle-free; boundCycle = read-cycle-bound }
 
 -- ---- written into words
@@ -311,9 +311,9 @@ model-words m f b =
     let send = bandwidth-words (m .rates .send) (b .send) in
     let ack = bandwidth-words (m .rates .ack) (b .ack) in
     also (f .count) (also (f .sent) (also (end .0) (also (end .1) (also (b .slot0) (also (b .slot1)
-    (also (b .rtt) (also (b .timestamp) (also (b .lost) (also (f .losses) (also (b .delivered) (also (b .least)
-    (also (flag-word (m .round .limited)) (also (b .bandwidth) (also (b .inflight) (also (low .0) (also (low .1) (also (b .lowInflight)
-    (also (b .high) (also (float-word _ (f .cwnd)) (also (float-word _ (f .pacing)) (also (flag-word (m .limited)) (also (flag-word (m .growth .reached)) (also (b .baseline)
+    (also (b .rtt) (also (b .timestamp) (also (b .lost) (also (f .losses) (also (b .delivered) (also (b .mininflight)
+    (also (flag-word (m .round .hilimited)) (also (b .bandwidth) (also (b .inflight) (also (low .0) (also (low .1) (also (b .lowInflight)
+    (also (b .high) (also (float-word _ (f .cwnd)) (also (float-word _ (f .pacing)) (also (flag-word (m .cwndlimited)) (also (flag-word (m .growth .reached)) (also (b .baseline)
     (also (f .flat) (also (f .queueing) (also (flag-word (m .growth .ignore)) (also (send .0) (also (send .1) (also (ack .0)
     (also (ack .1) (also (b .ackedTotal) (also (b .lostTotal) (also (b .moment) none)))))))))))))))))))))))))))))))))
 
@@ -323,7 +323,7 @@ cycle-words y f b =
     let length = wait-words (y .wait .length) (b .length) in
     let up = up-words (y .slope .bytes) (b .bytes) in
     also (phase-word (y .stay .phase)) (also (b .start) (also (b .entered) (also (f .0) (also (f .1) (also (length .0)
-    (also (length .1) (also (b .rounds) (also (up .0) (also (up .1) (also (b .acked) (also (flag-word (y .slope .limited))
+    (also (length .1) (also (b .rounds) (also (up .0) (also (up .1) (also (b .acked) (also (flag-word (y .slope .applimited))
     (also (flag-word (y .advanced)) (also (flag-word (y .probing)) (also (flag-word (y .last .high)) (also (flag-word (y .last .risky)) none)))))))))))))))
 
 pub form-words : (s : State) → InForm s → AllWords (modelWords (s .model) ++ cycleWords (s .cycle))

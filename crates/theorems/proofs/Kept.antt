@@ -18,17 +18,17 @@ use Rattle.filters.specs.RoundTripCounter.{roundsSent, roundsRestart, endsRound
 use Rattle.state.specs.declared.network_model.NetworkModel.{NetworkModel}
 use Rattle.state.specs.declared.params.Params.{Params}
 use Rattle.state.specs.declared.parts.Growth.{Growth}
-use Rattle.state.specs.Answers.{settled, noLength, noMoment}
+use Rattle.state.specs.Answers.{settled, zeroLength, zeroMoment}
 use Rattle.state.specs.Bounds.{bytesOrUnsetOk, gainOk, within}
 use Rattle.state.specs.Refusals.{rowOf}
 use Rattle.state.specs.Parts.{roundOk}
 use Rattle.state.specs.NetworkModel.{modelTests, modelOk}
 use Rattle.state.specs.Parts.{roundNew, roundSent}
-use Rattle.state.specs.NetworkModel.{withMost, withRounds, withRound, withLower, withLeast, withHigh, withGains, withGrowth, withMoment, growthRestarted, modelNew, one, startNumber, startModel, restartNext, capNext, clearInflightNext, clearBandwidthNext, advanceNext}
+use Rattle.state.specs.NetworkModel.{withMaxbw, withRounds, withRound, withLower, withMinrtt, withHigh, withGains, withGrowth, withMoment, growthRestarted, modelNew, one, startNumber, startModel, restartNext, capNext, clearInflightNext, clearBandwidthNext, advanceNext}
 use Rattle.changes.specs.Changes.{sentNext, reachedNext, pacingNext, cwndNext, postponeNext}
 use Rattle.state.proofs.Rows.{none, or-right}
-use Rattle.state.specs.declared.congestion_event.Record.{Record}
-use Rattle.state.specs.declared.congestion_event.Sample.{Sample}
+use Rattle.state.specs.declared.congestion_event.CongestionEvent.{CongestionEvent}
+use Rattle.state.specs.declared.congestion_event.CongestionEventSample.{CongestionEventSample}
 use Rattle.events.specs.Event as E
 use Rattle.judge.specs.Judge as J
 use Rattle.state.specs.declared.cycle.Cycle.{Cycle}
@@ -43,9 +43,9 @@ use lib.Ieee.{binary32}
 use lib.Ieee.Bits.{ofBits-fits}
 use lib.ListN.{getD}
 use Rattle.words.proofs.Laws.{AllWords}
-use Rattle.arguments.specs.Params.{paramsOf}
+use Rattle.arguments.specs.Params.{paramsFrom}
 use Rattle.layout.proofs.Laws.{float-fits}
-use Rattle.dispatch.specs.Turn.{isJudged, isAsked}
+use Rattle.dispatch.specs.Outcome.{isJudged, isAsked}
 use Rattle.theorems.specs.Steps.{Step, begins, makes, keeps, judgeStep, enterStep, changeStep, stepOf, begun, afterStep}
 use Rattle.theorems.proofs.Choice.{arms, either}
 use Rattle.theorems.proofs.Decoded.{state}
@@ -93,7 +93,7 @@ free-restart : (m : NetworkModel) → FreeModel m → FreeModel (restartNext m)
 unfolding restartNext withGrowth withRounds withRound roundsRestart growthRestarted
 free-restart m f = record { count = f .count; sent = f .sent; end = f .sent; losses = omega arith; flat = f .flat; queueing = omega arith; cwnd = f .cwnd; pacing = f .pacing }
 
-free-finish : (m : NetworkModel) (e : Record) → FreeModel m → FreeModel (E.finishNext m e)
+free-finish : (m : NetworkModel) (e : CongestionEvent) → FreeModel m → FreeModel (E.finishNext m e)
 unfolding E.finishNext withRound
 free-finish m e f =
     either FreeModel (e .ended) (withRound m roundNew) m
@@ -104,16 +104,16 @@ free-counted : (m : NetworkModel) (g : Growth) → Word (g .flat) → Word (g .q
 unfolding withGrowth
 free-counted m g p q f = record { count = f .count; sent = f .sent; end = f .end; losses = f .losses; flat = p; queueing = q; cwnd = f .cwnd; pacing = f .pacing }
 
-free-growth : (m : NetworkModel) (p : Params) (e : Record) → J.judgedNumber m p e (J.growthFull m p e) ≡ 0 → FreeModel m → FreeModel (J.growthNext m p e)
+free-growth : (m : NetworkModel) (p : Params) (e : CongestionEvent) → J.judgedNumber m p e (J.growthFull m p e) ≡ 0 → FreeModel m → FreeModel (J.growthNext m p e)
 unfolding J.judgedNumber J.growthFull J.growthNext J.growthAfter J.growthFlat J.flatAfter
-free-growth m p e done f = go (J.hasGrown (m .growth) (maxGet (m .most)) p) (none _ _ _ _ _ done .not-full)
+free-growth m p e done f = go (J.hasGrown (m .growth) (maxGet (m .maxbw)) p) (none _ _ _ _ _ done .not-full)
   where
     flat : (c : Bool) → (c && eqb (m .growth .flat) (2 ^ 64 - 1)) ≡ false → Word (cond c (m .growth .flat + 1) (m .growth .flat))
     flat true h = one-more (m .growth .flat) (f .flat) h
     flat false h = f .flat
 
     go : (t : Bool) → (not t && J.countsFlat (m .growth) (e .state) && eqb (m .growth .flat) (2 ^ 64 - 1)) ≡ false →
-        FreeModel (withGrowth m (cond t (record { reached = m .growth .reached; baseline = maxGet (m .most); flat = 0; queueing = m .growth .queueing; ignore = m .growth .ignore }) (J.growthFlat (m .growth) (e .state) p)))
+        FreeModel (withGrowth m (cond t (record { reached = m .growth .reached; baseline = maxGet (m .maxbw); flat = 0; queueing = m .growth .queueing; ignore = m .growth .ignore }) (J.growthFlat (m .growth) (e .state) p)))
     go true h = free-counted m _ (omega arith) (f .queueing) f
     go false h = free-counted m _ (flat (J.countsFlat (m .growth) (e .state)) h) (f .queueing) f
 
@@ -138,8 +138,8 @@ counted r acked h = go (endsRound (r .end) acked) (eqb (r .count) (2 ^ 64 - 1)) 
     go true false e = (one-more (r .count) (h .0) e, h .1, h .1)
     go false u e = h
 
-free-event : (m : NetworkModel) (p : Params) (e : Record) (s : Sample) (acked : List ℕ) → E.eventNumber m p e s acked ≡ 0 → FreeModel m → FreeModel (E.modelNext m p e s acked)
-unfolding E.eventNumber E.isFull E.modelNext E.modelOf E.recordNext E.recordOf E.roundNext E.roundAfter
+free-event : (m : NetworkModel) (p : Params) (e : CongestionEvent) (s : CongestionEventSample) (acked : List ℕ) → E.eventNumber m p e s acked ≡ 0 → FreeModel m → FreeModel (E.modelNext m p e s acked)
+unfolding E.eventNumber E.isFull E.modelNext E.modelAfter E.eventNext E.eventAfter E.roundNext E.roundAfter
 free-event m p e s acked done f =
     let r = counted (m .rounds) acked (f .count, f .sent, f .end) in
     let lost = losses (ltb 0 (E.bytesLost m s)) (or-right (roundsFull (m .rounds) acked) _ (none _ _ _ _ _ done .not-full)) in
@@ -150,7 +150,7 @@ free-event m p e s acked done f =
     losses false h = f .losses
 
 free-exit : (m : NetworkModel) (y : Cycle) → FreeModel m → FreeModel (exitModel m y)
-unfolding exitModel advanceNext withMost
+unfolding exitModel advanceNext withMaxbw
 free-exit m y f = either FreeModel (y .advanced) m (advanceNext m) f f
 
 free-left : (m : NetworkModel) (y : Cycle) → FreeModel m → FreeModel (leftModel m y)
@@ -218,7 +218,7 @@ module _ (s : State) where
 
   module _ (f : FreeModel m₀) (g : FreeCycle y₀) where
     other-free : (c : Other) → OtherForm c → otherNumber c s ≡ 0 → Freed (otherNext c s)
-    unfolding otherNumber otherNext sentNext withMoment withRounds withRound roundsSent roundSent J.expireNext withLeast reachedNext withGrowth pacingNext cwndNext withGains withHigh advanceNext withMost postponeNext restartedAt downCycle upCycle slopeCycle cycleIn stayFrom
+    unfolding otherNumber otherNext sentNext withMoment withRounds withRound roundsSent roundSent J.expireNext withMinrtt reachedNext withGrowth pacingNext cwndNext withGains withHigh advanceNext withMaxbw postponeNext restartedAt downCycle upCycle slopeCycle cycleIn stayFrom
     other-free (C.sent now inflight packet bytes) h d =
         (record { count = f .count; sent = h; end = f .end; losses = f .losses; flat = f .flat; queueing = f .queueing; cwnd = f .cwnd; pacing = f .pacing }, g)
     other-free (C.finish e) h d = (free-finish m₀ e f, g)
@@ -293,7 +293,7 @@ new-bound cwnd pacing ignore rtt now r t =
       timestamp = t;
       lost = omega arith;
       delivered = omega arith;
-      least = omega arith;
+      mininflight = omega arith;
       bandwidth = omega arith;
       inflight = omega arith;
       lowBandwidth = tt;
@@ -322,15 +322,15 @@ begun-form : (p : Params) (rtt : Duration) (now : Moment) → StepForm (begins p
 unfolding begun startModel freshCycle settled
 begun-form p rtt now g =
     let n = startNumber p rtt now in
-    let fresh = cond (eqb n 0) now noMoment in
-    let t : Word (fresh .0) = either (λ (x : Moment). Word (x .0)) (eqb n 0) now noMoment (g .1) (omega arith) in
+    let fresh = cond (eqb n 0) now zeroMoment in
+    let t : Word (fresh .0) = either (λ (x : Moment). Word (x .0)) (eqb n 0) now zeroMoment (g .1) (omega arith) in
     let done = modelNew (p .cwnd) (p .pacing) (p .ignore) rtt now in
-    let refused = modelNew one one false noLength noMoment in
+    let refused = modelNew one one false zeroLength zeroMoment in
     record {
-      free = either FreeModel (eqb n 0) done refused (new-free _ _ (p .ignore) rtt now (g .2) (g .3)) (new-free _ _ false noLength noMoment one-single one-single);
-      bound = either Bound (eqb n 0) done refused (new-bound (p .cwnd) (p .pacing) (p .ignore) rtt now (g .0) (g .1)) (new-bound one one false noLength noMoment (omega arith) (omega arith));
-      freeCycle = either FreeCycle (eqb (freshNumber fresh) 0) (cycleNew fresh) (cycleNew noMoment) (new-cycle-free fresh) (new-cycle-free noMoment);
-      boundCycle = either BoundCycle (eqb (freshNumber fresh) 0) (cycleNew fresh) (cycleNew noMoment) (new-cycle-bound fresh t) (new-cycle-bound noMoment (omega arith));
+      free = either FreeModel (eqb n 0) done refused (new-free _ _ (p .ignore) rtt now (g .2) (g .3)) (new-free _ _ false zeroLength zeroMoment one-single one-single);
+      bound = either Bound (eqb n 0) done refused (new-bound (p .cwnd) (p .pacing) (p .ignore) rtt now (g .0) (g .1)) (new-bound one one false zeroLength zeroMoment (omega arith) (omega arith));
+      freeCycle = either FreeCycle (eqb (freshNumber fresh) 0) (cycleNew fresh) (cycleNew zeroMoment) (new-cycle-free fresh) (new-cycle-free zeroMoment);
+      boundCycle = either BoundCycle (eqb (freshNumber fresh) 0) (cycleNew fresh) (cycleNew zeroMoment) (new-cycle-bound fresh t) (new-cycle-bound zeroMoment (omega arith));
     }
 
 pub step-kept : (c : Step) (s : State) → StepForm c → InForm s → InForm (afterStep c s)
@@ -340,22 +340,22 @@ step-kept (makes c) s g f = after-kept InForm c s (λ d. next-form c s g d f) f
 step-kept keeps s g f = f
 
 -- a start leaves what is within its bounds, whatever was there, and a refused one too
-refused-within : modelOk (modelNew one one false noLength noMoment) ≡ true
+refused-within : modelOk (modelNew one one false zeroLength zeroMoment) ≡ true
 unfolding modelNew modelTests roundOk within Ieee.ofBits Ieee.le
 refused-within = refl
 
 fresh-within : (t : Moment) → cycleOk (freshCycle t) ≡ true
 unfolding freshCycle freshNumber settled rowOf
-fresh-within t = arms (λ y. cycleOk y ≡ true) (eqb (freshNumber t) 0) (cycleNew t) (cycleNew noMoment) (λ e. P.fresh-kept t (eqb-true (freshNumber t) 0 e)) (λ e. P.fresh-kept noMoment refl)
+fresh-within t = arms (λ y. cycleOk y ≡ true) (eqb (freshNumber t) 0) (cycleNew t) (cycleNew zeroMoment) (λ e. P.fresh-kept t (eqb-true (freshNumber t) 0 e)) (λ e. P.fresh-kept zeroMoment refl)
 
 pub begun-within : (p : Params) (rtt : Duration) (now : Moment) → Within (begun p rtt now)
 unfolding begun startModel settled
 begun-within p rtt now =
     let n = startNumber p rtt now in (
-      arms (λ m. modelOk m ≡ true) (eqb n 0) (modelNew (p .cwnd) (p .pacing) (p .ignore) rtt now) (modelNew one one false noLength noMoment)
+      arms (λ m. modelOk m ≡ true) (eqb n 0) (modelNew (p .cwnd) (p .pacing) (p .ignore) rtt now) (modelNew one one false zeroLength zeroMoment)
           (λ e. M.start-kept p rtt now (eqb-true n 0 e))
           (λ e. refused-within),
-      fresh-within (settled n now noMoment),
+      fresh-within (settled n now zeroMoment),
     )
 
 pub step-within : (c : Step) (s : State) → StepForm c → Within s → Within (afterStep c s)
@@ -366,12 +366,12 @@ step-within keeps s g h = h
 
 -- ---- what is read from words is in form
 module _ (w : List ℕ) (h : AllWords w) where
-  beta-single : Single (paramsOf w .beta)
-  unfolding paramsOf
+  beta-single : Single (paramsFrom w .beta)
+  unfolding paramsFrom
   beta-single = float-fits (getD w 38 0)
 
-  gains-single : Single (paramsOf w .cwnd) × Single (paramsOf w .pacing)
-  unfolding paramsOf
+  gains-single : Single (paramsFrom w .cwnd) × Single (paramsFrom w .pacing)
+  unfolding paramsFrom
   gains-single = (float-fits (getD w 42 0), float-fits (getD w 43 0))
 
   judge-form : StepForm (judgeStep w)

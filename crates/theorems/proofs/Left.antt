@@ -13,19 +13,19 @@ use Rattle.state.specs.Cycle.{cycleOk}
 use Rattle.words.specs.Words.{numberAt, wordsAt, allBytes}
 use Rattle.words.proofs.Laws.{AllWords, length-allBytes, words-of}
 use Rattle.words.proofs.Stores.{sets-whole}
-use Rattle.layout.specs.NetworkModel.{modelOf}
-use Rattle.layout.specs.Cycle.{cycleOf}
-use Rattle.arguments.specs.Params.{paramsOf}
+use Rattle.layout.specs.NetworkModel.{modelFrom}
+use Rattle.layout.specs.Cycle.{cycleFrom}
+use Rattle.arguments.specs.Params.{paramsFrom}
 use Rattle.arguments.proofs.RoundTrip.{round-trip}
 use Rattle.guovssalu.specs.Reply.{answered}
-use Rattle.guovssalu.specs.ModelRun.{stateIn, encodesNone, callsIn, turnAt, leftBy, wordsLeft, modelRow, stateOut}
+use Rattle.guovssalu.specs.ModelRun.{stateIn, encodesNone, callsIn, outcomeAt, leftBy, wordsLeft, modelRow, stateOut}
 use Rattle.layout.specs.StateWords.{stateWords, sameWords, isState}
 use Rattle.dispatch.specs.OneCall.{callAt}
 use Rattle.guovssalu.proofs.ModelRun.{length-words-left, run-whole}
 use Rattle.drift.specs.Calls.{State}
-use Rattle.theorems.specs.Steps.{moment, duration, stateLeft, turnIn, stepOf, afterStep, stepsFrom, walk}
+use Rattle.theorems.specs.Steps.{moment, duration, stateLeft, outcomeIn, stepOf, afterStep, stepsFrom, walk}
 use Rattle.theorems.specs.Runs.{Run, Ran, AreBytes, stateFrom, isWithin, count, call, before, Starts}
-use Rattle.theorems.proofs.Decoded.{state, every-turn}
+use Rattle.theorems.proofs.Decoded.{state, every-outcome}
 use Rattle.theorems.proofs.Exported.{run-is}
 use Rattle.theorems.proofs.Form.{InForm, read-form, form-words}
 use Rattle.theorems.proofs.Kept.{Within, step-form, step-kept, step-within, begun-within}
@@ -51,11 +51,11 @@ abbrev wordsOf : State → List ℕ
 wordsOf s = stateWords (s .model) (s .cycle)
 
 left-walk : (calls : List ℕ) (at n : ℕ) (s : State) → leftBy (s .model) (s .cycle) calls at n ≡ wordsOf (walk (stepsFrom calls at n) s)
-unfolding leftBy stepsFrom walk turnAt
+unfolding leftBy stepsFrom walk outcomeAt
 left-walk calls at zero s = refl
 left-walk calls at (suc n) s =
-    left-walk calls (at + 392) n (stateLeft (turnIn (callAt calls at) s))
-    ∙ ap (λ (z : State). wordsOf (walk (stepsFrom calls (at + 392) n) z)) (every-turn (callAt calls at) s .leaves)
+    left-walk calls (at + 392) n (stateLeft (outcomeIn (callAt calls at) s))
+    ∙ ap (λ (z : State). wordsOf (walk (stepsFrom calls (at + 392) n) z)) (every-outcome (callAt calls at) s .leaves)
 
 -- what every step keeps the calls keep
 walk-kept : (Q : State → Type 0) (calls : List ℕ) → ((at : ℕ) (s : State) → Q s → Q (afterStep (stepOf (callAt calls at)) s)) → (at n : ℕ) (s : State) → Q s → Q (walk (stepsFrom calls at n) s)
@@ -81,8 +81,8 @@ read-back : (s : State) → InForm s → stateFrom (allBytes (wordsOf s)) ≡ s
 unfolding stateFrom
 read-back s f =
     let e = written s f in
-    let m = ap modelOf e ∙ round-trip .model (s .model) (s .cycle) (f .free .cwnd) (f .free .pacing) in
-    let y = ap cycleOf e ∙ round-trip .cycle (s .model) (s .cycle) in
+    let m = ap modelFrom e ∙ round-trip .model (s .model) (s .cycle) (f .free .cwnd) (f .free .pacing) in
+    let y = ap cycleFrom e ∙ round-trip .cycle (s .model) (s .cycle) in
     λ i. state (m i) (y i)
 
 -- and once more
@@ -139,4 +139,4 @@ module _ (r : Run) (ran : Ran r) (done : r .reply ≡ 0) where
         go zero l = absurd (omega (arith, l))
         go (suc n) l =
             walk-within (r .calls) bytes 392 n _
-            (rw (h .first) (begun-within (paramsOf (call r 0)) (duration (getD (call r 0) 2 0)) (moment (getD (call r 0) 1 0))))
+            (rw (h .first) (begun-within (paramsFrom (call r 0)) (duration (getD (call r 0) 2 0)) (moment (getD (call r 0) 1 0))))

@@ -11,13 +11,13 @@ use borrow.Author.Tests.{eqb-true, eqb-false}
 use Rattle.units.specs.declared.time.Duration.{Duration}
 use Rattle.units.specs.declared.time.Moment.{Moment}
 use Rattle.state.specs.declared.params.Params.{Params}
-use Rattle.state.specs.Answers.{settled, noMoment}
+use Rattle.state.specs.Answers.{settled, zeroMoment}
 use Rattle.state.specs.NetworkModel.{startNumber}
 use Rattle.state.specs.declared.cycle.Cycle.{Cycle}
 use Rattle.state.specs.Cycle.{freshCycle}
-use Rattle.arguments.specs.Params.{paramsOf}
+use Rattle.arguments.specs.Params.{paramsFrom}
 use Rattle.drift.specs.Calls.{Call, State, numberOf, after, run, started}
-use Rattle.drift.specs.Exact.{Turn, stays, Exact, unset, exactly, exactRun}
+use Rattle.drift.specs.Exact.{Effect, stays, Exact, unset, exactly, exactRun}
 use Rattle.drift.specs.Drift.{Along}
 use Rattle.theorems.specs.Steps.{Step, begins, makes, keeps, moment, duration, stepOf, begun, afterStep, stepsFrom, walk, exactStep, exactWalk}
 use Rattle.theorems.specs.Runs.{Run, Ran, AreBytes, stateFrom, count, call, before, Starts, Each, Chained, InOrder, exactAfter, exactRuns, exactBefore}
@@ -51,11 +51,11 @@ unfolding run
 along-more P [] c s h p = (p, tt)
 along-more P (d ∷ calls) c s h p = (h .0, along-more P calls c (after d s) (h .1) p)
 
-module _ (turn : Call → State → Turn) (parts : ℕ) (P : Call → Type 0) where
-  exact-more : (calls : List Call) (c : Call) (s : State) (x : Exact) → exactRun turn parts (calls ++ (c ∷ [])) s x ≡ exactStep turn parts (makes c) (run calls s) (exactRun turn parts calls s x)
+module _ (effect : Call → State → Effect) (parts : ℕ) (P : Call → Type 0) where
+  exact-more : (calls : List Call) (c : Call) (s : State) (x : Exact) → exactRun effect parts (calls ++ (c ∷ [])) s x ≡ exactStep effect parts (makes c) (run calls s) (exactRun effect parts calls s x)
   unfolding run exactRun exactStep
   exact-more [] c s x = refl
-  exact-more (d ∷ calls) c s x = exact-more calls c (after d s) (exactly parts (settled (numberOf d s) (turn d s) stays) x)
+  exact-more (d ∷ calls) c s x = exact-more calls c (after d s) (exactly parts (settled (numberOf d s) (effect d s) stays) x)
 
   -- ---- where a run from a start ends, with its exact value
   pub record Reached (s : State) (x : Exact) : Type 0 where
@@ -65,15 +65,15 @@ module _ (turn : Call → State → Turn) (parts : ℕ) (P : Call → Type 0) wh
     pub cycle : Cycle
     pub calls : List Call
     pub here : s ≡ run calls (started params rtt now cycle)
-    pub exact : x ≡ exactRun turn parts calls (started params rtt now cycle) unset
+    pub exact : x ≡ exactRun effect parts calls (started params rtt now cycle) unset
     pub along : Along P calls (started params rtt now cycle)
 
   reached-start : (p : Params) (rtt : Duration) (now : Moment) → Reached (begun p rtt now) unset
   unfolding begun started run exactRun
   reached-start p rtt now =
-      record { params = p; rtt = rtt; now = now; cycle = freshCycle (settled (startNumber p rtt now) now noMoment); calls = []; here = refl; exact = refl; along = tt }
+      record { params = p; rtt = rtt; now = now; cycle = freshCycle (settled (startNumber p rtt now) now zeroMoment); calls = []; here = refl; exact = refl; along = tt }
 
-  reached-step : (c : Step) (s : State) (x : Exact) → OfStep P c s → Reached s x → Reached (afterStep c s) (exactStep turn parts c s x)
+  reached-step : (c : Step) (s : State) (x : Exact) → OfStep P c s → Reached s x → Reached (afterStep c s) (exactStep effect parts c s x)
   unfolding afterStep exactStep
   reached-step (begins p rtt now) s x h r = reached-start p rtt now
   reached-step (makes c) s x h r =
@@ -85,23 +85,23 @@ module _ (turn : Call → State → Turn) (parts : ℕ) (P : Call → Type 0) wh
         cycle = r .cycle;
         calls = r .calls ++ (c ∷ []);
         here = ap (after c) (r .here) ∙ sym (run-more (r .calls) c s₀);
-        exact = (λ i. exactStep turn parts (makes c) (r .here i) (r .exact i)) ∙ sym (exact-more (r .calls) c s₀ unset);
+        exact = (λ i. exactStep effect parts (makes c) (r .here i) (r .exact i)) ∙ sym (exact-more (r .calls) c s₀ unset);
         along = along-more P (r .calls) c s₀ (r .along) (subst (λ (z : State). numberOf c z ≡ 0 → P c) (r .here) h);
       }
   reached-step keeps s x h r = r
 
-  reached-walk : (steps : List Step) (s : State) (x : Exact) → AlongSteps P steps s → Reached s x → Reached (walk steps s) (exactWalk turn parts steps s x)
+  reached-walk : (steps : List Step) (s : State) (x : Exact) → AlongSteps P steps s → Reached s x → Reached (walk steps s) (exactWalk effect parts steps s x)
   unfolding walk exactWalk
   reached-walk [] s x h r = r
-  reached-walk (c ∷ steps) s x h r = reached-walk steps (afterStep c s) (exactStep turn parts c s x) (h .1) (reached-step c s x (h .0) r)
+  reached-walk (c ∷ steps) s x h r = reached-walk steps (afterStep c s) (exactStep effect parts c s x) (h .1) (reached-step c s x (h .0) r)
 
   -- whatever was there before a start
   reached-first : (c : Step) (steps : List Step) (s : State) (x : Exact) (p : Params) (rtt : Duration) (now : Moment) → c ≡ begins p rtt now → AlongSteps P (c ∷ steps) s
-      → Reached (walk (c ∷ steps) s) (exactWalk turn parts (c ∷ steps) s x)
+      → Reached (walk (c ∷ steps) s) (exactWalk effect parts (c ∷ steps) s x)
   unfolding walk exactWalk afterStep exactStep
   reached-first c steps s x p rtt now e h =
-      reached-walk steps (afterStep c s) (exactStep turn parts c s x) (h .1)
-      (subst (λ (d : Step). Reached (afterStep d s) (exactStep turn parts d s x)) (sym e) (reached-start p rtt now))
+      reached-walk steps (afterStep c s) (exactStep effect parts c s x) (h .1)
+      (subst (λ (d : Step). Reached (afterStep d s) (exactStep effect parts d s x)) (sym e) (reached-start p rtt now))
 
   -- ---- one run of the exported function
   pub record Fair (r : Run) : Type 0 where
@@ -111,20 +111,20 @@ module _ (turn : Call → State → Turn) (parts : ℕ) (P : Call → Type 0) wh
     pub along : r .reply ≡ 0 → AlongSteps P (stepsFrom (r .calls) 0 (count r)) (stateFrom (r .state))
 
   abbrev Middle : Run → ℕ → Exact → Type 0
-  Middle r i x = Reached (before r i) (exactBefore turn parts r i x)
+  Middle r i x = Reached (before r i) (exactBefore effect parts r i x)
 
   -- after it; and before each of its calls that is no start
   pub record Made (r : Run) (x : Exact) : Type 0 where
-    pub after : Reached (stateFrom (r .left)) (exactAfter turn parts r x)
+    pub after : Reached (stateFrom (r .left)) (exactAfter effect parts r x)
     pub middle : r .reply ≡ 0 → (i : ℕ) → i < count r → (getD (call r i) 0 0 ≡ 0 → ⊥) → Middle r i x
 
-  done-after : (r : Run) (x : Exact) → Fair r → r .reply ≡ 0 → Middle r (count r) x → Reached (stateFrom (r .left)) (exactAfter turn parts r x)
+  done-after : (r : Run) (x : Exact) → Fair r → r .reply ≡ 0 → Middle r (count r) x → Reached (stateFrom (r .left)) (exactAfter effect parts r x)
   unfolding exactAfter settled
   done-after r x f done h =
       rw done
-      (subst (λ (z : State). Reached z (exactBefore turn parts r (count r) x)) (sym (left-back r (f .ran) done (from-form (r .state) (f .state)) (f .calls))) h)
+      (subst (λ (z : State). Reached z (exactBefore effect parts r (count r) x)) (sym (left-back r (f .ran) done (from-form (r .state) (f .state)) (f .calls))) h)
 
-  refused-after : (r : Run) (x : Exact) → Fair r → eqb (r .reply) 0 ≡ false → Reached (stateFrom (r .state)) x → Reached (stateFrom (r .left)) (exactAfter turn parts r x)
+  refused-after : (r : Run) (x : Exact) → Fair r → eqb (r .reply) 0 ≡ false → Reached (stateFrom (r .state)) x → Reached (stateFrom (r .left)) (exactAfter effect parts r x)
   unfolding exactAfter settled
   refused-after r x f e h = rw e (subst (λ (l : List ℕ). Reached (stateFrom l) x) (sym (run-keeps r (f .ran) (eqb-false (r .reply) 0 e) .0)) h)
 
@@ -134,11 +134,11 @@ module _ (turn : Call → State → Turn) (parts : ℕ) (P : Call → Type 0) wh
       middle : r .reply ≡ 0 → (i : ℕ) → i ≤ count r → Middle r i x
       middle done i l = reached-walk _ (stateFrom (r .state)) x (along-before P (r .calls) 0 i (count r) _ l (f .along done)) h
 
-      go : (t : Bool) → eqb (r .reply) 0 ≡ t → Reached (stateFrom (r .left)) (exactAfter turn parts r x)
+      go : (t : Bool) → eqb (r .reply) 0 ≡ t → Reached (stateFrom (r .left)) (exactAfter effect parts r x)
       go true e = let done = eqb-true (r .reply) 0 e in done-after r x f done (middle done (count r) (omega arith))
       go false e = refused-after r x f e h
 
-  first-step : (w : List ℕ) → getD w 0 0 ≡ 0 → stepOf w ≡ begins (paramsOf w) (duration (getD w 2 0)) (moment (getD w 1 0))
+  first-step : (w : List ℕ) → getD w 0 0 ≡ 0 → stepOf w ≡ begins (paramsFrom w) (duration (getD w 2 0)) (moment (getD w 1 0))
   unfolding stepOf
   first-step w e = rw e
 
@@ -161,20 +161,20 @@ module _ (turn : Call → State → Turn) (parts : ℕ) (P : Call → Type 0) wh
       some (suc i) other = omega arith
 
   -- ---- all runs
-  chained : (runs : List Run) (r : Run) (bytes : List ℕ) (x : Exact) → Chained bytes (runs ++ (r ∷ [])) → Each Fair (runs ++ (r ∷ [])) → Reached (stateFrom bytes) x → Made r (exactRuns turn parts runs x)
+  chained : (runs : List Run) (r : Run) (bytes : List ℕ) (x : Exact) → Chained bytes (runs ++ (r ∷ [])) → Each Fair (runs ++ (r ∷ [])) → Reached (stateFrom bytes) x → Made r (exactRuns effect parts runs x)
   unfolding exactRuns
   chained [] r bytes x c f h = later r x (f .0) (subst (λ (l : List ℕ). Reached (stateFrom l) x) (sym (c .0)) h)
   chained (q ∷ runs) r bytes x c f h =
-      chained runs r (q .left) (exactAfter turn parts q x) (c .1) (f .1) (later q x (f .0) (subst (λ (l : List ℕ). Reached (stateFrom l) x) (sym (c .0)) h) .after)
+      chained runs r (q .left) (exactAfter effect parts q x) (c .1) (f .1) (later q x (f .0) (subst (λ (l : List ℕ). Reached (stateFrom l) x) (sym (c .0)) h) .after)
 
-  pub all-made : (runs : List Run) (r : Run) → InOrder (runs ++ (r ∷ [])) → Each Fair (runs ++ (r ∷ [])) → Made r (exactRuns turn parts runs unset)
+  pub all-made : (runs : List Run) (r : Run) → InOrder (runs ++ (r ∷ [])) → Each Fair (runs ++ (r ∷ [])) → Made r (exactRuns effect parts runs unset)
   unfolding exactRuns
   all-made [] r o f = first r unset (f .0) (o .0)
-  all-made (q ∷ runs) r o f = chained runs r (q .left) (exactAfter turn parts q unset) (o .1) (f .1) (first q unset (f .0) (o .0) .after)
+  all-made (q ∷ runs) r o f = chained runs r (q .left) (exactAfter effect parts q unset) (o .1) (f .1) (first q unset (f .0) (o .0) .after)
 
   -- what holds of every run of calls from a start holds of what is reached
   pub of-reached : (Q : State → Exact → Type 0)
-      → ((p : Params) (rtt : Duration) (now : Moment) (y : Cycle) (calls : List Call) → Along P calls (started p rtt now y) → Q (run calls (started p rtt now y)) (exactRun turn parts calls (started p rtt now y) unset))
+      → ((p : Params) (rtt : Duration) (now : Moment) (y : Cycle) (calls : List Call) → Along P calls (started p rtt now y) → Q (run calls (started p rtt now y)) (exactRun effect parts calls (started p rtt now y) unset))
       → (s : State) (x : Exact) → Reached s x → Q s x
   of-reached Q theorem s x r =
       let s₀ = started (r .params) (r .rtt) (r .now) (r .cycle) in

@@ -19,7 +19,7 @@ use Rattle.theorems.specs.Steps.{moment}
 use Rattle.theorems.specs.Theorems.{Theorems}
 use Rattle.theorems.proofs.Casts.{casts}
 use Rattle.theorems.proofs.Answered.{answer-bytes}
-use Rattle.theorems.proofs.Decoded.{every-turn}
+use Rattle.theorems.proofs.Decoded.{every-outcome}
 use Rattle.theorems.proofs.Exported as exported
 use Rattle.theorems.proofs.Follow as follow
 use Rattle.theorems.proofs.Left.{left-whole, from-form, left-within, started-within, left-taken}
@@ -75,7 +75,7 @@ theorems =
       conversions = exported.conversions;
       casts = casts;
       one-outcome = exported.one-outcome;
-      turns = every-turn;
+      steps = every-outcome;
       numbers = every-number;
       examples = marked-examples;
       inflight = follow.inflight;

@@ -10,7 +10,7 @@ use Rattle.words.specs.Words.{allBytes}
 use Rattle.dispatch.specs.Examples.{same, zeros}
 use Rattle.guovssalu.specs.ModelRun.{modelRow, stateOut, answersOut}
 use Rattle.guovssalu.specs.Examples.{params, startAt, sends}
-use Rattle.drift.specs.Exact.{Exact, unset, over, inflightTurn}
+use Rattle.drift.specs.Exact.{Exact, unset, over, inflightEffect}
 use Rattle.drift.specs.Drift.{usualParts}
 use Rattle.theorems.specs.Runs.{Run, exactAfter}
 
@@ -63,7 +63,7 @@ unfoldable pub firstExamples : List Bool
 firstExamples =
     eqb (first .reply) 0
     ∷ same (first .left) (allBytes (after 1 910))
-    ∷ isOver (1300 * usualParts) 24 1 (exactAfter inflightTurn usualParts first unset)
+    ∷ isOver (1300 * usualParts) 24 1 (exactAfter inflightEffect usualParts first unset)
     ∷ []
 
 -- the question is answered 910, the two bad calls 2, the last question 637; beside it 1300 b b after two reductions
@@ -80,7 +80,7 @@ secondExamples =
     ++ (zeros 3 ++ (1300 ∷ 0 ∷ 0 ∷ 1 ∷ 1 ∷ 1 ∷ 0 ∷ 1 ∷ 1 ∷ []) ++ zeros 6)
     ++ (0 ∷ 637 ∷ zeros 16)))
     ∷ isOver (1300 * usualParts * usualParts) 48 2
-    (exactAfter inflightTurn usualParts second (over (1300 * usualParts) 24 1))
+    (exactAfter inflightEffect usualParts second (over (1300 * usualParts) 24 1))
     ∷ []
 
 -- the run that is refused leaves the bytes, and the exact value
@@ -88,5 +88,5 @@ unfoldable pub thirdExamples : List Bool
 thirdExamples =
     eqb (third .reply) 2
     ∷ same (third .left) (allBytes (after 2 637))
-    ∷ isOver 9 48 2 (exactAfter inflightTurn usualParts third (over 9 48 2))
+    ∷ isOver 9 48 2 (exactAfter inflightEffect usualParts third (over 9 48 2))
     ∷ []

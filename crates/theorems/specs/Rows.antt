@@ -9,7 +9,7 @@ use Rattle.units.specs.declared.bandwidth.Bandwidth.{Bandwidth}
 use Rattle.state.specs.Params.{paramsOk}
 use Rattle.state.specs.Bounds.{bytesOk, bytesOrUnsetOk, bandwidthOk, lengthOk, momentOk, gainOk}
 use Rattle.changes.specs.Changes.{sentRows, postponed}
-use Rattle.state.specs.CongestionEvent.{recordOk}
+use Rattle.state.specs.CongestionEvent.{eventOk}
 use Rattle.state.specs.Cycle.{roundsOk}
 use Rattle.state.specs.declared.refusals.Rows.{Rows}
 use Rattle.state.specs.NetworkModel.{startRows, storedRows, givenRows, judgedRows}
@@ -17,9 +17,9 @@ use Rattle.events.specs.Event.{eventRows}
 use Rattle.judge.specs.Judge.{growthRows, queueRows}
 use Rattle.phases.specs.Phases.{entryRows, exitRows, slopeRows}
 use Rattle.words.specs.Word.{word, floatOf}
-use Rattle.arguments.specs.Params.{paramsOf}
-use Rattle.arguments.specs.Record.{recordOf}
-use Rattle.arguments.specs.Sample.{sampleOf, ackedOf}
+use Rattle.arguments.specs.Params.{paramsFrom}
+use Rattle.arguments.specs.CongestionEvent.{eventFrom}
+use Rattle.arguments.specs.Sample.{sampleFrom, ackedOf}
 use Rattle.calls.specs.Enter.{downAt}
 use Rattle.drift.specs.Calls.{State}
 use Rattle.theorems.specs.Steps.{moment, duration}
@@ -36,15 +36,15 @@ rowsOf w s =
     let n = word w 0 in
     let m = s .model in
     let y = s .cycle in
-    let p = paramsOf w in
-    let e = recordOf w in
+    let p = paramsFrom w in
+    let e = eventFrom w in
     cond (isGivenNothing n) (storedRows m)
     (cond (eqb n 0)
     (startRows p (duration (word w 2)) (moment (word w 1)))
     (cond (eqb n 1) (sentRows m (moment (word w 1)) (word w 2) (word w 4))
-    (cond (eqb n 3) (eventRows m p e (sampleOf w) (ackedOf w))
-    (cond (eqb n 4) (givenRows m (recordOk e))
-    (cond (eqb n 5 || eqb n 6) (judgedRows m p (recordOk e) false)
+    (cond (eqb n 3) (eventRows m p e (sampleFrom w) (ackedOf w))
+    (cond (eqb n 4) (givenRows m (eventOk e))
+    (cond (eqb n 5 || eqb n 6) (judgedRows m p (eventOk e) false)
     (cond (eqb n 7) (growthRows m p e)
     (cond (eqb n 9) (queueRows m p (floatOf (word w 1)))
     (cond (eqb n 10) (givenRows m (bandwidthOk (bandwidth (word w 1)) && gainOk (floatOf (word w 2))))

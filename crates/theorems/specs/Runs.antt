@@ -1,6 +1,6 @@
 -- The exported calls on lent bytes, of which no more is known than their contracts, and runs of `guovssalu_run` one
 -- after the other on the same state (docs/LAYOUT.md). Definitions only.
--- `word w i` is word i of a list of words, `Bytes.word l i` the word in the 8 bytes of l from byte i on.
+-- `word w i` is word i of a list of words, `Bytes.wordAt l i` the word in the 8 bytes of l from byte i on.
 -- Theorems.antt says how to read them; besides, `A ↔ B` is "A exactly when B", `Unit` "nothing is asked", `cond t a
 -- b` is a where the test t is true and b elsewhere, and of tests `eqb` is "equals", `ltb` "is below", `&&` "and",
 -- `||` "or". `{K : Type 0}` names what is left to the checker to find.
@@ -21,8 +21,8 @@ use Rattle.state.specs.Cycle.{roundsOk, cycleOk}
 use Rattle.words.specs.Words as Bytes
 use Rattle.layout.specs.Maybe.{bandwidthOf}
 use Rattle.words.specs.Word.{word, floatOf}
-use Rattle.layout.specs.NetworkModel.{modelOf}
-use Rattle.layout.specs.Cycle.{cycleOf}
+use Rattle.layout.specs.NetworkModel.{modelFrom}
+use Rattle.layout.specs.Cycle.{cycleFrom}
 use Rattle.guovssalu.specs.Conversions.{f32Bits, f64Bits, f32ToU64, f64RoundToU64, scaledBy, bandwidthBy, bytesIn}
 use Rattle.guovssalu.specs.FilterRun.{pairs, refuses}
 use Rattle.guovssalu.specs.ModelRun.{stateIn, encodesNone, callsIn}
@@ -187,7 +187,7 @@ abbrev pub AreBytes : List ℕ → Type 0
 AreBytes l = (i : ℕ) → getD l i 0 < 256
 
 unfoldable pub stateFrom : List ℕ → State
-stateFrom bytes = record { model = modelOf (stateIn bytes); cycle = cycleOf (stateIn bytes) }
+stateFrom bytes = record { model = modelFrom (stateIn bytes); cycle = cycleFrom (stateIn bytes) }
 
 -- it is within document 01's bounds
 abbrev pub isWithin : List ℕ → Bool
@@ -204,7 +204,7 @@ abbrev pub answer : Run → ℕ → List ℕ
 answer r i = take 144 (drop (144 * i) (r .written))
 
 abbrev pub answerWord : Run → (i word : ℕ) → ℕ
-answerWord r i j = Bytes.word (r .written) (144 * i + 8 * j)
+answerWord r i j = Bytes.wordAt (r .written) (144 * i + 8 * j)
 
 -- a call of that number, in a run that is done, is answered 0
 pub record Accepted (number : ℕ) (r : Run) (i : ℕ) : Type 0 where
@@ -242,17 +242,17 @@ pub record History (runs : List Run) : Type 0 where
   pub order : InOrder runs
 
 -- ---- the exact run beside them, given the calls that the bytes hold: before call i of a run
-abbrev pub exactBefore : (Call → State → X.Turn) → (parts : ℕ) → Run → ℕ → Exact → Exact
-exactBefore turn parts r i x = exactWalk turn parts (stepsFrom (r .calls) 0 i) (stateFrom (r .state)) x
+abbrev pub exactBefore : (Call → State → X.Effect) → (parts : ℕ) → Run → ℕ → Exact → Exact
+exactBefore effect parts r i x = exactWalk effect parts (stepsFrom (r .calls) 0 i) (stateFrom (r .state)) x
 
 -- after it; a run that is refused counts as not made
-unfoldable pub exactAfter : (Call → State → X.Turn) → (parts : ℕ) → Run → Exact → Exact
-exactAfter turn parts r x = settled (r .reply) (exactBefore turn parts r (count r) x) x
+unfoldable pub exactAfter : (Call → State → X.Effect) → (parts : ℕ) → Run → Exact → Exact
+exactAfter effect parts r x = settled (r .reply) (exactBefore effect parts r (count r) x) x
 
 -- after several
-unfoldable pub exactRuns : (Call → State → X.Turn) → (parts : ℕ) → List Run → Exact → Exact
-exactRuns turn parts [] x = x
-exactRuns turn parts (r ∷ runs) x = exactRuns turn parts runs (exactAfter turn parts r x)
+unfoldable pub exactRuns : (Call → State → X.Effect) → (parts : ℕ) → List Run → Exact → Exact
+exactRuns effect parts [] x = x
+exactRuns effect parts (r ∷ runs) x = exactRuns effect parts runs (exactAfter effect parts r x)
 
 -- ---- the lower bounds in bytes. A word: 2^64 - 1 is unset
 unfoldable pub lowWord : ℕ → Low
@@ -260,10 +260,10 @@ lowWord n = cond (eqb n (2 ^ 64 - 1)) D.none (D.at n)
 
 -- word 17 of a state; words 15 and 16
 abbrev pub inflightIn : List ℕ → Low
-inflightIn bytes = lowWord (Bytes.word bytes (8 * 17))
+inflightIn bytes = lowWord (Bytes.wordAt bytes (8 * 17))
 
 unfoldable pub bandwidthIn : List ℕ → Low
-bandwidthIn bytes = lowOf (bandwidthOf (Bytes.word bytes (8 * 15)) (Bytes.word bytes (8 * 16)))
+bandwidthIn bytes = lowOf (bandwidthOf (Bytes.wordAt bytes (8 * 15)) (Bytes.wordAt bytes (8 * 16)))
 
 -- ---- of an event's words: word 38 is read as beta; the window, word 23, and the inflight sample, word 10, are at most
 -- 2^24

@@ -11,16 +11,16 @@ use lib.Dec.{leb, eqb}
 use Rattle.units.specs.declared.time.Duration.{Duration}
 use Rattle.units.specs.declared.time.Moment.{Moment}
 use Rattle.state.specs.declared.params.Params.{Params}
-use Rattle.state.specs.Answers.{settled, noLength, noMoment}
+use Rattle.state.specs.Answers.{settled, zeroLength, zeroMoment}
 use Rattle.state.specs.NetworkModel.{one, modelNew, startNumber, startModel}
 use Rattle.state.specs.Cycle.{cycleNew, freshCycle}
 use Rattle.words.specs.Word.{word, flagOf, floatOf}
-use Rattle.arguments.specs.Params.{paramsOf}
-use Rattle.arguments.specs.Record.{recordOf, recordIn}
-use Rattle.arguments.specs.Sample.{sampleOf, ackedOf}
+use Rattle.arguments.specs.Params.{paramsFrom}
+use Rattle.arguments.specs.CongestionEvent.{eventFrom, eventIn}
+use Rattle.arguments.specs.Sample.{sampleFrom, ackedOf}
 use Rattle.calls.specs.Enter.{downAt}
-use Rattle.dispatch.specs.declared.turn.Turn.{Turn}
-use Rattle.dispatch.specs.Turn.{isJudged, isAsked, noRecord, turnOf}
+use Rattle.dispatch.specs.declared.outcome.Outcome.{Outcome}
+use Rattle.dispatch.specs.Outcome.{isJudged, isAsked, noEvent, outcomeOf}
 use Rattle.dispatch.specs.OneCall.{callAt}
 use Rattle.drift.specs.Calls as C
 use Rattle.drift.specs.Calls.{Call, Other, State, numberOf, after}
@@ -45,16 +45,16 @@ other c = makes (C.other c)
 -- ---- from words. Calls 5 to 7 and 9
 unfoldable pub judgeStep : List ℕ → Step
 judgeStep w =
-    cond (eqb (word w 0) 5) (other (C.expire (paramsOf w) (recordOf w)))
+    cond (eqb (word w 0) 5) (other (C.expire (paramsFrom w) (eventFrom w)))
     (cond (eqb (word w 0) 6) keeps
-    (cond (eqb (word w 0) 7) (other (C.growth (paramsOf w) (recordOf w)))
-    (cond (eqb (word w 0) 9) (other (C.queue (paramsOf w) (floatOf (word w 1)))) keeps)))
+    (cond (eqb (word w 0) 7) (other (C.growth (paramsFrom w) (eventFrom w)))
+    (cond (eqb (word w 0) 9) (other (C.queue (paramsFrom w) (floatOf (word w 1)))) keeps)))
 
 -- calls 40 to 45. A flag of call 40 that no writer writes makes its moment one that is out of bounds (`downAt`)
 unfoldable pub enterStep : List ℕ → Step
 enterStep w =
     cond (eqb (word w 0) 40)
-    (other (C.down (paramsOf w) (flagOf (word w 1)) (flagOf (word w 2)) (downAt (word w 1) (word w 2) (word w 3))))
+    (other (C.down (paramsFrom w) (flagOf (word w 1)) (flagOf (word w 2)) (downAt (word w 1) (word w 2) (word w 3))))
     (cond (eqb (word w 0) 41) (makes (C.cruise (moment (word w 1))))
     (cond (eqb (word w 0) 42) (makes (C.refill (word w 1) (moment (word w 2))))
     (cond (eqb (word w 0) 43) (other (C.up (moment (word w 1)) (word w 2)))
@@ -78,9 +78,9 @@ changeStep w =
 unfoldable pub stepOf : List ℕ → Step
 stepOf w =
     cond (eqb (word w 0) 1) (other (C.sent (moment (word w 1)) (word w 2) (word w 3) (word w 4)))
-    (cond (eqb (word w 0) 3) (makes (C.event (paramsOf w) (recordOf w) (sampleOf w) (ackedOf w)))
-    (cond (eqb (word w 0) 4) (other (C.finish (recordOf w)))
-    (cond (eqb (word w 0) 0) (begins (paramsOf w) (duration (word w 2)) (moment (word w 1)))
+    (cond (eqb (word w 0) 3) (makes (C.event (paramsFrom w) (eventFrom w) (sampleFrom w) (ackedOf w)))
+    (cond (eqb (word w 0) 4) (other (C.finish (eventFrom w)))
+    (cond (eqb (word w 0) 0) (begins (paramsFrom w) (duration (word w 2)) (moment (word w 1)))
     (cond (isJudged (word w 0)) (judgeStep w)
     (cond (isAsked (word w 0)) keeps
     (cond (leb 40 (word w 0)) (enterStep w) (changeStep w)))))))
@@ -88,7 +88,7 @@ stepOf w =
 -- ---- what a step does. A start makes model and cycle anew, a refused one at moment 0
 unfoldable pub begun : Params → Duration → Moment → State
 begun p rtt now =
-    record { model = startModel p rtt now; cycle = freshCycle (settled (startNumber p rtt now) now noMoment) }
+    record { model = startModel p rtt now; cycle = freshCycle (settled (startNumber p rtt now) now zeroMoment) }
 
 unfoldable pub afterStep : Step → State → State
 afterStep (begins p rtt now) s = begun p rtt now
@@ -110,36 +110,36 @@ unfoldable pub walk : List Step → State → State
 walk [] s = s
 walk (c ∷ steps) s = walk steps (afterStep c s)
 
--- ---- the exact run beside them: a start unsets it, and a call makes its turn where it is done
-unfoldable pub exactStep : (Call → State → X.Turn) → (parts : ℕ) → Step → State → Exact → Exact
-exactStep turn parts (begins p rtt now) s x = unset
-exactStep turn parts (makes c) s x = exactly parts (settled (numberOf c s) (turn c s) X.stays) x
-exactStep turn parts keeps s x = x
+-- ---- the exact run beside them: a start unsets it, and a call makes its effect where it is done
+unfoldable pub exactStep : (Call → State → X.Effect) → (parts : ℕ) → Step → State → Exact → Exact
+exactStep effect parts (begins p rtt now) s x = unset
+exactStep effect parts (makes c) s x = exactly parts (settled (numberOf c s) (effect c s) X.stays) x
+exactStep effect parts keeps s x = x
 
-unfoldable pub exactWalk : (Call → State → X.Turn) → (parts : ℕ) → List Step → State → Exact → Exact
-exactWalk turn parts [] s x = x
-exactWalk turn parts (c ∷ steps) s x = exactWalk turn parts steps (afterStep c s) (exactStep turn parts c s x)
+unfoldable pub exactWalk : (Call → State → X.Effect) → (parts : ℕ) → List Step → State → Exact → Exact
+exactWalk effect parts [] s x = x
+exactWalk effect parts (c ∷ steps) s x = exactWalk effect parts steps (afterStep c s) (exactStep effect parts c s x)
 
--- ---- a call's turn (crates/dispatch/specs/Turn.antt) leaves what its step leaves, and replies its number
-abbrev pub turnIn : List ℕ → State → Turn
-turnIn w s = turnOf w (s .model) (s .cycle)
+-- ---- a call's effect (crates/dispatch/specs/Outcome.antt) leaves what its step leaves, and replies its number
+abbrev pub outcomeIn : List ℕ → State → Outcome
+outcomeIn w s = outcomeOf w (s .model) (s .cycle)
 
-abbrev pub stateLeft : Turn → State
+abbrev pub stateLeft : Outcome → State
 stateLeft t = record { model = t .model; cycle = t .cycle }
 
 pub record Makes (w : List ℕ) (s : State) : Type 0 where
-  pub leaves : stateLeft (turnIn w s) ≡ afterStep (stepOf w) s
-  pub replies : Replies (stepOf w) s (turnIn w s .reply)
+  pub leaves : stateLeft (outcomeIn w s) ≡ afterStep (stepOf w) s
+  pub replies : Replies (stepOf w) s (outcomeIn w s .reply)
 
 -- a call that is refused: a start leaves document 01's fresh state at moment 0, any other call the state as it was. Its
 -- answer has the value 0 and the record: for call 3, words 22 to 37 of the call as they were handed in
 abbrev pub fresh : State
-fresh = record { model = modelNew one one false noLength noMoment; cycle = cycleNew noMoment }
+fresh = record { model = modelNew one one false zeroLength zeroMoment; cycle = cycleNew zeroMoment }
 
 pub record Refused (w : List ℕ) (s : State) : Type 0 where
-  pub state : stateLeft (turnIn w s) ≡ cond (eqb (word w 0) 0) fresh s
-  pub value : turnIn w s .value ≡ 0
-  pub event : turnIn w s .event ≡ cond (eqb (word w 0) 3) (recordIn w) noRecord
+  pub state : stateLeft (outcomeIn w s) ≡ cond (eqb (word w 0) 0) fresh s
+  pub value : outcomeIn w s .value ≡ 0
+  pub event : outcomeIn w s .event ≡ cond (eqb (word w 0) 3) (eventIn w) noEvent
 
 -- ---- docs/LAYOUT.md, "A call": the number of each. The step of a number is that number's
 abbrev pub otherCall : Other → ℕ

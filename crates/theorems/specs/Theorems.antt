@@ -47,37 +47,37 @@ use Rattle.guovssalu.specs.ModelRun.{encodesNone, modelRow, stateOut, answersOu
 use Rattle.dispatch.specs.OneCall.{answerWords}
 use Rattle.guovssalu.specs.Slope.{slopeRow, slopeOut}
 use Rattle.drift.specs.Calls.{Call, State}
-use Rattle.drift.specs.Exact.{Turn, Exact, unset, inflightTurn, bandwidthTurn}
+use Rattle.drift.specs.Exact.{Effect, Exact, unset, inflightEffect, bandwidthEffect}
 use Rattle.drift.specs.Drift.{Low, Follows, IsBeta, usualBeta, usualParts, Under}
 use Rattle.theorems.specs.Rows.{rowsOf}
 use Rattle.theorems.specs.Casts.{Casts}
-use Rattle.theorems.specs.Steps.{moment, Makes, Refused, Numbered, stepOf, turnIn}
+use Rattle.theorems.specs.Steps.{moment, Makes, Refused, Numbered, stepOf, outcomeIn}
 use Rattle.theorems.specs.Runs.{Unasked, Run, Ran, FilterRun, Filtered, SlopeRun, Raised, OneOutcome, Conversions, RunRow, FilterRow, SlopeRow, AreBytes, isWithin, count, call, before, answer, answerWord, Accepted, Starts, Each, History, exactAfter, exactRuns, exactBefore, lowWord, inflightIn, bandwidthIn, HasBetaWord, HasSmallWords, OfEvents}
 
 -- What demand 3 says, of any runs, the last of which is r, that begin with a start (`History`), and in which every
 -- accepted event has words of which P holds: the number that `low` finds in the bytes that r left is near the exact one
-abbrev pub InState : (P : List ℕ → Type 0) (low : List ℕ → Low) (turn : Call → State → Turn) (parts : ℕ)
+abbrev pub InState : (P : List ℕ → Type 0) (low : List ℕ → Low) (effect : Call → State → Effect) (parts : ℕ)
     (Near : Low → Exact → Type 0) → Type 0
-InState P low turn parts Near =
+InState P low effect parts Near =
     (runs : List Run) (r : Run) → History (runs ++ (r ∷ [])) → Each (OfEvents P) (runs ++ (r ∷ [])) →
-    Near (low (r .left)) (exactAfter turn parts r (exactRuns turn parts runs unset))
+    Near (low (r .left)) (exactAfter effect parts r (exactRuns effect parts runs unset))
 
 -- and so is the answer to a call 35 of r, "inflight_lo", where i calls of r were made before it
-abbrev pub InAnswers : (P : List ℕ → Type 0) (turn : Call → State → Turn) (parts : ℕ) (Near : Low → Exact → Type 0) →
+abbrev pub InAnswers : (P : List ℕ → Type 0) (effect : Call → State → Effect) (parts : ℕ) (Near : Low → Exact → Type 0) →
     Type 0
-InAnswers P turn parts Near =
+InAnswers P effect parts Near =
     (runs : List Run) (r : Run) (i : ℕ) → History (runs ++ (r ∷ [])) → Each (OfEvents P) (runs ++ (r ∷ [])) →
-    Accepted 35 r i → Near (lowWord (answerWord r i 1)) (exactBefore turn parts r i (exactRuns turn parts runs unset))
+    Accepted 35 r i → Near (lowWord (answerWord r i 1)) (exactBefore effect parts r i (exactRuns effect parts runs unset))
 
 -- inflight_lo, where P is: the event has this beta, and its window and its inflight sample are at most 2^24
 abbrev pub InflightNear : (beta : Float) (parts : ℕ) (Near : Low → Exact → Type 0) → Type 0
 InflightNear beta parts Near =
-    InState (λ w. HasBetaWord beta w × HasSmallWords w) inflightIn inflightTurn parts Near
-    × InAnswers (λ w. HasBetaWord beta w × HasSmallWords w) inflightTurn parts Near
+    InState (λ w. HasBetaWord beta w × HasSmallWords w) inflightIn inflightEffect parts Near
+    × InAnswers (λ w. HasBetaWord beta w × HasSmallWords w) inflightEffect parts Near
 
 -- bandwidth_lo, where P is: the event has this beta
 abbrev pub BandwidthNear : (beta : Float) (parts : ℕ) (Near : Low → Exact → Type 0) → Type 0
-BandwidthNear beta parts Near = InState (HasBetaWord beta) bandwidthIn bandwidthTurn parts Near
+BandwidthNear beta parts Near = InState (HasBetaWord beta) bandwidthIn bandwidthEffect parts Near
 
 pub record Theorems : Type 0 where
   -- ==== Demand 1. Every exported call takes any numbers, and ends; bad input gets a refusal by the table, and then
@@ -102,14 +102,14 @@ pub record Theorems : Type 0 where
   -- Those bytes are the words of the state that the calls left, one after the other (`before r (count r)`)
   pub run-left : (r : Run) → Ran r → r .reply ≡ 0 →
       let s = before r (count r) in r .left ≡ allBytes (stateWords (s .model) (s .cycle))
-  -- In a run that is done, call i is answered by its turn (`turnOf`) in the state that the calls before it left
+  -- In a run that is done, call i is answered by its effect (`outcomeOf`) in the state that the calls before it left
   pub call-answered : (r : Run) → Ran r → r .reply ≡ 0 → (i : ℕ) → i < count r →
-      answer r i ≡ allBytes (answerWords (turnIn (call r i) (before r i)))
+      answer r i ≡ allBytes (answerWords (outcomeIn (call r i) (before r i)))
   -- A call of a run is refused with the number of the first row that holds, exactly then, whatever its words are
-  pub call-row : (w : List ℕ) (s : State) → Exactly (turnIn w s .reply) (rowsOf w s)
+  pub call-row : (w : List ℕ) (s : State) → Exactly (outcomeIn w s .reply) (rowsOf w s)
   -- Refused, it changes nothing (a refused start has no earlier state, and leaves a fresh one at moment 0). Its answer
   -- is the refusal's number, 0 and, of call 3, the record as handed in; of the others 16 zeros
-  pub call-refused : (w : List ℕ) (s : State) → (turnIn w s .reply ≡ 0 → ⊥) → Refused w s
+  pub call-refused : (w : List ℕ) (s : State) → (outcomeIn w s .reply ≡ 0 → ⊥) → Refused w s
   -- Words that no writer writes are out of bounds: what is within them is written in the very words that were read. So
   -- are the two flags of call 40, whose moment is read with them
   pub words : Tested
@@ -138,7 +138,7 @@ pub record Theorems : Type 0 where
   pub casts : Casts
   pub one-outcome : OneOutcome
   -- A call of a run leaves what its step leaves, and the step is that of the call's number, whatever its words are
-  pub turns : (w : List ℕ) (s : State) → Makes w s
+  pub steps : (w : List ℕ) (s : State) → Makes w s
   pub numbers : (w : List ℕ) → Numbered (stepOf w) (word w 0)
   -- Document 01's twelve marked examples hold of the definitions
   pub examples : all markedExamples ≡ true

@@ -6,7 +6,7 @@ use native.Mathlib.Nat.{zero-lt-suc, add-zero, zero-add, add-suc, suc-add, add-a
 use native.Mathlib.Omega.{arith}
 use lib.ListN.{length, getD, drop, length-append, List·getD-append}
 use lib.Seq.{sets, getD-drop, drop-at}
-use Rattle.words.specs.Words.{numberAt, lowBytes, word, bytes, wordsAt, allBytes}
+use Rattle.words.specs.Words.{numberAt, lowBytes, wordAt, bytes, wordsAt, allBytes}
 use Rattle.words.proofs.Stores.{drop-sets}
 
 -- ---- lengths
@@ -34,11 +34,11 @@ unfolding allBytes
 allBytes-append [] b = refl
 allBytes-append (x ∷ a) b = rw (allBytes-append a b) (sym (append-assoc (bytes x) (allBytes a) (allBytes b)))
 
-pub getD-wordsAt : (s : List ℕ) (at n i : ℕ) → i < n → getD (wordsAt s at n) i 0 ≡ word s (at + 8 * i)
+pub getD-wordsAt : (s : List ℕ) (at n i : ℕ) → i < n → getD (wordsAt s at n) i 0 ≡ wordAt s (at + 8 * i)
 unfolding wordsAt
 getD-wordsAt s at zero i h = omega arith
-getD-wordsAt s at (suc n) zero h = ap (word s) (sym (add-zero at))
-getD-wordsAt s at (suc n) (suc i) h = getD-wordsAt s (at + 8) n i (omega arith) ∙ ap (word s) (omega arith)
+getD-wordsAt s at (suc n) zero h = ap (wordAt s) (sym (add-zero at))
+getD-wordsAt s at (suc n) (suc i) h = getD-wordsAt s (at + 8) n i (omega arith) ∙ ap (wordAt s) (omega arith)
 
 -- ---- what stands at an index, past the first k
 numberAt-drop : (n k : ℕ) (s : List ℕ) (at : ℕ) → numberAt n (drop k s) at ≡ numberAt n s (k + at)
@@ -46,7 +46,7 @@ unfolding numberAt
 numberAt-drop zero k s at = refl
 numberAt-drop (suc n) k s at = ap₂ (λ (b rest : ℕ). b + 256 * rest) (getD-drop k s at 0) (numberAt-drop n k s (suc at) ∙ ap (numberAt n s) (add-suc k at))
 
-pub word-drop : (k : ℕ) (s : List ℕ) (at : ℕ) → word (drop k s) at ≡ word s (k + at)
+pub word-drop : (k : ℕ) (s : List ℕ) (at : ℕ) → wordAt (drop k s) at ≡ wordAt s (k + at)
 word-drop k s at = numberAt-drop 8 k s at
 
 pub wordsAt-drop : (k : ℕ) (s : List ℕ) (at n : ℕ) → wordsAt (drop k s) at n ≡ wordsAt s (k + at) n
@@ -60,7 +60,7 @@ unfolding wordsAt
 wordsAt-split s at zero n = rw (zero-add, add-zero)
 wordsAt-split s at (suc m) n =
     let next : at + 8 + 8 * m ≡ at + 8 * suc m = omega arith in
-    rw (suc-add, ← next) (ap (λ (rest : List ℕ). word s at ∷ rest) (wordsAt-split s (at + 8) m n))
+    rw (suc-add, ← next) (ap (λ (rest : List ℕ). wordAt s at ∷ rest) (wordsAt-split s (at + 8) m n))
 
 -- ---- what stands in one of two lists that follow each other
 numberAt-within : (n : ℕ) (a b : List ℕ) (at : ℕ) → at + n ≤ length a → numberAt n (a ++ b) at ≡ numberAt n a at
@@ -84,7 +84,7 @@ number-lowBytes (suc n) x rest h =
     (sym (numberAt-drop n 1 (x % 256 ∷ (lowBytes n (x / 256) ++ rest)) 0) ∙ number-lowBytes n (x / 256) rest (div-lt-iff-lt-mul (zero-lt-suc 255) .1 (rw pow-suc at h)))
     ∙ mod-add-div x 256
 
-pub word-of : (x : ℕ) (rest : List ℕ) → x < 2 ^ 64 → word (bytes x ++ rest) 0 ≡ x
+pub word-of : (x : ℕ) (rest : List ℕ) → x < 2 ^ 64 → wordAt (bytes x ++ rest) 0 ≡ x
 word-of x rest h = number-lowBytes 8 x rest h
 
 -- numbers of 64 bits
@@ -102,12 +102,12 @@ words-of (x ∷ words) rest h =
     ∙ ap (λ (l : List ℕ). wordsAt l 0 (length words)) (drop-at (bytes x) (allBytes words ++ rest) 8 (length-bytes x))
     ∙ words-of words rest (λ i. h (suc i))))
 
-pub word-back : (l : List ℕ) (at x : ℕ) → at + 8 ≤ length l → x < 2 ^ 64 → word (sets l at (bytes x)) at ≡ x
+pub word-back : (l : List ℕ) (at x : ℕ) → at + 8 ≤ length l → x < 2 ^ 64 → wordAt (sets l at (bytes x)) at ≡ x
 word-back l at x fits h =
     let room : at + length (bytes x) ≤ length l = rw length-bytes fits in
-    ap (word (sets l at (bytes x))) (sym (add-zero at))
+    ap (wordAt (sets l at (bytes x))) (sym (add-zero at))
     ∙ sym (word-drop at (sets l at (bytes x)) 0)
-    ∙ ap (λ (s : List ℕ). word s 0) (drop-sets l at (bytes x) room)
+    ∙ ap (λ (s : List ℕ). wordAt s 0) (drop-sets l at (bytes x) room)
     ∙ word-of x (drop (at + length (bytes x)) l) h
 
 pub words-back : (l : List ℕ) (at : ℕ) (words : List ℕ) → at + 8 * length words ≤ length l → AllWords words → wordsAt (sets l at (allBytes words)) at (length words) ≡ words

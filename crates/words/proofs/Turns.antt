@@ -7,7 +7,7 @@ use native.Mathlib.Numerals.{add-one}
 use native.Mathlib.Omega.{arith}
 use lib.ListN.{length, getD, set, drop}
 use lib.Seq.{sets, drop-cons}
-use Rattle.words.specs.Words.{numberAt, lowBytes, word, bytes, wordsAt, allBytes}
+use Rattle.words.specs.Words.{numberAt, lowBytes, wordAt, bytes, wordsAt, allBytes}
 use Rattle.words.proofs.Stores.{sets-append}
 use Rattle.words.proofs.Laws.{length-bytes}
 
@@ -19,7 +19,7 @@ byte-at s x i j e p = p ∙ ap (λ (k : ℕ). getD s k 0) e
 pub eight-bytes :
     (s : List ℕ) (at a b c d e f g h : ℕ) → a ≡ getD s at 0 → b ≡ getD s (at + 1) 0 → c ≡ getD s (at + 2) 0 → d ≡ getD s (at + 3) 0 →
     e ≡ getD s (at + 4) 0 → f ≡ getD s (at + 5) 0 → g ≡ getD s (at + 6) 0 → h ≡ getD s (at + 7) 0 →
-    a + 256 * b + 256 ^ 2 * c + 256 ^ 3 * d + 256 ^ 4 * e + 256 ^ 5 * f + 256 ^ 6 * g + 256 ^ 7 * h ≡ word s at
+    a + 256 * b + 256 ^ 2 * c + 256 ^ 3 * d + 256 ^ 4 * e + 256 ^ 5 * f + 256 ^ 6 * g + 256 ^ 7 * h ≡ wordAt s at
 unfolding numberAt
 eight-bytes s at a b c d e f g h p q r t u v w x = omega (arith, p, byte-at s b (at + 1) (suc at) (omega arith) q, byte-at s c (at + 2) (suc (suc at)) (omega arith) r, byte-at s d (at + 3) (suc (suc (suc at))) (omega arith) t, byte-at s e (at + 4) (suc (suc (suc (suc at)))) (omega arith) u, byte-at s f (at + 5) (suc (suc (suc (suc (suc at))))) (omega arith) v, byte-at s g (at + 6) (suc (suc (suc (suc (suc (suc at)))))) (omega arith) w, byte-at s h (at + 7) (suc (suc (suc (suc (suc (suc (suc at))))))) (omega arith) x)
 
@@ -36,7 +36,7 @@ write-byte l end at n rest h e =
 -- words into a slice of numbers
 pub fill-word :
     (s l end : List ℕ) (at i n : ℕ) → i < n → sets l i (wordsAt s (at + 8 * i) (n - i)) ≡ end →
-    sets (set l i (word s (at + 8 * i))) (i + 1) (wordsAt s (at + 8 * (i + 1)) (n - (i + 1))) ≡ end
+    sets (set l i (wordAt s (at + 8 * i))) (i + 1) (wordsAt s (at + 8 * (i + 1)) (n - (i + 1))) ≡ end
 unfolding wordsAt
 fill-word s l end at i n h e =
     let left : n - i ≡ suc (n - suc i) = omega arith in

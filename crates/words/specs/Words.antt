@@ -14,8 +14,8 @@ lowBytes zero x = []
 lowBytes (suc n) x = x % 256 ∷ lowBytes n (x / 256)
 
 -- the word at an index
-abbrev pub word : List ℕ → ℕ → ℕ
-word s at = numberAt 8 s at
+abbrev pub wordAt : List ℕ → ℕ → ℕ
+wordAt s at = numberAt 8 s at
 
 -- the 8 bytes of a word
 abbrev pub bytes : ℕ → List ℕ
@@ -24,7 +24,7 @@ bytes x = lowBytes 8 x
 -- the n words from an index on
 unfoldable pub wordsAt : List ℕ → ℕ → ℕ → List ℕ
 wordsAt s at zero = []
-wordsAt s at (suc n) = word s at ∷ wordsAt s (at + 8) n
+wordsAt s at (suc n) = wordAt s at ∷ wordsAt s (at + 8) n
 
 -- the bytes of words, one after the other
 unfoldable pub allBytes : List ℕ → List ℕ

@@ -8,7 +8,7 @@ ghost use mathlib.Core.Path.{_≡_};
 ghost use Prim.Native.Nat.{_+_, _*_, _≤_, _<_};
 ghost use lib.ListN.{length};
 ghost use lib.Seq.{sets};
-ghost use Rattle.words.specs.Words.{word, bytes, wordsAt, allBytes};
+ghost use Rattle.words.specs.Words.{wordAt, bytes, wordsAt, allBytes};
 
 // A byte as a number of 64 bits.
 fn wide(x: u8) -> u64
@@ -20,7 +20,7 @@ fn wide(x: u8) -> u64
 // The word at an index.
 pub fn get_word(s: &[u8], at: usize) -> u64
     requires { ⌜ at + 8 ≤ length (now s) ⌝ }
-    ensures { λ r. ⌜ r ≡ word (now (s .entry)) at ⌝ }
+    ensures { λ r. ⌜ r ≡ wordAt (now (s .entry)) at ⌝ }
 {
     wide(s[at])
         + 0x100 * wide(s[at + 1])

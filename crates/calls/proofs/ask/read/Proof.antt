@@ -4,7 +4,7 @@ use Rattle.units.specs.declared.bandwidth.Bandwidth.{Bandwidth}
 use Rattle.units.specs.declared.time.Duration.{Duration}
 use Rattle.units.specs.declared.time.Moment.{Moment}
 use Rattle.units.specs.Reply.{number}
-use Rattle.state.specs.Answers.{noBandwidth, noLength, noMoment}
+use Rattle.state.specs.Answers.{zeroBandwidth, zeroLength, zeroMoment}
 use Rattle.calls.proofs.Same.{settled-same, read-as}
 use borrow.Author.Needs.{needs}
 use borrow.Author.Tests.{ne-eqb}
@@ -14,19 +14,19 @@ use Rattle.calls.proofs.ask.read.Tie as tie
 
 returns : tie.Need-returns
 unfolding readOf
-returns c = rw (c .before .before .match .keys1) (ap number (c .bandwidth .ensures .0) ∙ c .before .bandwidth-estimate .ensures .0, read-as (λ (b : Bandwidth). b .0) _ _ noBandwidth _ _ (c .bandwidth .ensures .1) (c .before .bandwidth-estimate .ensures .1) refl)
+returns c = rw (c .before .before .match .keys1) (ap number (c .bandwidth .ensures .0) ∙ c .before .bandwidth-estimate .ensures .0, read-as (λ (b : Bandwidth). b .0) _ _ zeroBandwidth _ _ (c .bandwidth .ensures .1) (c .before .bandwidth-estimate .ensures .1) refl)
 
 returns-2 : tie.Need-returns-2
 unfolding readOf
-returns-2 c = rw (c .before .before .match .keys2) (ap number (c .length .ensures .0) ∙ c .before .min-rtt .ensures .0, read-as (λ (d : Duration). d .0) _ _ noLength _ _ (c .length .ensures .1) (c .before .min-rtt .ensures .1) refl)
+returns-2 c = rw (c .before .before .match .keys2) (ap number (c .length .ensures .0) ∙ c .before .min-rtt .ensures .0, read-as (λ (d : Duration). d .0) _ _ zeroLength _ _ (c .length .ensures .1) (c .before .min-rtt .ensures .1) refl)
 
 returns-3 : tie.Need-returns-3
 unfolding readOf
-returns-3 c = rw (c .before .before .match .keys3) (ap number (c .moment .ensures .0) ∙ c .before .min-rtt-timestamp .ensures .0, read-as (λ (m : Moment). m .0) _ _ noMoment _ _ (c .moment .ensures .1) (c .before .min-rtt-timestamp .ensures .1) refl)
+returns-3 c = rw (c .before .before .match .keys3) (ap number (c .moment .ensures .0) ∙ c .before .min-rtt-timestamp .ensures .0, read-as (λ (m : Moment). m .0) _ _ zeroMoment _ _ (c .moment .ensures .1) (c .before .min-rtt-timestamp .ensures .1) refl)
 
 returns-4 : tie.Need-returns-4
 unfolding readOf
-returns-4 c = rw (c .before .before .match .keys4) (ap number (c .bandwidth2 .ensures .0) ∙ c .before .max-bandwidth .ensures .0, read-as (λ (b : Bandwidth). b .0) _ _ noBandwidth _ _ (c .bandwidth2 .ensures .1) (c .before .max-bandwidth .ensures .1) refl)
+returns-4 c = rw (c .before .before .match .keys4) (ap number (c .bandwidth2 .ensures .0) ∙ c .before .max-bandwidth .ensures .0, read-as (λ (b : Bandwidth). b .0) _ _ zeroBandwidth _ _ (c .bandwidth2 .ensures .1) (c .before .max-bandwidth .ensures .1) refl)
 
 returns-5 : tie.Need-returns-5
 unfolding readOf

@@ -2,9 +2,9 @@
 use mathlib.Core.Bool.{false}
 use mathlib.Core.Path.{refl, ap, _∙_}
 use Rattle.units.specs.Reply.{number}
-use Rattle.state.specs.Answers.{noGain}
+use Rattle.state.specs.Answers.{zeroGain}
 use Rattle.words.specs.Word.{flagWord, floatWord}
-use Rattle.calls.proofs.Same.{settled-same, read-as, no-gain}
+use Rattle.calls.proofs.Same.{settled-same, read-as, zero-gain}
 use borrow.Author.Needs.{needs}
 use borrow.Author.Tests.{ne-eqb}
 use Rattle.calls.specs.Ask.{readMore}
@@ -17,11 +17,11 @@ returns c = rw (c .before .before .match .keys1) (ap number (c .flag .ensures .0
 
 returns-2 : tie.Need-returns-2
 unfolding readMore
-returns-2 c = rw (c .before .before .match .keys2) (ap number (c .gain .ensures .0) ∙ c .before .pacing-gain .ensures .0, read-as floatWord _ _ noGain _ _ (c .gain .ensures .1) (c .before .pacing-gain .ensures .1) no-gain)
+returns-2 c = rw (c .before .before .match .keys2) (ap number (c .gain .ensures .0) ∙ c .before .pacing-gain .ensures .0, read-as floatWord _ _ zeroGain _ _ (c .gain .ensures .1) (c .before .pacing-gain .ensures .1) zero-gain)
 
 returns-3 : tie.Need-returns-3
 unfolding readMore
-returns-3 c = rw (c .before .before .match .keys3) (ap number (c .gain2 .ensures .0) ∙ c .before .cwnd-gain .ensures .0, read-as floatWord _ _ noGain _ _ (c .gain2 .ensures .1) (c .before .cwnd-gain .ensures .1) no-gain)
+returns-3 c = rw (c .before .before .match .keys3) (ap number (c .gain2 .ensures .0) ∙ c .before .cwnd-gain .ensures .0, read-as floatWord _ _ zeroGain _ _ (c .gain2 .ensures .1) (c .before .cwnd-gain .ensures .1) zero-gain)
 
 returns-4 : tie.Need-returns-4
 unfolding readMore

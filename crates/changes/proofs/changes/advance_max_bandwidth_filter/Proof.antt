@@ -7,7 +7,7 @@ use Rattle.changes.proofs.changes.advance_max_bandwidth_filter.Statemen
 use Rattle.changes.proofs.changes.advance_max_bandwidth_filter.Tie as tie
 
 returns : tie.Need-returns
-returns c = (ap number (c .settle .ensures .0) ∙ c .before .before .stored .ensures, c .settle .ensures .1 ∙ settled-as _ _ _ _ _ (c .before .before .stored .ensures) (c .before .advanced .ensures))
+returns c = (ap number (c .settle .ensures .0) ∙ c .before .before .stored .ensures, c .settle .ensures .1 ∙ settled-as _ _ _ _ _ (c .before .before .stored .ensures) (c .before .advance-next .ensures))
 
 pub advance-max-bandwidth-filter-spec : {M : Type 1} → statement M
 advance-max-bandwidth-filter-spec = tie.close (tie.spec (λ c κs. search needs) (λ c κs. search needs) (λ c κs. search needs) returns)

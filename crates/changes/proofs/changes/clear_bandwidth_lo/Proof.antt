@@ -7,7 +7,7 @@ use Rattle.changes.proofs.changes.clear_bandwidth_lo.Statement.{stateme
 use Rattle.changes.proofs.changes.clear_bandwidth_lo.Tie as tie
 
 returns : tie.Need-returns
-returns c = (ap number (c .settle .ensures .0) ∙ c .before .before .stored .ensures, c .settle .ensures .1 ∙ settled-as _ _ _ _ _ (c .before .before .stored .ensures) (c .before .bandwidth-cleared .ensures))
+returns c = (ap number (c .settle .ensures .0) ∙ c .before .before .stored .ensures, c .settle .ensures .1 ∙ settled-as _ _ _ _ _ (c .before .before .stored .ensures) (c .before .clear-bandwidth-next .ensures))
 
 pub clear-bandwidth-lo-spec : {M : Type 1} → statement M
 clear-bandwidth-lo-spec = tie.close (tie.spec (λ c κs. search needs) (λ c κs. search needs) (λ c κs. search needs) returns)

@@ -8,7 +8,7 @@ use Rattle.changes.proofs.changes.set_cwnd_gain.Statement.{statement}
 use Rattle.changes.proofs.changes.set_cwnd_gain.Tie as tie
 
 returns : tie.Need-returns
-returns c = let e = c .before .before .given .ensures ∙ ap (givenNumber _) (c .before .before .before .gain-ok .ensures) in (ap number (c .settle .ensures .0) ∙ e, c .settle .ensures .1 ∙ settled-as _ _ _ _ _ e (c .before .windowed .ensures))
+returns c = let e = c .before .before .given .ensures ∙ ap (givenNumber _) (c .before .before .before .gain-ok .ensures) in (ap number (c .settle .ensures .0) ∙ e, c .settle .ensures .1 ∙ settled-as _ _ _ _ _ e (c .before .cwnd-next .ensures))
 
 pub set-cwnd-gain-spec : {M : Type 1} → statement M
 set-cwnd-gain-spec = tie.close (tie.spec (λ c κs. search needs) (λ c κs. search needs) (λ c κs. search needs) (λ c κs. search needs) returns)

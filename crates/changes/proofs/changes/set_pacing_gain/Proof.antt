@@ -8,7 +8,7 @@ use Rattle.changes.proofs.changes.set_pacing_gain.Statement.{statement}
 use Rattle.changes.proofs.changes.set_pacing_gain.Tie as tie
 
 returns : tie.Need-returns
-returns c = let e = c .before .before .given .ensures ∙ ap (givenNumber _) (c .before .before .before .gain-ok .ensures) in (ap number (c .settle .ensures .0) ∙ e, c .settle .ensures .1 ∙ settled-as _ _ _ _ _ e (c .before .paced .ensures))
+returns c = let e = c .before .before .given .ensures ∙ ap (givenNumber _) (c .before .before .before .gain-ok .ensures) in (ap number (c .settle .ensures .0) ∙ e, c .settle .ensures .1 ∙ settled-as _ _ _ _ _ e (c .before .pacing-next .ensures))
 
 pub set-pacing-gain-spec : {M : Type 1} → statement M
 set-pacing-gain-spec = tie.close (tie.spec (λ c κs. search needs) (λ c κs. search needs) (λ c κs. search needs) (λ c κs. search needs) returns)

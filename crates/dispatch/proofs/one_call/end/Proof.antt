@@ -12,9 +12,9 @@ returns : tie.Need-returns
 returns c =
     let args = c .before .before .before .before .before .before .before .before .before .before .before .before .before .before .args in
     let words = c .before .before .before .before .before .before .before .before .before .before .before .call-at .ensures in
-    let finished = rw (c .before .before .before .before .before .before .before .before .before .record-of .ensures) at (c .before .before .before .before .before .before .before .before .finish-tested .ensures) in (
+    let finished = rw (c .before .before .before .before .before .before .before .before .before .event-from .ensures) at (c .before .before .before .before .before .before .before .before .finish-tested .ensures) in (
       rw (← words) (finished .1),
-      rw (← words) (c .before .before .before .put-answer .ensures ∙ ap₂ (λ (n : ℕ) (event : List ℕ). sets (args .answers .now) (args .to) (allBytes (n ∷ 0 ∷ event))) (c .before .before .before .before .before .before .row .ensures ∙ finished .0) (c .before .before .before .before .before .no-record .ensures)),
+      rw (← words) (c .before .before .before .put-answer .ensures ∙ ap₂ (λ (n : ℕ) (event : List ℕ). sets (args .answers .now) (args .to) (allBytes (n ∷ 0 ∷ event))) (c .before .before .before .before .before .before .row .ensures ∙ finished .0) (c .before .before .before .before .before .no-event .ensures)),
     )
 
 pub end-spec : {M : Type 1} → statement M

@@ -4,7 +4,7 @@ use mathlib.Core.Path.{_≡_, ap, _∙_}
 use lib.ListN.{length}
 use lib.Seq.{sets}
 use Rattle.words.specs.Words.{allBytes}
-use Rattle.dispatch.specs.declared.turn.Turn.{Turn}
+use Rattle.dispatch.specs.declared.outcome.Outcome.{Outcome}
 use Rattle.dispatch.specs.OneCall.{callAt, answerWords}
 use Rattle.dispatch.proofs.OneCall.{length-other}
 use Rattle.dispatch.proofs.one_call.other.Statement.{statement}
@@ -13,16 +13,16 @@ use Rattle.dispatch.proofs.one_call.other.Tie as tie
 put-answer-requires : tie.Need-put-answer-requires
 put-answer-requires c κs =
     let args = c .before .before .before .before .before .before .before .before .args in
-    (c .before .before .before .before .before .before .before .before .pre .1, ap (λ (t : Turn). length (t .event)) (c .before .before .before .carry-out .ensures) ∙ length-other _ (args .model) (args .cycle))
+    (c .before .before .before .before .before .before .before .before .pre .1, ap (λ (t : Outcome). length (t .event)) (c .before .before .before .carry-out .ensures) ∙ length-other _ (args .model) (args .cycle))
 
 returns : tie.Need-returns
 unfolding answerWords
 returns c =
     let args = c .before .before .before .before .before .before .before .before .before .before .before .args in
     let words = c .before .before .before .before .before .before .before .before .call-at .ensures in
-    let turn = c .before .before .before .before .before .before .carry-out .ensures in (
-      rw (← words) turn,
-      rw (← words) (c .before .before .put-answer .ensures ∙ ap (λ (t : Turn). sets (args .answers .now) (args .to) (allBytes (answerWords t))) turn),
+    let outcome = c .before .before .before .before .before .before .carry-out .ensures in (
+      rw (← words) outcome,
+      rw (← words) (c .before .before .put-answer .ensures ∙ ap (λ (t : Outcome). sets (args .answers .now) (args .to) (allBytes (answerWords t))) outcome),
     )
 
 pub other-spec : {M : Type 1} → statement M

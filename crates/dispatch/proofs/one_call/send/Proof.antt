@@ -20,7 +20,7 @@ returns c =
     let bytes = c .before .before .before .before .before .before .before .before .before .get-word4 .ensures ∙ sym (getD-wordsAt calls (args .at) 49 4 (omega arith)) in
     let sent = c .before .before .before .before .before .before .before .before .sent-tested .ensures in (
       rw (← time, ← inflight, ← packet, ← bytes) (sent .1),
-      rw (← time, ← inflight, ← bytes) (c .before .before .before .put-answer .ensures ∙ ap₂ (λ (n : ℕ) (event : List ℕ). sets (args .answers .now) (args .to) (allBytes (n ∷ 0 ∷ event))) (c .before .before .before .before .before .before .row .ensures ∙ sent .0) (c .before .before .before .before .before .no-record .ensures)),
+      rw (← time, ← inflight, ← bytes) (c .before .before .before .put-answer .ensures ∙ ap₂ (λ (n : ℕ) (event : List ℕ). sets (args .answers .now) (args .to) (allBytes (n ∷ 0 ∷ event))) (c .before .before .before .before .before .before .row .ensures ∙ sent .0) (c .before .before .before .before .before .no-event .ensures)),
     )
 
 pub send-spec : {M : Type 1} → statement M

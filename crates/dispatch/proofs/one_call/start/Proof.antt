@@ -23,8 +23,8 @@ unfolding ackedOf
 returns c =
     let args = c .before .before .before .before .before .before .before .before .before .before .before .before .before .before .before .before .before .before .before .before .before .before .before .before .before .args in
     let words = c .before .before .before .before .before .before .before .before .before .before .before .before .before .before .before .before .before .before .before .before .before .before .call-at .ensures in
-    let event = rw (c .before .before .before .before .before .before .before .before .before .before .before .before .sample-of .ensures, c .before .before .before .before .before .before .before .before .before .before .before .before .before .before .record-of .ensures, c .before .before .before .before .before .before .before .before .before .before .before .before .before .before .before .before .params-of .ensures, c .before .before .before .before .before .before .before .before .before .before .before .before .before .before .before .before .before .before .acked-count .ensures, c .before .before .before .before .before .before .before .before .before .before .before .before .before .before .before .before .before .before .before .before .acked-numbers .ensures) at (c .before .before .before .before .before .before .before .before .before .before .start-tested .ensures) in
-    let after = c .before .before .before .before .before .record-left .ensures ∙ left-by _ _ _ _ _ _ (event .0) (event .1 .1) in (
+    let event = rw (c .before .before .before .before .before .before .before .before .before .before .before .before .sample-from .ensures, c .before .before .before .before .before .before .before .before .before .before .before .before .before .before .event-from .ensures, c .before .before .before .before .before .before .before .before .before .before .before .before .before .before .before .before .params-from .ensures, c .before .before .before .before .before .before .before .before .before .before .before .before .before .before .before .before .before .before .acked-count .ensures, c .before .before .before .before .before .before .before .before .before .before .before .before .before .before .before .before .before .before .before .before .acked-numbers .ensures) at (c .before .before .before .before .before .before .before .before .before .before .start-tested .ensures) in
+    let after = c .before .before .before .before .before .event-left .ensures ∙ left-by _ _ _ _ _ _ (event .0) (event .1 .1) in (
       rw (← words) (event .1 .0),
       rw (← words) (c .before .before .before .put-answer .ensures ∙ ap₂ (λ (n : ℕ) (record′ : List ℕ). sets (args .answers .now) (args .to) (allBytes (n ∷ 0 ∷ record′))) (c .before .before .before .before .before .before .before .row .ensures ∙ event .0) after),
     )

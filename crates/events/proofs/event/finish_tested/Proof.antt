@@ -31,14 +31,14 @@ returns : tie.Need-returns
 unfolding finishNext withRound
 returns c =
     let args = c .before .before .before .before .before .args in
-    let reply = c .before .before .before .before .record-reply .ensures in
+    let reply = c .before .before .before .before .finish-reply .ensures in
     (reply, rw (← reply, ← c .new .ensures) (cleared _ _ _ _ (args .model) (c .before .before .before .is-done .ensures) (c .before .if1 .taken)))
 
 returns-2 : tie.Need-returns-2
 unfolding finishNext
 returns-2 c =
     let args = c .before .before .before .before .args in
-    let reply = c .before .before .before .record-reply .ensures in
+    let reply = c .before .before .before .finish-reply .ensures in
     (reply, rw (← reply) (kept _ _ (args .event .ended) _ (args .model) (c .before .before .is-done .ensures) (c .if1 .left)))
 
 pub finish-tested-spec : {M : Type 1} → statement M

@@ -6,7 +6,7 @@ use Rattle.events.proofs.event.latest_after.Tie as tie
 
 returns : tie.Need-returns
 unfolding latestAfter
-returns c = simp (c .before .before .before .if1 .taken, c .before .seed-of .ensures, c .newest .ensures)
+returns c = simp (c .before .before .before .if1 .taken, c .before .seed-of .ensures, c .newest-of .ensures)
 
 returns-2 : tie.Need-returns-2
 unfolding latestAfter

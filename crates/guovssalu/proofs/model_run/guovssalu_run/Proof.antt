@@ -9,8 +9,8 @@ use lib.Seq.{sets}
 use Rattle.state.specs.declared.cycle.Cycle.{Cycle}
 use Rattle.state.specs.declared.network_model.NetworkModel.{NetworkModel}
 use Rattle.words.specs.Words.{allBytes}
-use Rattle.layout.specs.NetworkModel.{modelOf}
-use Rattle.layout.specs.Cycle.{cycleOf}
+use Rattle.layout.specs.NetworkModel.{modelFrom}
+use Rattle.layout.specs.Cycle.{cycleFrom}
 use Rattle.guovssalu.specs.ModelRun.{callsIn, answersTo, leftBy, answersFrom, wordsLeft, stateOut, answersOut}
 use Rattle.guovssalu.proofs.Rows.{done-row, refused, written}
 use Rattle.guovssalu.proofs.ModelRun.{length-left, run-room, run-whole}
@@ -55,8 +55,8 @@ returns-2 c =
     let row = c .row2 .ensures in
     let went-on = c .before .before .before .before .before .before .before .before .before .before .before .before .before .before .before .before .if1 .left in
     let words = c .before .before .before .before .before .before .before .before .before .before .before .before .before .before .state-in .ensures in
-    let model = c .before .before .before .before .before .before .before .before .before .before .before .before .model-of .ensures ∙ ap modelOf words in
-    let cycle = c .before .before .before .before .before .before .before .before .before .before .cycle-of .ensures ∙ ap cycleOf words in
+    let model = c .before .before .before .before .before .before .before .before .before .before .before .before .model-from .ensures ∙ ap modelFrom words in
+    let cycle = c .before .before .before .before .before .before .before .before .before .before .cycle-from .ensures ∙ ap cycleFrom words in
     let run = c .before .before .before .before .before .before .before .before .run-calls .ensures in
     let calls-left = run .0 ∙ ap₂ (λ (m : NetworkModel) (y : Cycle). leftBy m y calls 0 (callsIn calls)) model cycle in
     let answered = run .1 ∙ ap₂ (λ (m : NetworkModel) (y : Cycle). sets out 0 (allBytes (answersTo m y calls 0 (callsIn calls)))) model cycle in

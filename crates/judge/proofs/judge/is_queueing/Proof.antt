@@ -26,11 +26,11 @@ returns : tie.Need-returns
 unfolding isQueueing queueTarget
 returns c =
     let a = c .before .before .before .before .before .args in
-    let l = a .model .round .least in
-    let best = maxGet (a .model .most) in
+    let l = a .model .round .mininflight in
+    let best = maxGet (a .model .maxbw) in
     ap₂ (λ (x : ℕ) (t : Bool). not (ltb l x) && not t)
-    (c .before .before .product .ensures ∙ ap (λ (b : Bandwidth). bdpOf (a .model) b (a .gain)) (c .before .before .before .get .ensures))
-    (c .below-sum .ensures ∙ ap (λ (n : ℕ). ltb l (n + 2600)) (c .before .product2 .ensures ∙ ap (λ (b : Bandwidth). bdpOf (a .model) b one) (c .before .before .before .get .ensures)))
+    (c .before .before .bdp-of .ensures ∙ ap (λ (b : Bandwidth). bdpOf (a .model) b (a .gain)) (c .before .before .before .get .ensures))
+    (c .below-sum .ensures ∙ ap (λ (n : ℕ). ltb l (n + 2600)) (c .before .bdp-of2 .ensures ∙ ap (λ (b : Bandwidth). bdpOf (a .model) b one) (c .before .before .before .get .ensures)))
     ∙ below-neither l (bdpOf (a .model) best (a .gain)) (bdpOf (a .model) best one + 2600)
 
 pub is-queueing-spec : {M : Type 1} → statement M

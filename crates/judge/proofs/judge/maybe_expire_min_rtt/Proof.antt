@@ -8,7 +8,7 @@ use Rattle.judge.proofs.judge.maybe_expire_min_rtt.Statement.{statement
 use Rattle.judge.proofs.judge.maybe_expire_min_rtt.Tie as tie
 
 returns : tie.Need-returns
-returns c = (ap number (c .decide .ensures .0) ∙ c .before .before .judged-reply .ensures, (c .decide .ensures .1 .0 ∙ settled-as _ _ _ _ _ (c .before .before .judged-reply .ensures) (c .before .expired .ensures), c .decide .ensures .1 .1 ∙ settled-as _ _ _ _ _ (c .before .before .judged-reply .ensures) (ap₂ _&&_ (c .before .before .before .before .is-given .ensures) (c .before .before .before .is-due .ensures))))
+returns c = (ap number (c .decide .ensures .0) ∙ c .before .before .judged-reply .ensures, (c .decide .ensures .1 .0 ∙ settled-as _ _ _ _ _ (c .before .before .judged-reply .ensures) (c .before .expire-next .ensures), c .decide .ensures .1 .1 ∙ settled-as _ _ _ _ _ (c .before .before .judged-reply .ensures) (ap₂ _&&_ (c .before .before .before .before .is-given .ensures) (c .before .before .before .is-due .ensures))))
 
 pub maybe-expire-min-rtt-spec : {M : Type 1} → statement M
 maybe-expire-min-rtt-spec = tie.close (tie.spec (λ c κs. search needs) (λ c κs. search needs) (λ c κs. search needs) (λ c κs. search needs) (λ c κs. search needs) returns)

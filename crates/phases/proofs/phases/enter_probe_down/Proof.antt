@@ -11,7 +11,7 @@ down-cycle-requires : tie.Need-down-cycle-requires
 down-cycle-requires c κs = let a = c .before .before .before .before .args in down-base (a .model) (a .cycle) (a .params) (a .now) (sym (c .before .before .before .down-reply .ensures) ∙ eqb-true _ _ (sym (c .before .before .is-done .ensures) ∙ c .before .if1 .taken))
 
 returns : tie.Need-returns
-returns c = let n = c .before .before .before .before .down-reply .ensures in (n, (done-as _ _ _ _ _ _ n (c .before .before .before .is-done .ensures) (c .before .before .if1 .taken) (c .before .restarted .ensures), done-as _ _ _ _ _ _ n (c .before .before .before .is-done .ensures) (c .before .before .if1 .taken) (c .down-cycle .ensures)))
+returns c = let n = c .before .before .before .before .down-reply .ensures in (n, (done-as _ _ _ _ _ _ n (c .before .before .before .is-done .ensures) (c .before .before .if1 .taken) (c .before .restarted-at .ensures), done-as _ _ _ _ _ _ n (c .before .before .before .is-done .ensures) (c .before .before .if1 .taken) (c .down-cycle .ensures)))
 
 returns-2 : tie.Need-returns-2
 returns-2 c = let n = c .before .before .down-reply .ensures in (n, (refused-as _ _ _ _ _ _ n (c .before .is-done .ensures) (c .if1 .left) refl, refused-as _ _ _ _ _ _ n (c .before .is-done .ensures) (c .if1 .left) refl))

@@ -10,7 +10,7 @@ returns c = rw (c .if1 .taken)
 
 returns-2 : tie.Need-returns-2
 unfolding exitModel
-returns-2 c = rw (c .before .if1 .left) (c .advanced .ensures)
+returns-2 c = rw (c .before .if1 .left) (c .advance-next .ensures)
 
 pub exit-model-spec : {M : Type 1} → statement M
 exit-model-spec = tie.close (tie.spec (λ c κs. search needs) returns returns-2)

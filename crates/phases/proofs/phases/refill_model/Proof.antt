@@ -7,7 +7,7 @@ use Rattle.phases.proofs.phases.refill_model.Tie as tie
 
 returns : tie.Need-returns
 unfolding refillModel
-returns c = c .restarted .ensures ∙ simp (c .before .inflight-cleared .ensures) (simp (c .before .before .bandwidth-cleared .ensures) (simp (c .before .before .before .left-model .ensures)))
+returns c = c .restarted-at .ensures ∙ simp (c .before .clear-inflight-next .ensures) (simp (c .before .before .clear-bandwidth-next .ensures) (simp (c .before .before .before .left-model .ensures)))
 
 pub refill-model-spec : {M : Type 1} → statement M
 refill-model-spec = tie.close (tie.spec (λ c κs. search needs) (λ c κs. search needs) (λ c κs. search needs) (λ c κs. search needs) returns)
