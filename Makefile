@@ -1,5 +1,5 @@
 # make run: proves, builds and runs the demonstration. make test: the whole gate. README.md has the others.
-.PHONY: run test contracts diff patterns changes mutants drift picture lists rust year hostile bench install clean kit archive
+.PHONY: run test contracts table diff patterns changes mutants drift picture lists rust year hostile bench install clean kit archive
 
 run: kit
 	rt check show
@@ -7,14 +7,9 @@ run: kit
 	@cat target/log/show.stdout
 
 # Its last line is the verdict of `rt ci`: every crate proved from nothing, every must-fail edit refused, every program
-# run.
+# run. It is printed once all else has passed too (tests/gate.sh).
 test: kit
-	sh tests/contracts.sh
-	rt fmt --check
-	sh tests/lists.sh
-	sh tests/diff.sh gate
-	sh tests/rust.sh check
-	rt ci
+	@sh tests/gate.sh
 
 kit:
 	@command -v rt >/dev/null 2>&1 || { \
@@ -24,9 +19,15 @@ kit:
 
 # ---- what is written, against the source
 
-# The list of public functions in docs/CONTRACTS.md, and the paths that the pages name.
+# The list of public functions in docs/CONTRACTS.md, the paths that the pages name, the table of calls and words, the
+# widths of the pages of definitions, and the modules of the Rust packages.
 contracts:
-	@python3 tests/contracts.py
+	@sh tests/contracts.sh
+
+# What is written from the table of calls and words, docs/calls.txt: tables of docs/LAYOUT.md, names of the header and of
+# the Rust packages.
+table:
+	@python3 tests/table.py --write
 
 # ---- the port beside the original (oracle/README.md)
 

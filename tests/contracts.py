@@ -23,7 +23,7 @@ PAGES = ["docs/*.md", "*.md", "rust/README.md", "oracle/README.md", "hostile/REA
 COLUMNS = ["function", "answers", "definition", "from", "rules out", "must-fail"]
 FOLDERS = ["crates", "docs", "tests", "rust", "oracle", "include", "bench", "hostile"]
 # Cited by so many contracts that the page says once what they are.
-LEFT_OUT = {"number", "settled", "noBandwidth", "noLength", "noMoment", "noGain"}
+LEFT_OUT = {"number", "settled", "zeroBandwidth", "zeroLength", "zeroMoment", "zeroGain"}
 
 NAME = re.compile(r"[A-Za-z][\w′-]*")
 SPAN = re.compile(r"`([^`]*)`")

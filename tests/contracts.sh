@@ -1,13 +1,16 @@
 #!/bin/sh
-# Holds docs/CONTRACTS.md and the paths that the pages name against the source (tests/contracts.py), and what has numbers
-# of calls, places of words and sizes to docs/calls.txt (tests/table.py). Without Python it says so and goes on, but not
-# where CI is true.
+# Holds what is written to the source, each by a script of its own: what has numbers of calls, places of words and sizes
+# to docs/calls.txt (table.py); docs/CONTRACTS.md, and the paths that the pages name (contracts.py); the pages of
+# definitions to 120 characters a line (widths.py); the modules of the Rust packages to needing none that needs them back
+# (circles.py). Without Python it says so and goes on, but not where CI is true.
 set -eu
 cd "$(dirname "$0")/.."
 if ! command -v python3 >/dev/null 2>&1; then
-    echo "contracts, table: not held against the source, since there is no python3 here"
+    echo "table, contracts, widths, circles: not held against the source, since there is no python3 here"
     [ "${CI:-}" != true ]
     exit
 fi
 python3 tests/table.py
 python3 tests/contracts.py
+python3 tests/widths.py
+python3 tests/circles.py

@@ -19,7 +19,7 @@ CHOICES = {
     "crates/calls/src/change.rt": {},
     "crates/calls/src/enter.rt": {},
     "crates/calls/src/question.rt": {},
-    "crates/dispatch/src/turn.rt": {"started": "start"},
+    "crates/dispatch/src/outcome.rt": {"started": "start"},
     "crates/guovssalu/src/model_run.rt": {
         "send": "on_packet_sent",
         "start": "on_congestion_event_start",
@@ -29,28 +29,28 @@ CHOICES = {
 # Definitions in which `cond (eqb call 12) (..)` does, and the column of [definitions] by which a row is known. A file may
 # have a part of the calls; together those of one column have all of them.
 ROWS = {
-    "row": ["crates/calls/specs/Ask.antt", "crates/calls/specs/Change.antt", "crates/calls/specs/Enter.antt", "crates/calls/specs/Question.antt", "crates/dispatch/specs/Turn.antt"],
+    "row": ["crates/calls/specs/Ask.antt", "crates/calls/specs/Change.antt", "crates/calls/specs/Enter.antt", "crates/calls/specs/Question.antt", "crates/dispatch/specs/Outcome.antt"],
     "step": ["crates/theorems/specs/Steps.antt"],
 }
 # Functions that read a section's words, and the word at which the section begins for them.
 READERS = [
-    ("crates/layout/src/network_model.rt", "model_of", "state", 0),
-    ("crates/layout/src/cycle.rt", "cycle_of", "state", 0),
-    ("crates/arguments/src/record.rt", "record_of", "event", "EVENT_IN_CALL"),
-    ("crates/arguments/src/params.rt", "params_of", "params", "PARAMS_IN_CALL"),
-    ("crates/arguments/src/sample.rt", "sample_of", "sample", 0),
-    ("crates/layout/specs/NetworkModel.antt", "modelOf", "state", 0),
-    ("crates/layout/specs/Cycle.antt", "cycleOf", "state", 0),
-    ("crates/arguments/specs/Record.antt", "recordFrom", "event", 0),
-    ("crates/arguments/specs/Params.antt", "paramsOf", "params", "PARAMS_IN_CALL"),
-    ("crates/arguments/specs/Sample.antt", "sampleOf", "sample", 0),
+    ("crates/layout/src/network_model.rt", "model_from", "state", 0),
+    ("crates/layout/src/cycle.rt", "cycle_from", "state", 0),
+    ("crates/arguments/src/congestion_event.rt", "event_from", "event", "EVENT_IN_CALL"),
+    ("crates/arguments/src/params.rt", "params_from", "params", "PARAMS_IN_CALL"),
+    ("crates/arguments/src/sample.rt", "sample_from", "sample", 0),
+    ("crates/layout/specs/NetworkModel.antt", "modelFrom", "state", 0),
+    ("crates/layout/specs/Cycle.antt", "cycleFrom", "state", 0),
+    ("crates/arguments/specs/CongestionEvent.antt", "eventFromWord", "event", 0),
+    ("crates/arguments/specs/Params.antt", "paramsFrom", "params", "PARAMS_IN_CALL"),
+    ("crates/arguments/specs/Sample.antt", "sampleFrom", "sample", 0),
 ]
 # Functions that test the form of all the words of a section that have one.
 FORMS = [
     ("crates/layout/src/form.rt", None, "state", 0),
     ("crates/layout/specs/Form.antt", None, "state", 0),
-    ("crates/arguments/src/record.rt", "record_fits", "event", "EVENT_IN_CALL"),
-    ("crates/arguments/specs/Record.antt", "recordFits", "event", 0),
+    ("crates/arguments/src/congestion_event.rt", "event_fits", "event", "EVENT_IN_CALL"),
+    ("crates/arguments/specs/CongestionEvent.antt", "eventFits", "event", 0),
     ("crates/arguments/src/sample.rt", "sample_fits", "sample", 0),
     ("crates/arguments/specs/Sample.antt", "sampleFits", "sample", 0),
 ]
@@ -60,13 +60,13 @@ PHRASES = [
     (r"\[0?(?:u64)?; (\d+)\]", WORDS),
     (r"\bn: &?\[u64; (\d+)\]", ("STATE_WORDS", "CALL_WORDS")),
     (r"\bstate\.len\(\) != (\d+)|now state\) ≡ (\d+)|eqb \(length (?:s|state|\(r \.state\))\) (\d+)", ("STATE_BYTES",)),
-    (r"wordsAt s 0 (\d+)|\(cycleOf w\)\) w 0 (\d+)|cycleWords c\) ≡ (\d+)", ("STATE_WORDS",)),
+    (r"wordsAt s 0 (\d+)|\(cycleFrom w\)\) w 0 (\d+)|cycleWords c\) ≡ (\d+)", ("STATE_WORDS",)),
     (r"\bcalls\.len\(\) [%/] (\d+)|\(r \.calls\) % (\d+)|callsIn src = length src / (\d+)", ("CALL_BYTES",)),
     (r"\bat = (\d+) \* i\b|\bat \+ (\d+) ≤ length \(now calls\)|src \(at \+ ([2-9]\d\d)\) n|calls \(at \+ (\d+)\)", ("CALL_BYTES",)),
     (r"wordsAt src at (\d+)", ("CALL_WORDS",)),
     (r"\bto = (\d+) \* i\b|\bto \+ (\d+) ≤ length \(now answers\)|\b(\d+) \* \(?(?:callsIn|count r|calls\.len)", ("ANSWER_BYTES",)),
-    (r"\(recordWords e\) ≡ (\d+)|wordsFrom l 22 (\d+)", ("EVENT_WORDS",)),
-    (r"recordFrom l (\d+)|wordsFrom l (\d+) 16", ("EVENT_IN_CALL",)),
+    (r"\(eventWords e\) ≡ (\d+)|wordsFrom l 22 (\d+)", ("EVENT_WORDS",)),
+    (r"eventFromWord l (\d+)|wordsFrom l (\d+) 16", ("EVENT_IN_CALL",)),
     (r"wordsFrom l (\d+) 11", ("PARAMS_IN_CALL",)),
     (r"\bsrc\.len\(\) [%/] (\d+)|\bpairs src = length src / (\d+)", ("PAIR_BYTES",)),
     (r"room < (\d+) \* \(src|ltb room \((\d+) \* pairs", ("SAMPLES_BYTES",)),

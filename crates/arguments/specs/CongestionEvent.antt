@@ -21,7 +21,13 @@ lengthOf set n = maybeOf Missing (λ n. Length (record { 0 = n })) set n
 
 -- last_packet_send_state
 abbrev pub sendTimeStateOf : ℕ → ℕ → ℕ → ℕ → SendTimeState
-sendTimeStateOf valid limited acked inflight = record { valid = flagOf valid; applimited = flagOf limited; acked = acked; inflight = inflight }
+sendTimeStateOf valid limited acked inflight =
+    record {
+      valid = flagOf valid;
+      applimited = flagOf limited;
+      acked = acked;
+      inflight = inflight;
+    }
 
 -- ---- from words: the record whose first word is word i
 -- its four flags: end_of_round_trip, is_probing_for_bandwidth, the send state's is_valid and is_app_limited

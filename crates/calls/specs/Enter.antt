@@ -32,9 +32,24 @@ enterOf call a b c m y p =
       model = restartedAt m (downAt a b c);
       cycle = downCycle y p (flagOf a) (flagOf b) (downAt a b c);
     })
-    (cond (eqb call 41) (record { number = cruiseNumber m y (at a); model = cruiseModel m y (at a); cycle = cruiseCycle y (at a) })
-    (cond (eqb call 42) (record { number = refillNumber m y a (at b); model = refillModel m y (at b); cycle = refillCycle y a (at b) })
-    (cond (eqb call 43) (record { number = upNumber m y (at a) b; model = restartedAt m (at a); cycle = upCycle y (at a) b })
+    (cond (eqb call 41)
+    (record {
+      number = cruiseNumber m y (at a);
+      model = cruiseModel m y (at a);
+      cycle = cruiseCycle y (at a);
+    })
+    (cond (eqb call 42)
+    (record {
+      number = refillNumber m y a (at b);
+      model = refillModel m y (at b);
+      cycle = refillCycle y a (at b);
+    })
+    (cond (eqb call 43)
+    (record {
+      number = upNumber m y (at a) b;
+      model = restartedAt m (at a);
+      cycle = upCycle y (at a) b;
+    })
     (cond (eqb call 44) (record { number = exitNumber m y; model = exitModel m y; cycle = exitCycle y })
     (cond (eqb call 45) (record { number = slopeNumber y a; model = m; cycle = slopeCycle y a })
     (record { number = unknownNumber m; model = m; cycle = y }))))))

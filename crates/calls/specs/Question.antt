@@ -19,8 +19,23 @@ pub record Judged : Type 0 where
 -- calls 5 to 7 and 9; `limit` is the call's number, `gain` its f32. Any other number is refused
 unfoldable pub judgeOf : (call limit : ℕ) → Float → NetworkModel → Params → CongestionEvent → Judged
 judgeOf call limit gain m p e =
-    cond (eqb call 5) (record { number = judgedNumber m p e false; next = expireNext m p e; yes = isExpired (e .rtt) (e .time) (m .minrtt) (p .period) })
-    (cond (eqb call 6) (record { number = judgedNumber m p e false; next = m; yes = isTooHigh (m .round) (e .state) limit (p .loss) })
-    (cond (eqb call 7) (record { number = judgedNumber m p e (growthFull m p e); next = growthNext m p e; yes = hasGrown (m .growth) (maxGet (m .maxbw)) p })
+    cond (eqb call 5)
+    (record {
+      number = judgedNumber m p e false;
+      next = expireNext m p e;
+      yes = isExpired (e .rtt) (e .time) (m .minrtt) (p .period);
+    })
+    (cond (eqb call 6)
+    (record {
+      number = judgedNumber m p e false;
+      next = m;
+      yes = isTooHigh (m .round) (e .state) limit (p .loss);
+    })
+    (cond (eqb call 7)
+    (record {
+      number = judgedNumber m p e (growthFull m p e);
+      next = growthNext m p e;
+      yes = hasGrown (m .growth) (maxGet (m .maxbw)) p;
+    })
     (cond (eqb call 9) (record { number = queueNumber m p gain; next = queueNext m p gain; yes = false })
     (record { number = unknownNumber m; next = m; yes = false }))))

@@ -1,4 +1,4 @@
--- The exported run of the model: calls, carried out in order on a state in lent bytes (docs/LAYOUT.md).
+-- One call of a run in bytes: its words, and the words of its answer (docs/LAYOUT.md).
 use Prim.Native.Nat.{ℕ}
 use mathlib.Core.List.{List, [], _∷_}
 use Rattle.words.specs.Words.{wordsAt}

@@ -1,4 +1,4 @@
--- One call on a model and a cycle, from the 49 words of its record (docs/LAYOUT.md): what it answers, and what it leaves.
+-- One call on a model and a cycle, from its 49 words (docs/LAYOUT.md): what it answers, and what it leaves.
 use Prim.Native.Nat.{ℕ}
 use mathlib.Core.Bool.{Bool, false, cond, _&&_, _||_}
 use mathlib.Core.List.{List, [], _∷_}
@@ -34,14 +34,21 @@ isAsked call = leb 10 call && leb call 13 || leb 23 call && leb call 38
 abbrev pub noEvent : List ℕ
 noEvent = 0 ∷ 0 ∷ 0 ∷ 0 ∷ 0 ∷ 0 ∷ 0 ∷ 0 ∷ 0 ∷ 0 ∷ 0 ∷ 0 ∷ 0 ∷ 0 ∷ 0 ∷ 0 ∷ []
 
--- a start, at word 1's moment, with word 2's round trip. It makes a fresh cycle too; where it is refused, both are at moment 0
+-- call 0: a start, at word 1's moment, with word 2's round trip. It makes a fresh cycle too; where it is refused, both
+-- are at moment 0
 unfoldable pub startOutcome : List ℕ → Outcome
 startOutcome w =
     let p = paramsFrom w in
     let now : Moment = record { 0 = word w 1 } in
     let rtt : Duration = record { 0 = word w 2 } in
     let n = startNumber p rtt now in
-    record { model = startModel p rtt now; cycle = freshCycle (settled n now zeroMoment); reply = n; value = 0; event = noEvent }
+    record {
+      model = startModel p rtt now;
+      cycle = freshCycle (settled n now zeroMoment);
+      reply = n;
+      value = 0;
+      event = noEvent;
+    }
 
 -- call 1: a send at word 1's moment, with word 2's bytes in flight, of word 3's number and word 4's bytes
 abbrev pub sendNumber : List ℕ → NetworkModel → ℕ
@@ -83,20 +90,47 @@ abbrev pub finishedLeaves : List ℕ → NetworkModel → NetworkModel
 finishedLeaves w m = settled (finishedNumber w m) (finishNext m (eventFrom w)) m
 
 unfoldable pub finishOutcome : List ℕ → NetworkModel → Cycle → Outcome
-finishOutcome w m y = record { model = finishedLeaves w m; cycle = y; reply = finishedNumber w m; value = 0; event = noEvent }
+finishOutcome w m y =
+    record {
+      model = finishedLeaves w m;
+      cycle = y;
+      reply = finishedNumber w m;
+      value = 0;
+      event = noEvent;
+    }
 
 unfoldable pub judgeOutcome : List ℕ → NetworkModel → Cycle → Outcome
 judgeOutcome w m y =
     let j = judgeOf (word w 0) (word w 1) (floatOf (word w 1)) m (paramsFrom w) (eventFrom w) in
-    record { model = settled (j .number) (j .next) m; cycle = y; reply = j .number; value = flagWord (settled (j .number) (j .yes) false); event = noEvent }
+    record {
+      model = settled (j .number) (j .next) m;
+      cycle = y;
+      reply = j .number;
+      value = flagWord (settled (j .number) (j .yes) false);
+      event = noEvent;
+    }
 
 unfoldable pub askOutcome : List ℕ → NetworkModel → Cycle → Outcome
-askOutcome w m y = let q = askOf (word w 0) (word w 1) (floatOf (word w 2)) m (paramsFrom w) in record { model = m; cycle = y; reply = q .number; value = settled (q .number) (q .value) 0; event = noEvent }
+askOutcome w m y =
+    let q = askOf (word w 0) (word w 1) (floatOf (word w 2)) m (paramsFrom w) in
+    record {
+      model = m;
+      cycle = y;
+      reply = q .number;
+      value = settled (q .number) (q .value) 0;
+      event = noEvent;
+    }
 
 unfoldable pub enterOutcome : List ℕ → NetworkModel → Cycle → Outcome
 enterOutcome w m y =
     let e = enterOf (word w 0) (word w 1) (word w 2) (word w 3) m y (paramsFrom w) in
-    record { model = settled (e .number) (e .model) m; cycle = settled (e .number) (e .cycle) y; reply = e .number; value = 0; event = noEvent }
+    record {
+      model = settled (e .number) (e .model) m;
+      cycle = settled (e .number) (e .cycle) y;
+      reply = e .number;
+      value = 0;
+      event = noEvent;
+    }
 
 unfoldable pub changeOutcome : List ℕ → NetworkModel → Cycle → Outcome
 changeOutcome w m y =

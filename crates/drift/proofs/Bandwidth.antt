@@ -81,7 +81,7 @@ module _ (beta : Float) (parts : ℕ) (value : HasValue (complement beta) false 
 
   event-kept : (m : NetworkModel) (p : Params) (e : CongestionEvent) (s : CongestionEventSample) (acked : List ℕ) (x : Exact) → p .beta ≡ beta → E.eventNumber m p e s acked ≡ 0 → Kept (m .lower .bandwidth) x
       → Kept (E.modelNext m p e s acked .lower .bandwidth) (exactly parts (cond (isReduced m e s acked) (reduces (maxGet (E.maxbwNext m s) .0) (E.latestRaised (m .latest) s .bandwidth .0)) stays) x)
-  unfolding modelTests H.sampleTests E.modelNext E.modelAfter E.lowerNext E.lowerAfter E.lowerReduced E.eventNext E.eventAfter E.maxbwNext isReduced exactly
+  unfolding modelTests H.sampleTests E.modelNext E.modelAfter E.adaptLowerBounds E.lowerAfter E.lowerReduced E.eventNext E.eventAfter E.maxbwNext isReduced exactly
   event-kept m p e s acked x same done h = go (E.acts (after .ended) (after .probing) (E.roundNext m after s .lost))
     where
       after : CongestionEvent

@@ -97,7 +97,7 @@ module _ (beta : Float) (parts : ℕ) (value : HasValue (complement beta) false 
 
   event-kept : (m : NetworkModel) (p : Params) (e : CongestionEvent) (s : CongestionEventSample) (acked : List ℕ) (x : Exact) → p .beta ≡ beta → (e .window ≤ 2 ^ 24) × (s .inflight ≤ 2 ^ 24) → Kept m x
       → Kept (E.modelNext m p e s acked) (exactly parts (cond (isReduced m e s acked) (reduces (e .window) (E.latestRaised (m .latest) s .inflight)) stays) x)
-  unfolding E.modelNext E.modelAfter E.lowerNext E.lowerAfter E.lowerReduced E.eventNext E.eventAfter isReduced exactly
+  unfolding E.modelNext E.modelAfter E.adaptLowerBounds E.lowerAfter E.lowerReduced E.eventNext E.eventAfter isReduced exactly
   event-kept m p e s acked x same sizes h =
       record { small = after-small (E.latestRaised (m .latest) s) (after .ended) s raised (sizes .1); raw = go (E.acts (after .ended) (after .probing) (E.roundNext m after s .lost)) }
     where

@@ -122,8 +122,8 @@ pub record IsBeta (beta : Float) : Type 0 where
   pub range : betaOk beta ≡ true
 
 -- ---- the theorem: b is exactly parts / 2^24, and after any list of calls from a fresh model, beside any cycle y, the
--- number follows its exact run. u / v bounds what one reduction is off, `effect` is what a call does to the number, `low`
--- the number as it is stored, P what is asked of every accepted event besides beta
+-- number follows its exact run. u / v bounds what one reduction is off, `effect` is what a call does to the number,
+-- `low` the number as it is stored, P what is asked of every accepted event besides beta
 abbrev pub Drift : (u v : ℕ) → (Call → State → Effect) → (State → Low) → (Call → Type 0) → Type 0
 Drift u v effect low P =
     (beta : Float) → IsBeta beta →

@@ -78,4 +78,5 @@ exactly parts (reduces seed latest) (over num exponent k) =
 unfoldable pub exactRun : (Call → State → Effect) → (parts : ℕ) → List Call → State → Exact → Exact
 exactRun effect parts [] s x = x
 exactRun effect parts (c ∷ calls) s x =
-    let made = settled (numberOf c s) (effect c s) stays in exactRun effect parts calls (after c s) (exactly parts made x)
+    let made = settled (numberOf c s) (effect c s) stays in
+    exactRun effect parts calls (after c s) (exactly parts made x)

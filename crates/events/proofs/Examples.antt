@@ -15,8 +15,8 @@ use Rattle.state.specs.Params.{paramsOk}
 use Rattle.state.specs.Parts.{roundOk}
 use Rattle.state.specs.NetworkModel.{modelTests, withRounds, withRound, modelNew, startNumber, startModel}
 use Rattle.state.specs.CongestionEvent.{eventTests, sampleTests}
-use Rattle.events.specs.Event.{cwndlimitedAfter, stateAfter, deliveredBy, roundAfter, latestRaised, lowerReduced, lowerAfter, latestAfter, eventAfter, eventNext, maxbwNext, roundNext, lowerNext, modelAfter, modelNext, isFull, eventNumber, finishNext, workedEvents}
+use Rattle.events.specs.Event.{cwndlimitedAfter, stateAfter, deliveredBy, roundAfter, latestRaised, lowerReduced, lowerAfter, latestAfter, eventAfter, eventNext, maxbwNext, roundNext, adaptLowerBounds, modelAfter, modelNext, isFull, eventNumber, finishNext, workedEvents}
 
 pub worked-events : all workedEvents ≡ true
-unfolding workedEvents scaled scaledF64 roundAway timesF32 Ieee.round Ieee.ofBits Ieee.sub Ieee.mul Ieee.ofInt Ieee.toUnsigned Ieee.eq Ieee.le maxGet maxUpdate minUpdate roundsSent endsRound roundsFull roundsEnded roundsAcked settled within paramsOk roundOk modelTests rowOf withRounds withRound modelNew startNumber startModel eventTests sampleTests cwndlimitedAfter stateAfter deliveredBy roundAfter latestRaised lowerReduced lowerAfter latestAfter eventAfter eventNext maxbwNext roundNext lowerNext modelAfter modelNext isFull eventNumber finishNext
+unfolding workedEvents scaled scaledF64 roundAway timesF32 Ieee.round Ieee.ofBits Ieee.sub Ieee.mul Ieee.ofInt Ieee.toUnsigned Ieee.eq Ieee.le maxGet maxUpdate minUpdate roundsSent endsRound roundsFull roundsEnded roundsAcked settled within paramsOk roundOk modelTests rowOf withRounds withRound modelNew startNumber startModel eventTests sampleTests cwndlimitedAfter stateAfter deliveredBy roundAfter latestRaised lowerReduced lowerAfter latestAfter eventAfter eventNext maxbwNext roundNext adaptLowerBounds modelAfter modelNext isFull eventNumber finishNext
 worked-events = refl

@@ -1,11 +1,11 @@
 -- One event, in order: document 01, "One event, in order"; network_model.rs, on_congestion_event_start and
--- adapt_lower_bounds in BwLoMode::Default. m is the model before the event, e its record as handed in, s what the
+-- adapt_lower_bounds in BwLoMode::Default. m is the model before the event, e the event as handed in, s what the
 -- sampler says to it, and `acked` the packet numbers acked.
 --
 -- The way of an event. Check: the table's rows (`eventRows`). Round: whether one ends (`roundsEnded`, `roundsAcked`).
--- CongestionEventSample: the record, the filters and the round's sums (`eventAfter`, `maxbwNext`, `minrttAfter`, `roundNext`). Bounds:
--- the lower ones, then the latest (`lowerNext`, `latestAfter`). Settle: all is stored (`modelAfter`). Last on the page
--- three events are worked out, step by step.
+-- Sample: the event itself, the filters and the round's sums (`eventAfter`, `maxbwNext`, `minrttAfter`, `roundNext`).
+-- Bounds: the lower ones, then the latest (`adaptLowerBounds`, `latestAfter`). Settle: all is stored (`modelAfter`).
+-- Last on the page three events are worked out, step by step.
 use Prim.Native.Nat.{ℕ, min, max, _+_, _-_, _*_, _^_}
 use mathlib.Core.Bool.{Bool, true, false, cond, not, _&&_, _||_}
 use mathlib.Core.List.{List, [], _∷_}
@@ -169,12 +169,14 @@ roundNext m after s =
     let delivered = deliveredBy (after .state) (after .acked) (s .totals .acked) in
     roundAfter (m .round) (after .lost) delivered (after .inflight)
 
-unfoldable pub lowerNext : NetworkModel → Params → CongestionEvent → CongestionEventSample → MaxBandwidthFilter → ℕ → Lower
-lowerNext m p after s most lost =
+unfoldable pub adaptLowerBounds : NetworkModel → Params → (after : CongestionEvent) → CongestionEventSample →
+    MaxBandwidthFilter → (lost : ℕ) → Lower
+adaptLowerBounds m p after s most lost =
     let reduces = acts (after .ended) (after .probing) lost in
     lowerAfter (m .lower) reduces (maxGet most) (latestRaised (m .latest) s) (after .window) (p .beta)
 
-unfoldable pub modelAfter : NetworkModel → Params → CongestionEvent → CongestionEventSample → RoundTripCounter → NetworkModel
+unfoldable pub modelAfter : NetworkModel → Params → (after : CongestionEvent) → CongestionEventSample →
+    RoundTripCounter → NetworkModel
 modelAfter m p after s counter =
     record {
       rounds = counter;
@@ -182,7 +184,7 @@ modelAfter m p after s counter =
       minrtt = minrttAfter (m .minrtt) (s .rtt) (after .time);
       round = roundNext m after s;
       latest = latestAfter (latestRaised (m .latest) s) (after .ended) s;
-      lower = lowerNext m p after s (maxbwNext m s) (roundNext m after s .lost);
+      lower = adaptLowerBounds m p after s (maxbwNext m s) (roundNext m after s .lost);
       high = m .high;
       gains = m .gains;
       cwndlimited = cwndlimitedAfter (m .cwndlimited) (s .extra) (after .prior) (after .window);

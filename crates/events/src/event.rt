@@ -6,7 +6,7 @@ ghost use lib.Dec.{ltb, eqb};
 ghost use Rattle.units.specs.Reply.{number};
 ghost use Rattle.state.specs.Answers.{settled};
 ghost use Rattle.state.specs.NetworkModel.{modelOk};
-ghost use Rattle.events.specs.Event.{cwndlimitedAfter, stateAfter, isChanged, maxbwAfter, bandwidthAfter, minrttAfter, rttAfter, deliveredBy, roundAfter, raisedBandwidth, latestRaised, seedOf, startOf, newestOf, lowerReduced, lowerAfter, latestAfter, eventAfter, eventNext, maxbwNext, roundNext, lowerNext, modelAfter, modelNext, isLower, isFull, eventNumber, finishNumber, finishNext};
+ghost use Rattle.events.specs.Event.{cwndlimitedAfter, stateAfter, isChanged, maxbwAfter, bandwidthAfter, minrttAfter, rttAfter, deliveredBy, roundAfter, raisedBandwidth, latestRaised, seedOf, startOf, newestOf, latestAfter, eventAfter, eventNext, maxbwNext, roundNext, adaptLowerBounds, modelAfter, modelNext, isLower, isFull, eventNumber, finishNumber, finishNext};
 use filters::MaxBandwidthFilter;
 use filters::MinRttFilter;
 use filters::RoundTripCounter;
@@ -191,7 +191,7 @@ fn model_after(
     let least = minrtt_next(model, after, sample);
     let round = round_next(model, after, sample);
     let latest = latest_next(model, after, sample);
-    let lower = lower_next(model, params, after, sample, most, round.lost);
+    let lower = adapt_lower_bounds(model, params, after, sample, most, round.lost);
     let limited = cwndlimited_after(model.cwndlimited, sample.extra, after.prior, after.window);
     let send = sample.send;
     let ack = sample.ack;
@@ -258,7 +258,8 @@ fn round_next(model: NetworkModel, after: CongestionEvent, sample: CongestionEve
 
 // ---- the bounds: the lower ones, then the latest
 
-fn lower_next(
+// Both are cut by 1 - beta at the end of a round with a loss, when not probing, but not below the latest.
+fn adapt_lower_bounds(
     model: NetworkModel,
     params: Params,
     after: CongestionEvent,
@@ -266,19 +267,27 @@ fn lower_next(
     most: MaxBandwidthFilter,
     lost: u64,
 ) -> Lower
-    ensures { λ r. ⌜ r ≡ lowerNext model params after sample most lost ⌝ }
+    ensures { λ r. ⌜ r ≡ adaptLowerBounds model params after sample most lost ⌝ }
 {
     let lower = model.lower;
-    let latest = model.latest;
-    let reduces = after.ended & !after.probing & (0 < lost);
-    lower_after(
-        lower,
-        reduces,
-        most.get(),
-        latest_raised(latest, sample),
-        after.window,
-        params.beta,
-    )
+    if after.ended & !after.probing & (0 < lost) {
+        let b = 1.0 - params.beta;
+        let was = model.latest;
+        let latest = latest_raised(was, sample);
+        let fastest = latest.bandwidth;
+        let lo = lower.bandwidth;
+        let best = most.get();
+        let seed = seed_of(lo, best);
+        let slower = fastest.max(seed.mul_f32(b));
+        return Lower {
+            bandwidth: MaybeBandwidth::Set(slower),
+            inflight: larger(
+                latest.inflight,
+                numbers::scale(start_of(lower.inflight, after.window), b),
+            ),
+        };
+    }
+    lower
 }
 
 fn latest_next(model: NetworkModel, after: CongestionEvent, sample: CongestionEventSample) -> Latest
@@ -413,40 +422,6 @@ fn raised_bandwidth(was: Bandwidth, sample: MaybeBandwidth) -> Bandwidth
         return was;
     };
     was.max(bandwidth)
-}
-
-fn lower_after(
-    lower: Lower,
-    reduces: bool,
-    most: Bandwidth,
-    latest: Latest,
-    window: u64,
-    beta: f32,
-) -> Lower
-    ensures { λ r. ⌜ r ≡ lowerAfter lower reduces most latest window beta ⌝ }
-{
-    if reduces {
-        lower_reduced(lower, most, latest, window, 1.0 - beta)
-    } else {
-        lower
-    }
-}
-
-// The lower bounds after a reduction by the factor b.
-fn lower_reduced(lower: Lower, most: Bandwidth, latest: Latest, window: u64, b: f32) -> Lower
-    ensures { λ r. ⌜ r ≡ lowerReduced lower most latest window b ⌝ }
-{
-    let lo = lower.bandwidth;
-    let fastest = latest.bandwidth;
-    let seed = seed_of(lo, most);
-    let slower = fastest.max(seed.mul_f32(b));
-    Lower {
-        bandwidth: MaybeBandwidth::Set(slower),
-        inflight: larger(
-            latest.inflight,
-            numbers::scale(start_of(lower.inflight, window), b),
-        ),
-    }
 }
 
 // bandwidth_lo, or the maximum where it is unset.

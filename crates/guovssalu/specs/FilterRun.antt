@@ -9,7 +9,7 @@ use Rattle.filters.specs.declared.windowed_filter.Estimate.{Estimate}
 use Rattle.filters.specs.declared.windowed_filter.Estimate.the-variants.{Nothing, Value}
 use Rattle.filters.specs.declared.windowed_filter.WindowedFilter.{WindowedFilter}
 use Rattle.filters.specs.WindowedFilter.{windowedNew, windowedNumber, windowedUpdate, bestOf, secondOf, thirdOf}
-use Rattle.state.specs.Refusals.{rowOf}
+use Rattle.state.specs.Refusals.{noRows, argument, earlier, lowest}
 use Rattle.words.specs.Words.{wordAt}
 use Rattle.guovssalu.specs.Reply.{orShort, answered}
 
@@ -24,7 +24,8 @@ afterPair f src at = windowedUpdate f (wordAt src (at + 8)) (wordAt src at)
 -- "a pair that the update would refuse": one of the n pairs from an index on
 unfoldable pub refuses : WindowedFilter → List ℕ → ℕ → ℕ → Bool
 refuses f src at zero = false
-refuses f src at (suc n) = not (eqb (windowedNumber f (wordAt src at)) 0) || refuses (afterPair f src at) src (at + 16) n
+refuses f src at (suc n) =
+    not (eqb (windowedNumber f (wordAt src at)) 0) || refuses (afterPair f src at) src (at + 16) n
 
 -- "three samples per pair": the filter's, from the best to the third. After a pair there is one each
 abbrev pub sampleIn : Estimate → ℕ
@@ -44,8 +45,8 @@ samplesOf f src at (suc n) = samples (afterPair f src at) ++ samplesOf (afterPai
 unfoldable pub runRow : (window : ℕ) (src : List ℕ) (room : ℕ) → ℕ
 runRow window src room =
     let uneven = not (eqb (length src % 16) 0) in
-    let earlier = refuses (windowedNew window) src 0 (pairs src) in
-    orShort (rowOf false uneven earlier false false) (ltb room (24 * pairs src))
+    let refused = refuses (windowedNew window) src 0 (pairs src) in
+    orShort (lowest (argument uneven (earlier refused noRows))) (ltb room (24 * pairs src))
 
 unfoldable pub runOut : (window : ℕ) (src out : List ℕ) → List ℕ
 runOut window src out =

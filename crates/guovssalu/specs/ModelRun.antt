@@ -8,7 +8,7 @@ use mathlib.Core.List.{List, [], _++_}
 use lib.Dec.{ltb, eqb}
 use lib.ListN.{length}
 use Rattle.state.specs.declared.network_model.NetworkModel.{NetworkModel}
-use Rattle.state.specs.Refusals.{rowOf}
+use Rattle.state.specs.Refusals.{noRows, stored, argument, lowest}
 use Rattle.state.specs.declared.cycle.Cycle.{Cycle}
 use Rattle.words.specs.Words.{wordsAt}
 use Rattle.layout.specs.NetworkModel.{modelFrom}
@@ -57,7 +57,7 @@ wordsLeft state src = leftBy (modelFrom (stateIn state)) (cycleFrom (stateIn sta
 unfoldable pub modelRow : (state src : List ℕ) (room : ℕ) → ℕ
 modelRow state src room =
     let uneven = not (eqb (length state) 400) || not (eqb (length src % 392) 0) in
-    orShort (rowOf (encodesNone state) uneven false false false) (ltb room (144 * callsIn src))
+    orShort (lowest (stored (encodesNone state) (argument uneven noRows))) (ltb room (144 * callsIn src))
 
 unfoldable pub answersOut : (state src out : List ℕ) → List ℕ
 answersOut state src out = answered (modelRow state src (length out)) (answersFrom state src) out

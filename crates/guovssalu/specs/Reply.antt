@@ -6,8 +6,8 @@ use lib.Dec.{eqb}
 use lib.Seq.{sets}
 use Rattle.words.specs.Words.{allBytes}
 
--- row 7, "the lent output is shorter than the answer", after the rows that `rowOf` decides: "If several refusals apply,
--- the lowest number is given"
+-- row 7, "the lent output is shorter than the answer", after the rows that `lowest` decides: "If several refusals
+-- apply, the lowest number is given"
 unfoldable pub orShort : ℕ → Bool → ℕ
 orShort row short = cond (eqb row 0 && short) 7 row
 

@@ -93,7 +93,9 @@ growthAfter g most t p =
 -- row 5: the bandwidth has not grown, so that the round counts, and the count is full
 unfoldable pub growthFull : NetworkModel → Params → CongestionEvent → Bool
 growthFull m p e =
-    not (hasGrown (m .growth) (maxGet (m .maxbw)) p) && countsFlat (m .growth) (e .state) && isFullCounter (m .growth .flat)
+    not (hasGrown (m .growth) (maxGet (m .maxbw)) p)
+    && countsFlat (m .growth) (e .state)
+    && isFullCounter (m .growth .flat)
 
 abbrev pub growthRows : NetworkModel → Params → CongestionEvent → Rows
 growthRows m p e = judgedRows m p (eventOk e) (growthFull m p e)

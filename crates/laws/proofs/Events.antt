@@ -257,7 +257,7 @@ module _ (m : NetworkModel) (p : Params) (e : CongestionEvent) (s : CongestionEv
       rtt (Length d) h = h
 
   pub event-model-kept : T (fits binary32 (p .beta)) → modelOk (E.modelNext m p e s acked) ≡ true
-  unfolding modelTests H.eventTests H.sampleTests E.modelNext E.modelAfter E.eventNext E.eventAfter E.maxbwNext E.roundNext E.lowerNext
+  unfolding modelTests H.eventTests H.sampleTests E.modelNext E.modelAfter E.eventNext E.eventAfter E.maxbwNext E.roundNext E.adaptLowerBounds
   event-model-kept fit =
       let bandwidth = all-at (H.sampleTests s) 0 event-sample in
       let inflight = all-at (H.sampleTests s) 4 event-sample in

@@ -49,10 +49,21 @@ abbrev pub stayOf : List ℕ → Stay
 stayOf l = record { phase = phaseOf (word l 34); rounds = word l 37; entered = record { 0 = word l 36 } }
 
 abbrev pub waitOf : List ℕ → Wait
-waitOf l = record { start = record { 0 = word l 35 }; rounds = word l 38; length = waitLengthOf (word l 39) (word l 40) }
+waitOf l =
+    record {
+      start = record { 0 = word l 35 };
+      rounds = word l 38;
+      length = waitLengthOf (word l 39) (word l 40);
+    }
 
 abbrev pub slopeOf : List ℕ → Slope
-slopeOf l = record { rounds = word l 41; bytes = upBytesOf (word l 42) (word l 43); acked = word l 44; applimited = flagOf (word l 45) }
+slopeOf l =
+    record {
+      rounds = word l 41;
+      bytes = upBytesOf (word l 42) (word l 43);
+      acked = word l 44;
+      applimited = flagOf (word l 45);
+    }
 
 unfoldable pub cycleFrom : List ℕ → Cycle
 cycleFrom l =
@@ -67,13 +78,23 @@ cycleFrom l =
 
 -- ---- into words
 abbrev pub timesWords : Stay → Wait → List ℕ
-timesWords s w = phaseWord (s .phase) ∷ w .start .0 ∷ s .entered .0 ∷ s .rounds ∷ w .rounds ∷ maybeWords (waitLengthMaybe (w .length))
+timesWords s w =
+    phaseWord (s .phase)
+    ∷ w .start .0
+    ∷ s .entered .0
+    ∷ s .rounds
+    ∷ w .rounds
+    ∷ maybeWords (waitLengthMaybe (w .length))
 
 abbrev pub slopeWords : Slope → List ℕ
 slopeWords s = s .rounds ∷ maybeWords (upBytesMaybe (s .bytes)) ++ s .acked ∷ flagWord (s .applimited) ∷ []
 
 abbrev pub marksWords : Bool → Bool → Last → List ℕ
-marksWords advanced probing last = flagWord advanced ∷ flagWord probing ∷ flagWord (last .high) ∷ flagWord (last .risky) ∷ []
+marksWords advanced probing last =
+    flagWord advanced ∷ flagWord probing ∷ flagWord (last .high) ∷ flagWord (last .risky) ∷ []
 
 unfoldable pub cycleWords : Cycle → List ℕ
-cycleWords c = timesWords (c .stay) (c .wait) ++ slopeWords (c .slope) ++ marksWords (c .advanced) (c .probing) (c .last)
+cycleWords c =
+    timesWords (c .stay) (c .wait)
+    ++ slopeWords (c .slope)
+    ++ marksWords (c .advanced) (c .probing) (c .last)

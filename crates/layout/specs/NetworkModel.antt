@@ -31,7 +31,14 @@ abbrev pub roundsOf : List ℕ → RoundTripCounter
 roundsOf l = record { count = word l 0; sent = word l 1; end = endOf (word l 2) (word l 3) }
 
 abbrev pub roundOf : List ℕ → Round
-roundOf l = record { lost = word l 8; losses = word l 9; delivered = word l 10; mininflight = word l 11; hilimited = flagOf (word l 12) }
+roundOf l =
+    record {
+      lost = word l 8;
+      losses = word l 9;
+      delivered = word l 10;
+      mininflight = word l 11;
+      hilimited = flagOf (word l 12);
+    }
 
 abbrev pub lowerOf : List ℕ → Lower
 lowerOf l = record { bandwidth = bandwidthOf (word l 15) (word l 16); inflight = word l 17 }
@@ -40,7 +47,14 @@ abbrev pub gainsOf : List ℕ → Gains
 gainsOf l = record { cwnd = floatOf (word l 19); pacing = floatOf (word l 20) }
 
 abbrev pub growthOf : List ℕ → Growth
-growthOf l = record { reached = flagOf (word l 22); baseline = record { 0 = word l 23 }; flat = word l 24; queueing = word l 25; ignore = flagOf (word l 26) }
+growthOf l =
+    record {
+      reached = flagOf (word l 22);
+      baseline = record { 0 = word l 23 };
+      flat = word l 24;
+      queueing = word l 25;
+      ignore = flagOf (word l 26);
+    }
 
 abbrev pub ratesOf : List ℕ → Rates
 ratesOf l = record { send = bandwidthOf (word l 27) (word l 28); ack = bandwidthOf (word l 29) (word l 30) }

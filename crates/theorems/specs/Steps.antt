@@ -120,7 +120,7 @@ unfoldable pub exactWalk : (Call → State → X.Effect) → (parts : ℕ) → L
 exactWalk effect parts [] s x = x
 exactWalk effect parts (c ∷ steps) s x = exactWalk effect parts steps (afterStep c s) (exactStep effect parts c s x)
 
--- ---- a call's effect (crates/dispatch/specs/Outcome.antt) leaves what its step leaves, and replies its number
+-- ---- a call's outcome (crates/dispatch/specs/Outcome.antt) leaves what its step leaves, and replies its number
 abbrev pub outcomeIn : List ℕ → State → Outcome
 outcomeIn w s = outcomeOf w (s .model) (s .cycle)
 

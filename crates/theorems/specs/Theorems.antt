@@ -63,11 +63,12 @@ InState P low effect parts Near =
     Near (low (r .left)) (exactAfter effect parts r (exactRuns effect parts runs unset))
 
 -- and so is the answer to a call 35 of r, "inflight_lo", where i calls of r were made before it
-abbrev pub InAnswers : (P : List ℕ → Type 0) (effect : Call → State → Effect) (parts : ℕ) (Near : Low → Exact → Type 0) →
-    Type 0
+abbrev pub InAnswers : (P : List ℕ → Type 0) (effect : Call → State → Effect) (parts : ℕ)
+    (Near : Low → Exact → Type 0) → Type 0
 InAnswers P effect parts Near =
     (runs : List Run) (r : Run) (i : ℕ) → History (runs ++ (r ∷ [])) → Each (OfEvents P) (runs ++ (r ∷ [])) →
-    Accepted 35 r i → Near (lowWord (answerWord r i 1)) (exactBefore effect parts r i (exactRuns effect parts runs unset))
+    Accepted 35 r i →
+    Near (lowWord (answerWord r i 1)) (exactBefore effect parts r i (exactRuns effect parts runs unset))
 
 -- inflight_lo, where P is: the event has this beta, and its window and its inflight sample are at most 2^24
 abbrev pub InflightNear : (beta : Float) (parts : ℕ) (Near : Low → Exact → Type 0) → Type 0
@@ -102,7 +103,7 @@ pub record Theorems : Type 0 where
   -- Those bytes are the words of the state that the calls left, one after the other (`before r (count r)`)
   pub run-left : (r : Run) → Ran r → r .reply ≡ 0 →
       let s = before r (count r) in r .left ≡ allBytes (stateWords (s .model) (s .cycle))
-  -- In a run that is done, call i is answered by its effect (`outcomeOf`) in the state that the calls before it left
+  -- In a run that is done, call i is answered by its outcome (`outcomeOf`) in the state that the calls before it left
   pub call-answered : (r : Run) → Ran r → r .reply ≡ 0 → (i : ℕ) → i < count r →
       answer r i ≡ allBytes (answerWords (outcomeIn (call r i) (before r i)))
   -- A call of a run is refused with the number of the first row that holds, exactly then, whatever its words are
@@ -163,5 +164,6 @@ pub record Theorems : Type 0 where
 -- compiles what was proved. The page docs/LAYOUT.md. And the definitions that this page is made of, written from
 -- document 01, the original and docs/LAYOUT.md: all files of specs/ to which `use` lines lead from here, with their
 -- remarks. A script of the gate counts their lines (tests/contracts.py):
---   numbers 257, filters 299, model 331, events 400, phases 228, laws 433, drift 368, words 32, encoding 509,
---   calls 172, turns 114, exports 199, theorems 709: together 4051
+--   numbers 257, units 71, filters 240, state 652, reads 18, changes 61, events 362, judge 199, phases 209, words
+--   72, layout 284, arguments 250, calls 204, dispatch 162, laws 459, guovssalu 195, drift 382, theorems 720:
+--   together 4797

@@ -1,7 +1,7 @@
 -- One word, a number of 64 bits: a flag, an f32. Definitions only.
--- Every word is read as something. Of a call's words, what no writer writes, a malformed word, is read as something out
--- of bounds, so that the call refuses it: a float as the NaN, a pair as the number `outside`; a flag has no bounds, so a
--- number that is given with it is read as `outside` (`orOutside`). A state's words are tested whole by the run.
+-- Every word is read as something. Of a call's words, what no writer writes, a malformed word, is read as something
+-- out of bounds, so that the call refuses it: a float as the NaN, a pair as the number `outside`; a flag has no bounds,
+-- so a number that is given with it is read as `outside` (`orOutside`). A state's words are tested whole by the run.
 use Prim.Native.Nat.{ℕ, _-_, _^_}
 use mathlib.Core.Bool.{Bool, cond}
 use mathlib.Core.List.{List}

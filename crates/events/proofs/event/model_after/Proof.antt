@@ -11,7 +11,7 @@ use Rattle.state.specs.declared.parts.Lower.{Lower}
 use Rattle.state.specs.declared.parts.Round.{Round}
 use Rattle.state.specs.declared.congestion_event.CongestionEvent.{CongestionEvent}
 use Rattle.state.specs.declared.congestion_event.CongestionEventSample.{CongestionEventSample}
-use Rattle.events.specs.Event.{modelAfter, lowerNext}
+use Rattle.events.specs.Event.{modelAfter, adaptLowerBounds}
 use Rattle.state.proofs.Settling.{ap6}
 use Rattle.events.proofs.event.model_after.Statement.{statement}
 use Rattle.events.proofs.event.model_after.Tie as tie
@@ -22,7 +22,7 @@ made m after s counter most least round latest lower limited =
 
 returns : tie.Need-returns
 unfolding modelAfter
-returns c = let a = c .before .before .before .before .before .before .before .before .args in ap6 (made (a .model) (a .after) (a .sample) (a .counter)) (c .before .before .before .before .before .before .before .maxbw-next .ensures) (c .before .before .before .before .before .before .minrtt-next .ensures) (c .before .before .before .before .before .round-next .ensures) (c .before .before .before .before .latest-next .ensures) (c .before .before .before .lower-next .ensures ∙ ap₂ (λ (x : MaxBandwidthFilter) (y : Round). lowerNext (a .model) (a .params) (a .after) (a .sample) x (y .lost)) (c .before .before .before .before .before .before .before .maxbw-next .ensures) (c .before .before .before .before .before .round-next .ensures)) (c .before .before .cwndlimited-after .ensures)
+returns c = let a = c .before .before .before .before .before .before .before .before .args in ap6 (made (a .model) (a .after) (a .sample) (a .counter)) (c .before .before .before .before .before .before .before .maxbw-next .ensures) (c .before .before .before .before .before .before .minrtt-next .ensures) (c .before .before .before .before .before .round-next .ensures) (c .before .before .before .before .latest-next .ensures) (c .before .before .before .adapt-lower-bounds .ensures ∙ ap₂ (λ (x : MaxBandwidthFilter) (y : Round). adaptLowerBounds (a .model) (a .params) (a .after) (a .sample) x (y .lost)) (c .before .before .before .before .before .before .before .maxbw-next .ensures) (c .before .before .before .before .before .round-next .ensures)) (c .before .before .cwndlimited-after .ensures)
 
 pub model-after-spec : {M : Type 1} → statement M
 model-after-spec =
