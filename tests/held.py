@@ -2,7 +2,7 @@
 the sizes, the replies. tests/table.py calls `faults`; the lists below say where to look.
 
 Each check takes paths and gives lines: file, what stands there, what should. Of the words it is reading that is held:
-that what was written is read back as it was is proved (crates/arguments/specs/RoundTrip.antt)."""
+that what was written is read back as it was is proved (crates/dispatch/specs/RoundTrip.antt)."""
 
 import glob
 import os
@@ -22,8 +22,8 @@ CHOICES = {
     "crates/dispatch/src/outcome.rt": {"started": "start"},
     "crates/guovssalu/src/model_run.rt": {
         "send": "on_packet_sent",
-        "start": "on_congestion_event_start",
-        "end": "on_congestion_event_finish",
+        "event_start": "on_congestion_event_start",
+        "event_finish": "on_congestion_event_finish",
     },
 }
 # Definitions in which `cond (eqb call 12) (..)` does, and the column of [definitions] by which a row is known. A file may

@@ -3,10 +3,10 @@ use filters::MaxBandwidthFilter;
 use filters::MinRttFilter;
 use filters::RoundTripCounter;
 use filters::WindowedFilter;
-use filters::round_trip_counter::RoundEnd;
 use filters::windowed_filter::Held;
 use units::Bandwidth;
 use units::Duration;
+use units::MaybeNumber;
 use units::Moment;
 use units::Reply;
 use words::float_bits::f32_bits;
@@ -100,7 +100,7 @@ fn updated(filter: WindowedFilter, sample: u64, time: u64) -> WindowedFilter {
 fn holds(filter: WindowedFilter, n: &[u64; 16]) -> bool {
     let held = filter.held;
     match held {
-        Held::Empty => {
+        Held::Unset => {
             (n[3] == 0)
                 & (n[4] == 0)
                 & (n[5] == 0)
@@ -109,7 +109,7 @@ fn holds(filter: WindowedFilter, n: &[u64; 16]) -> bool {
                 & (n[8] == 0)
                 & (n[9] == 0)
         }
-        Held::Full(e) => {
+        Held::Set(e) => {
             (n[3] == 1)
                 & (e.best.sample == n[4])
                 & (e.best.time == n[5])
@@ -177,8 +177,8 @@ fn acked(counter: RoundTripCounter, n: &[u64; 16]) -> Compared {
 fn stands(counter: RoundTripCounter, n: &[u64; 16]) -> bool {
     let end = counter.end;
     let set = match end {
-        RoundEnd::NotSet => (n[8] == 0) & (n[9] == 0),
-        RoundEnd::At(packet) => (n[8] == 1) & (packet == n[9]),
+        MaybeNumber::Unset => (n[8] == 0) & (n[9] == 0),
+        MaybeNumber::Set(packet) => (n[8] == 1) & (packet == n[9]),
     };
     (counter.count == n[6]) & (counter.sent == n[7]) & set
 }

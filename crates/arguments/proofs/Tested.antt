@@ -9,17 +9,16 @@ use lib.Ieee.{Float, nan, inf, fin, binary32, ofBits, toBits, le, isNan}
 use lib.Ieee.Bits.{toBits-ofBits}
 use lib.ListN.{getD}
 use borrow.Author.Tests.{eqb-true, leb-true, ltb-true}
-use Rattle.state.specs.declared.parts.MaybeBandwidth.{MaybeBandwidth}
-use Rattle.state.specs.declared.parts.MaybeBandwidth.the-variants.{Unset, Set}
+use Rattle.units.specs.declared.maybe.MaybeBandwidth.the-variants.{Unset, Set}
 use Rattle.state.specs.Bounds.{all, within, maybeOk}
 use Rattle.state.specs.Params.{paramsOk}
 use Rattle.state.proofs.Rows.{and-left, and-right, all-at}
-use Rattle.state.specs.declared.congestion_event.MaybeLength as rtt
+use Rattle.units.specs.declared.maybe.MaybeDuration as rtt
 use Rattle.state.specs.CongestionEvent.{maybeLengthOk, eventTests, sampleTests}
-use Rattle.layout.specs.declared.maybe.Maybe.{Maybe}
+use Rattle.words.specs.declared.maybe.Maybe.{Maybe}
 use Rattle.words.specs.Word.{outside, orOutside, flagWord, flagOf, flagFits, floatWord, floatOf}
-use Rattle.layout.specs.Maybe.{unset, held, isUnset, maybeOf, bandwidthMaybe, bandwidthOf}
-use Rattle.arguments.specs.CongestionEvent.{lengthMaybe, lengthOf, eventFits, eventFromWord, eventFrom, wordsFrom, eventWords}
+use Rattle.words.specs.Maybe.{unset, held, isUnset, maybeOf, bandwidthMaybe, bandwidthOf, lengthMaybe, lengthOf}
+use Rattle.arguments.specs.CongestionEvent.{eventFits, eventFromWord, eventFrom, wordsFrom, eventWords}
 use Rattle.arguments.specs.Sample.{sampleFits, sampleFrom, sampleWords}
 use Rattle.arguments.specs.Params.{paramsFrom, paramsWords}
 use Rattle.arguments.specs.Tested.{Tested}
@@ -67,7 +66,7 @@ bandwidth-same : (a b : ℕ) → maybeOk (bandwidthOf a b) ≡ true → bandwidt
 bandwidth-same a b h = pair-same Unset (λ n. Set (record { 0 = n })) bandwidthMaybe maybeOk refl (λ n. refl) refl a b h
 
 length-same : (a b : ℕ) → maybeLengthOk (lengthOf a b) ≡ true → lengthMaybe (lengthOf a b) ≡ record { set = a; number = b }
-length-same a b h = pair-same rtt.the-variants.Missing (λ n. rtt.the-variants.Length (record { 0 = n })) lengthMaybe maybeLengthOk refl (λ n. refl) refl a b h
+length-same a b h = pair-same rtt.the-variants.Unset (λ n. rtt.the-variants.Set (record { 0 = n })) lengthMaybe maybeLengthOk refl (λ n. refl) refl a b h
 
 -- ---- all of them
 event-same : (l : List ℕ) → all (eventTests (eventFrom l)) ≡ true → eventWords (eventFrom l) ≡ wordsFrom l 22 16

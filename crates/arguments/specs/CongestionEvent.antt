@@ -3,21 +3,10 @@
 use Prim.Native.Nat.{ℕ, zero, suc, _+_}
 use mathlib.Core.Bool.{Bool, _&&_}
 use mathlib.Core.List.{List, [], _∷_, _++_}
-use Rattle.state.specs.declared.congestion_event.MaybeLength.{MaybeLength}
-use Rattle.state.specs.declared.congestion_event.MaybeLength.the-variants.{Missing, Length}
 use Rattle.state.specs.declared.congestion_event.CongestionEvent.{CongestionEvent}
 use Rattle.state.specs.declared.congestion_event.SendTimeState.{SendTimeState}
-use Rattle.layout.specs.declared.maybe.Maybe.{Maybe}
 use Rattle.words.specs.Word.{word, orOutside, flagWord, flagOf, flagFits}
-use Rattle.layout.specs.Maybe.{unset, held, maybeWords, maybeOf, bandwidthMaybe, bandwidthOf}
-
--- sample_min_rtt
-abbrev pub lengthMaybe : MaybeLength → Maybe
-lengthMaybe Missing = unset
-lengthMaybe (Length d) = held (d .0)
-
-abbrev pub lengthOf : ℕ → ℕ → MaybeLength
-lengthOf set n = maybeOf Missing (λ n. Length (record { 0 = n })) set n
+use Rattle.words.specs.Maybe.{maybeWords, bandwidthMaybe, bandwidthOf, lengthMaybe, lengthOf}
 
 -- last_packet_send_state
 abbrev pub sendTimeStateOf : ℕ → ℕ → ℕ → ℕ → SendTimeState

@@ -1,6 +1,5 @@
 -- What a call is given, in words.
 pub mod Params
 pub mod CongestionEvent
-pub mod RoundTrip
 pub mod Sample
 pub mod Tested

@@ -8,8 +8,8 @@ use lib.Dec.{leb}
 use lib.ListN.{take}
 use Rattle.state.specs.declared.congestion_event.CongestionEventSample.{CongestionEventSample}
 use Rattle.words.specs.Word.{word, orOutside, flagWord, flagOf, flagFits}
-use Rattle.layout.specs.Maybe.{maybeWords, bandwidthMaybe, bandwidthOf}
-use Rattle.arguments.specs.CongestionEvent.{lengthMaybe, lengthOf, sendTimeStateOf}
+use Rattle.words.specs.Maybe.{maybeWords, bandwidthMaybe, bandwidthOf, lengthMaybe, lengthOf}
+use Rattle.arguments.specs.CongestionEvent.{sendTimeStateOf}
 
 -- its three flags, sample_is_app_limited and the send state's is_valid and is_app_limited; the count of acked numbers
 unfoldable pub sampleFits : List ℕ → Bool

@@ -1,16 +1,13 @@
 // An event's record: words 22 to 37 of a call, and 16 words of an answer.
 ghost use mathlib.Core.Path.{_≡_};
-ghost use Rattle.arguments.specs.CongestionEvent.{lengthOf, lengthMaybe, sendTimeStateOf, eventFits, eventFrom, eventIn, eventWords};
-use layout::maybe::Maybe;
-use layout::maybe::bandwidth_maybe;
-use layout::maybe::bandwidth_of;
-use layout::maybe::is_unset;
-use layout::maybe::number_in;
+ghost use Rattle.arguments.specs.CongestionEvent.{sendTimeStateOf, eventFits, eventFrom, eventIn, eventWords};
 use state::congestion_event::CongestionEvent;
-use state::congestion_event::MaybeLength;
 use state::congestion_event::SendTimeState;
-use units::Duration;
 use units::Moment;
+use words::maybe::bandwidth_maybe;
+use words::maybe::bandwidth_of;
+use words::maybe::length_maybe;
+use words::maybe::length_of;
 use words::word::flag_fits;
 use words::word::flag_word;
 use words::word::or_outside;
@@ -67,17 +64,6 @@ pub fn event_in(n: &[u64; 49]) -> [u64; 16]
     ]
 }
 
-// The length of time in two words.
-pub(crate) fn length_of(set: u64, number: u64) -> MaybeLength
-    ensures { λ r. ⌜ r ≡ lengthOf set number ⌝ }
-{
-    if is_unset(set, number) {
-        MaybeLength::Missing
-    } else {
-        MaybeLength::Length(Duration(number_in(set, number)))
-    }
-}
-
 // The send state in four words.
 pub(crate) fn send_time_state_of(
     valid: u64,
@@ -123,16 +109,4 @@ pub fn event_words(event: CongestionEvent) -> [u64; 16]
         event.state.acked,
         event.state.inflight,
     ]
-}
-
-fn length_maybe(length: MaybeLength) -> Maybe
-    ensures { λ r. ⌜ r ≡ lengthMaybe length ⌝ }
-{
-    match length {
-        MaybeLength::Missing => Maybe { set: 0, number: 0 },
-        MaybeLength::Length(held) => Maybe {
-            set: 1,
-            number: held.0,
-        },
-    }
 }

@@ -1,12 +1,12 @@
 // What an event's call is given: the sampler's answer, words 1 to 17, and the acked packets' numbers, 18 to 21.
 ghost use mathlib.Core.Path.{_≡_};
 ghost use Rattle.arguments.specs.Sample.{sampleFits, sampleFrom, ackedCount, ackedNumbers};
-use crate::congestion_event::length_of;
 use crate::congestion_event::send_time_state_of;
-use layout::maybe::bandwidth_of;
 use numbers::smaller;
 use state::congestion_event::CongestionEventSample;
 use state::parts::Totals;
+use words::maybe::bandwidth_of;
+use words::maybe::length_of;
 use words::word::flag_fits;
 use words::word::or_outside;
 

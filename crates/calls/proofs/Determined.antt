@@ -2,8 +2,7 @@
 use mathlib.Core.Path.{_≡_, sym, _∙_}
 use Rattle.numbers.specs.OneReply.{OneReply}
 use Rattle.units.proofs.reply.Number.{number-injective}
-use Rattle.state.proofs.Determined.{number}
-use Rattle.state.proofs.Determined.{changed}
+use Rattle.state.proofs.Determined.{number, changed}
 use Rattle.phases.proofs.Determined.{entered}
 use Rattle.judge.proofs.Determined.{decided}
 use Rattle.calls.proofs.ask as ask

@@ -11,15 +11,15 @@ pub one-send :
     call.send.Reads.Learnt κ a x s → call.send.Reads.Learnt κ a y t → (x ≡ y) × (now (s .1 .1 .1 .1 .0) ≡ now (t .1 .1 .1 .1 .0))
 one-send κ a x y s t p q = (p .0 ∙ sym (q .0), p .1 ∙ sym (q .1))
 
-pub one-start :
-    (κ : Lfts 2) (a : Dens κ call.start.Kinds.ps) (x y : resT call.start.Kinds.r κ .Denot) (s t : AtExit (endedOf 2 call.start.Kinds.ps call.start.Kinds.r) κ) →
-    call.start.Reads.Learnt κ a x s → call.start.Reads.Learnt κ a y t → (x ≡ y) × (now (s .1 .1 .1 .1 .0) ≡ now (t .1 .1 .1 .1 .0))
-one-start κ a x y s t p q = (p .0 ∙ sym (q .0), p .1 ∙ sym (q .1))
+pub one-event-start :
+    (κ : Lfts 2) (a : Dens κ call.event_start.Kinds.ps) (x y : resT call.event_start.Kinds.r κ .Denot) (s t : AtExit (endedOf 2 call.event_start.Kinds.ps call.event_start.Kinds.r) κ) →
+    call.event_start.Reads.Learnt κ a x s → call.event_start.Reads.Learnt κ a y t → (x ≡ y) × (now (s .1 .1 .1 .1 .0) ≡ now (t .1 .1 .1 .1 .0))
+one-event-start κ a x y s t p q = (p .0 ∙ sym (q .0), p .1 ∙ sym (q .1))
 
-pub one-end :
-    (κ : Lfts 2) (a : Dens κ call.end.Kinds.ps) (x y : resT call.end.Kinds.r κ .Denot) (s t : AtExit (endedOf 2 call.end.Kinds.ps call.end.Kinds.r) κ) →
-    call.end.Reads.Learnt κ a x s → call.end.Reads.Learnt κ a y t → (x ≡ y) × (now (s .1 .1 .1 .1 .0) ≡ now (t .1 .1 .1 .1 .0))
-one-end κ a x y s t p q = (p .0 ∙ sym (q .0), p .1 ∙ sym (q .1))
+pub one-event-finish :
+    (κ : Lfts 2) (a : Dens κ call.event_finish.Kinds.ps) (x y : resT call.event_finish.Kinds.r κ .Denot) (s t : AtExit (endedOf 2 call.event_finish.Kinds.ps call.event_finish.Kinds.r) κ) →
+    call.event_finish.Reads.Learnt κ a x s → call.event_finish.Reads.Learnt κ a y t → (x ≡ y) × (now (s .1 .1 .1 .1 .0) ≡ now (t .1 .1 .1 .1 .0))
+one-event-finish κ a x y s t p q = (p .0 ∙ sym (q .0), p .1 ∙ sym (q .1))
 
 pub one-other :
     (κ : Lfts 2) (a : Dens κ call.other.Kinds.ps) (x y : resT call.other.Kinds.r κ .Denot) (s t : AtExit (endedOf 2 call.other.Kinds.ps call.other.Kinds.r) κ) →

@@ -3,15 +3,14 @@ use mathlib.Core.Bool.{true}
 use mathlib.Core.Path.{_≡_, refl}
 use lib.Ieee as Ieee
 use Rattle.numbers.specs.Examples.{all}
-use Rattle.filters.specs.MaxBandwidthFilter.{maxGet, maxUpdate, maxAdvance}
-use Rattle.filters.specs.RoundTripCounter.{endsRound, roundsFull, roundsEnded, roundsAcked, roundsRestart}
+use Rattle.filters.specs.MaxBandwidthFilter.{maxGet, maxUpdate}
+use Rattle.filters.specs.RoundTripCounter.{endsRound, roundsFull, roundsEnded, roundsAcked}
 use Rattle.state.specs.Answers.{settled}
 use Rattle.state.specs.Bounds.{within}
 use Rattle.state.specs.Refusals.{rowOf}
 use Rattle.state.specs.Params.{paramsOk}
 use Rattle.state.specs.Parts.{roundOk}
-use Rattle.state.specs.NetworkModel.{modelTests}
-use Rattle.state.specs.NetworkModel.{storedNumber, givenNumber}
+use Rattle.state.specs.NetworkModel.{modelTests, storedNumber, givenNumber}
 use Rattle.events.specs.Event as E
 use Rattle.state.specs.CongestionEvent as H
 use Rattle.events.specs.Event.{finishNumber}

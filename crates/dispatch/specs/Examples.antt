@@ -6,7 +6,6 @@ use lib.Dec.{eqb}
 use lib.ListN.{take, drop, replicate}
 use Rattle.layout.specs.NetworkModel.{modelFrom}
 use Rattle.layout.specs.Cycle.{cycleFrom}
-use Rattle.dispatch.specs.declared.outcome.Outcome.{Outcome}
 use Rattle.dispatch.specs.Outcome.{outcomeOf}
 
 abbrev pub same : List ℕ → List ℕ → Bool

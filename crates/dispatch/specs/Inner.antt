@@ -5,15 +5,10 @@ use mathlib.Core.Bool.{cond}
 use mathlib.Core.List.{List}
 use lib.Dec.{leb, eqb}
 use Rattle.state.specs.declared.network_model.NetworkModel.{NetworkModel}
-use Rattle.state.specs.Answers.{settled}
-use Rattle.state.specs.declared.congestion_event.CongestionEvent.{CongestionEvent}
-use Rattle.events.specs.Event.{eventNext}
 use Rattle.state.specs.declared.cycle.Cycle.{Cycle}
 use Rattle.words.specs.Word.{word}
-use Rattle.arguments.specs.CongestionEvent.{eventFrom}
-use Rattle.arguments.specs.Sample.{sampleFrom, ackedOf}
 use Rattle.dispatch.specs.declared.outcome.Outcome.{Outcome}
-use Rattle.dispatch.specs.Outcome.{isJudged, isAsked, startOutcome, startedNumber, judgeOutcome, askOutcome, enterOutcome, changeOutcome}
+use Rattle.dispatch.specs.Outcome.{isJudged, isAsked, startOutcome, judgeOutcome, askOutcome, enterOutcome, changeOutcome}
 
 -- all calls but 1, 3 and 4
 unfoldable pub otherOutcome : List ℕ → NetworkModel → Cycle → Outcome

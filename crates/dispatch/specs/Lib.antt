@@ -3,3 +3,4 @@ pub mod Examples
 pub mod Inner
 pub mod OneCall
 pub mod Outcome
+pub mod RoundTrip

@@ -9,8 +9,7 @@ use Rattle.state.specs.declared.network_model.NetworkModel.{NetworkModel}
 use Rattle.state.specs.Answers.{settled, zeroMoment}
 use Rattle.state.specs.NetworkModel.{startNumber, startModel}
 use Rattle.changes.specs.Changes.{sentNumber, sentNext}
-use Rattle.events.specs.Event.{eventNumber, modelNext, eventNext}
-use Rattle.events.specs.Event.{finishNumber, finishNext}
+use Rattle.events.specs.Event.{eventNumber, modelNext, eventNext, finishNumber, finishNext}
 use Rattle.state.specs.declared.cycle.Cycle.{Cycle}
 use Rattle.state.specs.Cycle.{freshCycle}
 use Rattle.words.specs.Word.{word, flagWord, floatOf}
@@ -61,40 +60,41 @@ unfoldable pub sendOutcome : List ℕ → NetworkModel → Cycle → Outcome
 sendOutcome w m y = record { model = sendLeaves w m; cycle = y; reply = sendNumber w m; value = 0; event = noEvent }
 
 -- call 3: an event's start
-abbrev pub startedNumber : List ℕ → NetworkModel → ℕ
-startedNumber w m = eventNumber m (paramsFrom w) (eventFrom w) (sampleFrom w) (ackedOf w)
+abbrev pub eventStartNumber : List ℕ → NetworkModel → ℕ
+eventStartNumber w m = eventNumber m (paramsFrom w) (eventFrom w) (sampleFrom w) (ackedOf w)
 
-abbrev pub startedLeaves : List ℕ → NetworkModel → NetworkModel
-startedLeaves w m = settled (startedNumber w m) (modelNext m (paramsFrom w) (eventFrom w) (sampleFrom w) (ackedOf w)) m
+abbrev pub eventStartLeaves : List ℕ → NetworkModel → NetworkModel
+eventStartLeaves w m =
+    settled (eventStartNumber w m) (modelNext m (paramsFrom w) (eventFrom w) (sampleFrom w) (ackedOf w)) m
 
-abbrev pub startedWords : List ℕ → NetworkModel → List ℕ
-startedWords w m =
-    settled (startedNumber w m) (eventWords (eventNext m (eventFrom w) (sampleFrom w) (ackedOf w))) (eventIn w)
+abbrev pub eventStartWords : List ℕ → NetworkModel → List ℕ
+eventStartWords w m =
+    settled (eventStartNumber w m) (eventWords (eventNext m (eventFrom w) (sampleFrom w) (ackedOf w))) (eventIn w)
 
 -- its answer has the record: "an event's record as handed in" where it is refused, word by word
 unfoldable pub eventOutcome : List ℕ → NetworkModel → Cycle → Outcome
 eventOutcome w m y =
     record {
-      model = startedLeaves w m;
+      model = eventStartLeaves w m;
       cycle = y;
-      reply = startedNumber w m;
+      reply = eventStartNumber w m;
       value = 0;
-      event = startedWords w m;
+      event = eventStartWords w m;
     }
 
 -- call 4: an event's finish
-abbrev pub finishedNumber : List ℕ → NetworkModel → ℕ
-finishedNumber w m = finishNumber m (eventFrom w)
+abbrev pub eventFinishNumber : List ℕ → NetworkModel → ℕ
+eventFinishNumber w m = finishNumber m (eventFrom w)
 
-abbrev pub finishedLeaves : List ℕ → NetworkModel → NetworkModel
-finishedLeaves w m = settled (finishedNumber w m) (finishNext m (eventFrom w)) m
+abbrev pub eventFinishLeaves : List ℕ → NetworkModel → NetworkModel
+eventFinishLeaves w m = settled (eventFinishNumber w m) (finishNext m (eventFrom w)) m
 
 unfoldable pub finishOutcome : List ℕ → NetworkModel → Cycle → Outcome
 finishOutcome w m y =
     record {
-      model = finishedLeaves w m;
+      model = eventFinishLeaves w m;
       cycle = y;
-      reply = finishedNumber w m;
+      reply = eventFinishNumber w m;
       value = 0;
       event = noEvent;
     }

@@ -11,7 +11,7 @@ ghost use Rattle.words.specs.Words.{allBytes};
 ghost use Rattle.units.specs.Reply.{number};
 ghost use Rattle.state.specs.Answers.{settled};
 ghost use Rattle.arguments.specs.CongestionEvent.{eventIn, eventWords};
-ghost use Rattle.dispatch.specs.Outcome.{noEvent, sendNumber, sendLeaves, startedNumber, startedLeaves, startedWords, finishedNumber, finishedLeaves};
+ghost use Rattle.dispatch.specs.Outcome.{noEvent, sendNumber, sendLeaves, eventStartNumber, eventStartLeaves, eventStartWords, eventFinishNumber, eventFinishLeaves};
 ghost use Rattle.dispatch.specs.Inner.{otherOutcome};
 ghost use Rattle.dispatch.specs.OneCall.{callAt, answerWords};
 use crate::outcome::Outcome;
@@ -59,7 +59,7 @@ pub fn send(
 }
 
 // Call 3, an event's start.
-pub fn start(
+pub fn event_start(
     model: NetworkModel,
     fine: bool,
     calls: &[u8],
@@ -68,8 +68,8 @@ pub fn start(
     to: usize,
 ) -> NetworkModel
     requires { ⌜ (at + 392 ≤ length (now calls)) × (to + 144 ≤ length (now answers)) × (fine ≡ modelOk model) ⌝ }
-    ensures { λ r. ⌜ r ≡ startedLeaves (callAt (now (calls .entry)) at) model ⌝ }
-    ensures { λ _. ⌜ now (answers .exit) ≡ sets (now (answers .entry)) to (allBytes (startedNumber (callAt (now (calls .entry)) at) model ∷ 0 ∷ startedWords (callAt (now (calls .entry)) at) model)) ⌝ }
+    ensures { λ r. ⌜ r ≡ eventStartLeaves (callAt (now (calls .entry)) at) model ⌝ }
+    ensures { λ _. ⌜ now (answers .exit) ≡ sets (now (answers .entry)) to (allBytes (eventStartNumber (callAt (now (calls .entry)) at) model ∷ 0 ∷ eventStartWords (callAt (now (calls .entry)) at) model)) ⌝ }
 {
     let words = call_at(calls, at);
     let acked = acked_numbers(&words);
@@ -106,7 +106,7 @@ fn event_left(reply: Reply, after: CongestionEvent, words: &[u64; 49]) -> [u64; 
 }
 
 // Call 4, an event's finish.
-pub fn end(
+pub fn event_finish(
     model: NetworkModel,
     fine: bool,
     calls: &[u8],
@@ -115,8 +115,8 @@ pub fn end(
     to: usize,
 ) -> NetworkModel
     requires { ⌜ (at + 392 ≤ length (now calls)) × (to + 144 ≤ length (now answers)) × (fine ≡ modelOk model) ⌝ }
-    ensures { λ r. ⌜ r ≡ finishedLeaves (callAt (now (calls .entry)) at) model ⌝ }
-    ensures { λ _. ⌜ now (answers .exit) ≡ sets (now (answers .entry)) to (allBytes (finishedNumber (callAt (now (calls .entry)) at) model ∷ 0 ∷ noEvent)) ⌝ }
+    ensures { λ r. ⌜ r ≡ eventFinishLeaves (callAt (now (calls .entry)) at) model ⌝ }
+    ensures { λ _. ⌜ now (answers .exit) ≡ sets (now (answers .entry)) to (allBytes (eventFinishNumber (callAt (now (calls .entry)) at) model ∷ 0 ∷ noEvent)) ⌝ }
 {
     let words = call_at(calls, at);
     let changed = finish_tested(model, fine, event_from(&words));

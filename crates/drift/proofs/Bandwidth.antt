@@ -18,12 +18,11 @@ use Rattle.filters.specs.MaxBandwidthFilter.{maxGet}
 use Rattle.state.specs.declared.network_model.NetworkModel.{NetworkModel}
 use Rattle.state.specs.declared.params.Params.{Params}
 use Rattle.state.specs.declared.parts.Lower.{Lower}
-use Rattle.state.specs.declared.parts.MaybeBandwidth.{MaybeBandwidth}
-use Rattle.state.specs.declared.parts.MaybeBandwidth.the-variants.{Unset, Set}
+use Rattle.units.specs.declared.maybe.MaybeBandwidth.{MaybeBandwidth}
+use Rattle.units.specs.declared.maybe.MaybeBandwidth.the-variants.{Unset, Set}
 use Rattle.state.specs.Answers.{settled, zeroLength, zeroMoment}
 use Rattle.state.specs.Bounds.{bandwidthOk, maybeOk, bytesOrUnsetOk}
-use Rattle.state.specs.NetworkModel.{modelTests}
-use Rattle.state.specs.NetworkModel.{one, startNumber, startModel, modelNew, withRounds, withRound, withLower, withGrowth, withMoment, restartNext, capNext, clearInflightNext, clearBandwidthNext}
+use Rattle.state.specs.NetworkModel.{modelTests, one, startNumber, startModel, modelNew, withRounds, withRound, withLower, withGrowth, withMoment, restartNext, capNext, clearInflightNext, clearBandwidthNext}
 use Rattle.state.specs.Parts.{lowerCapped}
 use Rattle.state.proofs.Rows.{and-left, all-at}
 use Rattle.state.specs.declared.congestion_event.CongestionEvent.{CongestionEvent}

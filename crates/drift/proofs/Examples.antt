@@ -13,14 +13,11 @@ use Rattle.state.specs.Answers.{settled}
 use Rattle.state.specs.Bounds.{all, within}
 use Rattle.state.specs.Refusals.{rowOf}
 use Rattle.state.specs.Params.{paramsOk}
-use Rattle.state.specs.Parts.{roundOk}
-use Rattle.state.specs.NetworkModel.{modelTests}
-use Rattle.state.specs.NetworkModel.{withRounds, withRound, withLower, withMoment, modelNew, startNumber, startModel, storedNumber, givenNumber, capNext, clearInflightNext, clearBandwidthNext, withGrowth, growthRestarted, restartNext}
+use Rattle.state.specs.Parts.{roundOk, roundSent, lowerCapped}
+use Rattle.state.specs.NetworkModel.{modelTests, withRounds, withRound, withLower, withMoment, modelNew, startNumber, startModel, storedNumber, givenNumber, capNext, clearInflightNext, clearBandwidthNext, withGrowth, growthRestarted, restartNext}
 use Rattle.changes.specs.Changes.{sentNumber, sentNext}
-use Rattle.state.specs.Parts.{roundSent, lowerCapped}
 use Rattle.state.specs.CongestionEvent.{eventTests, sampleTests}
-use Rattle.events.specs.Event.{stateAfter, deliveredBy, roundAfter, latestRaised, lowerReduced, lowerAfter, latestAfter, eventAfter, eventNext, maxbwNext, roundNext, adaptLowerBounds, modelAfter, modelNext, isFull, eventNumber}
-use Rattle.events.specs.Event.{finishNumber, finishNext}
+use Rattle.events.specs.Event.{stateAfter, deliveredBy, roundAfter, latestRaised, lowerReduced, lowerAfter, latestAfter, eventAfter, eventNext, maxbwNext, roundNext, adaptLowerBounds, modelAfter, modelNext, isFull, eventNumber, finishNumber, finishNext}
 use Rattle.state.specs.Cycle.{cycleNew, stayFrom, freshNumber, freshCycle, cycleTests}
 use Rattle.phases.specs.Phases.{entryNumber, restartedAt, exitModel, leftModel, leftCycle, cycleIn, cruiseModel, cruiseCycle, refillModel, refilled, refillCycle}
 use Rattle.drift.specs.Calls.{otherNumber, numberOf, otherNext, nextOf, after, run, started}

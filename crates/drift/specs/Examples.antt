@@ -5,9 +5,9 @@ use mathlib.Core.List.{List, [], _∷_, _++_}
 use lib.Dec.{eqb, ltb}
 use Rattle.state.specs.declared.params.Params.{Params}
 use Rattle.state.specs.NetworkModel.{one}
-use Rattle.state.specs.declared.parts.MaybeBandwidth.the-variants.{Unset, Set}
+use Rattle.units.specs.declared.maybe.MaybeBandwidth.the-variants.{Unset, Set}
 use Rattle.units.specs.declared.time.Moment.{Moment}
-use Rattle.state.specs.declared.congestion_event.MaybeLength.the-variants.{Missing}
+use Rattle.units.specs.declared.maybe.MaybeDuration.the-variants as Length
 use Rattle.state.specs.declared.congestion_event.CongestionEvent.{CongestionEvent}
 use Rattle.state.specs.declared.congestion_event.CongestionEventSample.{CongestionEventSample}
 use Rattle.state.specs.Cycle.{freshCycle}
@@ -48,7 +48,7 @@ told window probing ended =
       ended = ended;
       probing = probing;
       bandwidth = Unset;
-      rtt = Missing;
+      rtt = Length.Unset;
       state = record { valid = false; applimited = false; acked = 0; inflight = 0 };
     }
 
@@ -60,7 +60,7 @@ heard n lost rate =
       send = Unset;
       ack = Unset;
       applimited = false;
-      rtt = Missing;
+      rtt = Length.Unset;
       inflight = 0;
       extra = 0;
       state = record { valid = false; applimited = false; acked = 0; inflight = 0 };

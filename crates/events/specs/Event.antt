@@ -26,14 +26,14 @@ use Rattle.state.specs.declared.network_model.NetworkModel.{NetworkModel}
 use Rattle.state.specs.declared.params.Params.{Params}
 use Rattle.state.specs.declared.parts.Latest.{Latest}
 use Rattle.state.specs.declared.parts.Lower.{Lower}
-use Rattle.state.specs.declared.parts.MaybeBandwidth.{MaybeBandwidth}
-use Rattle.state.specs.declared.parts.MaybeBandwidth.the-variants.{Unset, Set}
+use Rattle.units.specs.declared.maybe.MaybeBandwidth.{MaybeBandwidth}
+use Rattle.units.specs.declared.maybe.MaybeBandwidth.the-variants.{Unset, Set}
 use Rattle.state.specs.declared.parts.Round.{Round}
 use Rattle.state.specs.declared.refusals.Rows.{Rows}
 use Rattle.state.specs.NetworkModel.{modelOk, withRounds, withRound, one, startModel, givenRows}
 use Rattle.state.specs.Params.{paramsOk}
-use Rattle.state.specs.declared.congestion_event.MaybeLength.{MaybeLength}
-use Rattle.state.specs.declared.congestion_event.MaybeLength.the-variants.{Missing, Length}
+use Rattle.units.specs.declared.maybe.MaybeDuration.{MaybeDuration}
+use Rattle.units.specs.declared.maybe.MaybeDuration.the-variants as Length
 use Rattle.state.specs.declared.congestion_event.CongestionEvent.{CongestionEvent}
 use Rattle.state.specs.declared.congestion_event.CongestionEventSample.{CongestionEventSample}
 use Rattle.state.specs.declared.congestion_event.SendTimeState.{SendTimeState}
@@ -71,13 +71,13 @@ bandwidthAfter was Unset changed = was
 bandwidthAfter was (Set b) changed = cond changed (Set b) was
 
 -- "min RTT"; the record takes the sample
-abbrev pub minrttAfter : MinRttFilter → MaybeLength → Moment → MinRttFilter
-minrttAfter f Missing now = f
-minrttAfter f (Length d) now = minUpdate f d now
+abbrev pub minrttAfter : MinRttFilter → MaybeDuration → Moment → MinRttFilter
+minrttAfter f Length.Unset now = f
+minrttAfter f (Length.Set d) now = minUpdate f d now
 
-abbrev pub rttAfter : MaybeLength → MaybeLength → MaybeLength
-rttAfter was Missing = was
-rttAfter was (Length d) = Length d
+abbrev pub rttAfter : MaybeDuration → MaybeDuration → MaybeDuration
+rttAfter was Length.Unset = was
+rttAfter was (Length.Set d) = Length.Set d
 
 -- "loss sums (event count +1 if bytes lost > 0); delivered maximum; minimum inflight"
 unfoldable pub deliveredBy : SendTimeState → ℕ → ℕ → ℕ
@@ -263,7 +263,7 @@ told n =
       ended = false;
       probing = false;
       bandwidth = Unset;
-      rtt = Missing;
+      rtt = Length.Unset;
       state = record { valid = false; applimited = false; acked = 0; inflight = 0 };
     }
 
@@ -275,7 +275,7 @@ heard n =
       send = Unset;
       ack = Unset;
       applimited = false;
-      rtt = Length (record { 0 = 100_000_000 });
+      rtt = Length.Set (record { 0 = 100_000_000 });
       inflight = 400;
       extra = 0;
       state = record { valid = true; applimited = false; acked = n * 1000 - 1000; inflight = 1300 };

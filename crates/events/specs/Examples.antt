@@ -6,7 +6,7 @@ use lib.Dec.{eqb}
 use lib.Ieee.{binary32, ofBits}
 use Rattle.units.specs.declared.bandwidth.Bandwidth.{Bandwidth}
 use Rattle.state.specs.declared.parts.Lower.{Lower}
-use Rattle.state.specs.declared.parts.MaybeBandwidth.the-variants.{Unset}
+use Rattle.units.specs.declared.maybe.MaybeBandwidth.the-variants.{Unset}
 use Rattle.events.specs.Event.{lowerAfter}
 
 abbrev none : Bandwidth

@@ -18,17 +18,17 @@ use state::Params;
 use state::bounds::UNSET;
 use state::congestion_event::CongestionEvent;
 use state::congestion_event::CongestionEventSample;
-use state::congestion_event::MaybeLength;
 use state::congestion_event::SendTimeState;
 use state::network_model::Changed;
 use state::parts::Latest;
 use state::parts::Lower;
-use state::parts::MaybeBandwidth;
 use state::parts::Rates;
 use state::parts::Round;
 use state::refusals::Rows;
 use state::refusals::refusal;
 use units::Bandwidth;
+use units::MaybeBandwidth;
+use units::MaybeDuration;
 use units::Moment;
 use units::Reply;
 use units::counter::FULL;
@@ -324,13 +324,13 @@ fn bandwidth_after(was: MaybeBandwidth, sample: MaybeBandwidth, changed: bool) -
     }
 }
 
-fn rtt_after(was: MaybeLength, sample: MaybeLength) -> MaybeLength
+fn rtt_after(was: MaybeDuration, sample: MaybeDuration) -> MaybeDuration
     ensures { λ r. ⌜ r ≡ rttAfter was sample ⌝ }
 {
-    let MaybeLength::Length(rtt) = sample else {
+    let MaybeDuration::Set(rtt) = sample else {
         return was;
     };
-    MaybeLength::Length(rtt)
+    MaybeDuration::Set(rtt)
 }
 
 fn state_after(was: SendTimeState, new: SendTimeState) -> SendTimeState
@@ -358,10 +358,10 @@ fn maxbw_after(
     }
 }
 
-fn minrtt_after(filter: MinRttFilter, sample: MaybeLength, now: Moment) -> MinRttFilter
+fn minrtt_after(filter: MinRttFilter, sample: MaybeDuration, now: Moment) -> MinRttFilter
     ensures { λ r. ⌜ r ≡ minrttAfter filter sample now ⌝ }
 {
-    let MaybeLength::Length(rtt) = sample else {
+    let MaybeDuration::Set(rtt) = sample else {
         return filter;
     };
     filter.update(rtt, now)

@@ -6,7 +6,7 @@ use mathlib.Core.List.{List, [], _∷_}
 use lib.Dec.{eqb}
 use Rattle.filters.specs.declared.max_bandwidth_filter.MaxBandwidthFilter.{MaxBandwidthFilter}
 use Rattle.filters.specs.declared.windowed_filter.Held.{Held}
-use Rattle.filters.specs.declared.windowed_filter.Held.the-variants.{Empty, Full}
+use Rattle.filters.specs.declared.windowed_filter.Held.the-variants.{Unset, Set}
 use Rattle.filters.specs.declared.windowed_filter.WindowedFilter.{WindowedFilter}
 use Rattle.filters.specs.MaxBandwidthFilter.{maxAdvance}
 use Rattle.filters.specs.WindowedFilter.{windowedNew, windowedReset, windowedNumber, windowedUpdate}
@@ -19,8 +19,8 @@ same (a ∷ l) [] = false
 
 -- the samples, each with its time
 abbrev held : Held → List ℕ
-held Empty = []
-held (Full e) =
+held Unset = []
+held (Set e) =
     e .best .sample
     ∷ e .best .time
     ∷ e .second .sample

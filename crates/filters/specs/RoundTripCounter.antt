@@ -4,13 +4,13 @@ use mathlib.Core.Bool.{Bool, true, false, cond, not, _&&_}
 use mathlib.Core.List.{List}
 use lib.Dec.{ltb, eqb}
 use lib.ListN.{length, getD}
-use Rattle.filters.specs.declared.round_trip_counter.RoundEnd.{RoundEnd}
-use Rattle.filters.specs.declared.round_trip_counter.RoundEnd.the-variants.{NotSet, At}
+use Rattle.units.specs.declared.maybe.MaybeNumber.{MaybeNumber}
+use Rattle.units.specs.declared.maybe.MaybeNumber.the-variants as Number
 use Rattle.filters.specs.declared.round_trip_counter.RoundTripCounter.{RoundTripCounter}
 
 -- nothing counted, nothing sent, no end: BBRv2NetworkModel::new
 abbrev pub roundsNew : RoundTripCounter
-roundsNew = record { count = 0; sent = 0; end = NotSet }
+roundsNew = record { count = 0; sent = 0; end = Number.Unset }
 
 -- a packet's number becomes the last sent: on_packet_sent
 unfoldable pub roundsSent : RoundTripCounter → ℕ → RoundTripCounter
@@ -18,15 +18,15 @@ roundsSent c n = record { count = c .count; sent = n; end = c .end }
 
 -- "the end becomes the last sent number": restart_round
 unfoldable pub roundsRestart : RoundTripCounter → RoundTripCounter
-roundsRestart c = record { count = c .count; sent = c .sent; end = At (c .sent) }
+roundsRestart c = record { count = c .count; sent = c .sent; end = Number.Set (c .sent) }
 
 -- "no end is set yet or that number is greater than the end": on_packets_acked
-abbrev pub isPast : RoundEnd → ℕ → Bool
-isPast NotSet n = true
-isPast (At k) n = ltb k n
+abbrev pub isPast : MaybeNumber → ℕ → Bool
+isPast Number.Unset n = true
+isPast (Number.Set k) n = ltb k n
 
 -- "the last of it is the largest acked. .. An empty slice ends no round"
-unfoldable pub endsRound : RoundEnd → List ℕ → Bool
+unfoldable pub endsRound : MaybeNumber → List ℕ → Bool
 endsRound e acked = cond (eqb (length acked) 0) false (isPast e (getD acked (length acked - 1) 0))
 
 -- "Replies and bounds", row 5: "the call's rule adds 1 to a counter that is 2^64 - 1"
@@ -45,5 +45,5 @@ roundsEnded c acked = endsRound (c .end) acked && not (roundsFull c acked)
 unfoldable pub roundsAcked : RoundTripCounter → List ℕ → RoundTripCounter
 roundsAcked c acked =
     cond (roundsEnded c acked)
-    (record { count = c .count + 1; sent = c .sent; end = At (c .sent) })
+    (record { count = c .count + 1; sent = c .sent; end = Number.Set (c .sent) })
     c

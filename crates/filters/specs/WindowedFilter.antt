@@ -2,11 +2,11 @@
 use Prim.Native.Nat.{ℕ, _-_, _/_}
 use mathlib.Core.Bool.{Bool, false, cond, _&&_, _||_}
 use lib.Dec.{ltb, eqb}
-use Rattle.filters.specs.declared.windowed_filter.Estimate.{Estimate}
-use Rattle.filters.specs.declared.windowed_filter.Estimate.the-variants.{Nothing, Value}
+use Rattle.units.specs.declared.maybe.MaybeNumber.{MaybeNumber}
+use Rattle.units.specs.declared.maybe.MaybeNumber.the-variants as Number
 use Rattle.filters.specs.declared.windowed_filter.Estimates.{Estimates}
 use Rattle.filters.specs.declared.windowed_filter.Held.{Held}
-use Rattle.filters.specs.declared.windowed_filter.Held.the-variants.{Empty, Full}
+use Rattle.filters.specs.declared.windowed_filter.Held.the-variants.{Unset, Set}
 use Rattle.filters.specs.declared.windowed_filter.Sample.{Sample}
 use Rattle.filters.specs.declared.windowed_filter.WindowedFilter.{WindowedFilter}
 
@@ -63,34 +63,34 @@ aged e new w = cond (isOlder (e .best) w (new .time)) (shifted e new w) (renewed
 
 -- step 1: "Empty, new sample > best, or age of third > window: all three become the new sample"; else steps 2 to 5
 abbrev pub updated : Held → Sample → ℕ → Estimates
-updated Empty new w = allThree new
-updated (Full e) new w = cond (isReplaced e new w) (allThree new) (aged (raised e new) new w)
+updated Unset new w = allThree new
+updated (Set e) new w = cond (isReplaced e new w) (allThree new) (aged (raised e new) new w)
 
 -- an empty filter: new, and clear
 abbrev pub windowedNew : ℕ → WindowedFilter
-windowedNew w = record { window = w; held = Empty }
+windowedNew w = record { window = w; held = Unset }
 
 -- all three are the sample: reset
 unfoldable pub windowedReset : WindowedFilter → ℕ → ℕ → WindowedFilter
-windowedReset f s t = record { window = f .window; held = Full (allThree (sampleAt s t)) }
+windowedReset f s t = record { window = f .window; held = Set (allThree (sampleAt s t)) }
 
 -- get_best, get_second_best, get_third_best
-abbrev pub bestOf : Held → Estimate
-bestOf Empty = Nothing
-bestOf (Full e) = Value (e .best .sample)
+abbrev pub bestOf : Held → MaybeNumber
+bestOf Unset = Number.Unset
+bestOf (Set e) = Number.Set (e .best .sample)
 
-abbrev pub secondOf : Held → Estimate
-secondOf Empty = Nothing
-secondOf (Full e) = Value (e .second .sample)
+abbrev pub secondOf : Held → MaybeNumber
+secondOf Unset = Number.Unset
+secondOf (Set e) = Number.Set (e .second .sample)
 
-abbrev pub thirdOf : Held → Estimate
-thirdOf Empty = Nothing
-thirdOf (Full e) = Value (e .third .sample)
+abbrev pub thirdOf : Held → MaybeNumber
+thirdOf Unset = Number.Unset
+thirdOf (Set e) = Number.Set (e .third .sample)
 
 -- "Replies and bounds", row 3: "earlier than any of its three stored times"
 abbrev pub isAfter : Held → ℕ → Bool
-isAfter Empty t = false
-isAfter (Full e) t = ltb t (e .best .time) || ltb t (e .second .time) || ltb t (e .third .time)
+isAfter Unset t = false
+isAfter (Set e) t = ltb t (e .best .time) || ltb t (e .second .time) || ltb t (e .third .time)
 
 unfoldable pub windowedNumber : WindowedFilter → ℕ → ℕ
 windowedNumber f t = cond (isAfter (f .held) t) 3 0
@@ -99,4 +99,4 @@ windowedNumber f t = cond (isAfter (f .held) t) 3 0
 unfoldable pub windowedUpdate : WindowedFilter → ℕ → ℕ → WindowedFilter
 windowedUpdate f s t =
     cond (isAfter (f .held) t) f
-    (record { window = f .window; held = Full (updated (f .held) (sampleAt s t) (f .window)) })
+    (record { window = f .window; held = Set (updated (f .held) (sampleAt s t) (f .window)) })

@@ -1,20 +1,15 @@
 // Round trips, counted by packet numbers.
+use units::MaybeNumber;
 use units::Reply;
 use units::counter::FULL;
 ghost use mathlib.Core.Path.{_≡_};
 ghost use Rattle.units.specs.Reply.{number};
 ghost use Rattle.filters.specs.RoundTripCounter.{roundsNew, roundsSent, roundsRestart, isPast, endsRound, roundsNumber, roundsAcked, roundsEnded};
 
-// The last packet number of the present round, once it is set.
-pub enum RoundEnd {
-    NotSet,
-    At(u64),
-}
-
 pub struct RoundTripCounter {
     pub count: u64,
     pub sent: u64,
-    pub end: RoundEnd,
+    pub end: MaybeNumber,
 }
 
 pub struct Acked {
@@ -31,7 +26,7 @@ impl RoundTripCounter {
         RoundTripCounter {
             count: 0,
             sent: 0,
-            end: RoundEnd::NotSet,
+            end: MaybeNumber::Unset,
         }
     }
 
@@ -71,7 +66,7 @@ impl RoundTripCounter {
         let next = RoundTripCounter {
             count: self.count + 1,
             sent: self.sent,
-            end: RoundEnd::At(self.sent),
+            end: MaybeNumber::Set(self.sent),
         };
         Acked {
             reply: Reply::Done,
@@ -87,30 +82,28 @@ impl RoundTripCounter {
         RoundTripCounter {
             count: self.count,
             sent: self.sent,
-            end: RoundEnd::At(self.sent),
+            end: MaybeNumber::Set(self.sent),
         }
     }
 }
 
-impl RoundEnd {
-    // Whether a packet number lies past this end.
-    fn is_past(self, packet: u64) -> bool
-        ensures { λ r. ⌜ r ≡ isPast self packet ⌝ }
-    {
-        let RoundEnd::At(end) = self else {
-            return true;
-        };
-        end < packet
-    }
+// Whether a packet number lies past the end of the round.
+fn is_past(end: MaybeNumber, packet: u64) -> bool
+    ensures { λ r. ⌜ r ≡ isPast end packet ⌝ }
+{
+    let MaybeNumber::Set(last) = end else {
+        return true;
+    };
+    last < packet
 }
 
 // Whether the last of the acked numbers, if there is one, lies past the end.
-fn ends_round(end: RoundEnd, acked: &[u64]) -> bool
+fn ends_round(end: MaybeNumber, acked: &[u64]) -> bool
     ensures { λ r. ⌜ r ≡ endsRound end (now (acked .entry)) ⌝ }
 {
     if acked.len() == 0 {
         return false;
     }
     let last = acked.len() - 1;
-    end.is_past(acked[last])
+    is_past(end, acked[last])
 }

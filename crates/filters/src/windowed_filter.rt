@@ -1,4 +1,5 @@
 // The largest sample of a window of time, with two estimates to follow it.
+use units::MaybeNumber;
 use units::Reply;
 ghost use mathlib.Core.Path.{_≡_};
 ghost use Rattle.units.specs.Reply.{number};
@@ -16,14 +17,8 @@ pub struct Estimates {
 }
 
 pub enum Held {
-    Empty,
-    Full(Estimates),
-}
-
-// An estimate's sample, if there is one.
-pub enum Estimate {
-    Nothing,
-    Value(u64),
+    Unset,
+    Set(Estimates),
 }
 
 pub struct WindowedFilter {
@@ -43,7 +38,7 @@ impl WindowedFilter {
     {
         WindowedFilter {
             window,
-            held: Held::Empty,
+            held: Held::Unset,
         }
     }
 
@@ -54,7 +49,7 @@ impl WindowedFilter {
         let new = Sample { sample, time };
         WindowedFilter {
             window: self.window,
-            held: Held::Full(Estimates::all(new)),
+            held: Held::Set(Estimates::all(new)),
         }
     }
 
@@ -66,35 +61,35 @@ impl WindowedFilter {
     }
 
     // The best estimate.
-    pub fn get_best(self) -> Estimate
+    pub fn get_best(self) -> MaybeNumber
         ensures { λ r. ⌜ r ≡ bestOf (self .held) ⌝ }
     {
         let held = self.held;
         match held {
-            Held::Empty => Estimate::Nothing,
-            Held::Full(e) => Estimate::Value(e.best.sample),
+            Held::Unset => MaybeNumber::Unset,
+            Held::Set(e) => MaybeNumber::Set(e.best.sample),
         }
     }
 
     // The second best estimate.
-    pub fn get_second_best(self) -> Estimate
+    pub fn get_second_best(self) -> MaybeNumber
         ensures { λ r. ⌜ r ≡ secondOf (self .held) ⌝ }
     {
         let held = self.held;
         match held {
-            Held::Empty => Estimate::Nothing,
-            Held::Full(e) => Estimate::Value(e.second.sample),
+            Held::Unset => MaybeNumber::Unset,
+            Held::Set(e) => MaybeNumber::Set(e.second.sample),
         }
     }
 
     // The third best estimate.
-    pub fn get_third_best(self) -> Estimate
+    pub fn get_third_best(self) -> MaybeNumber
         ensures { λ r. ⌜ r ≡ thirdOf (self .held) ⌝ }
     {
         let held = self.held;
         match held {
-            Held::Empty => Estimate::Nothing,
-            Held::Full(e) => Estimate::Value(e.third.sample),
+            Held::Unset => MaybeNumber::Unset,
+            Held::Set(e) => MaybeNumber::Set(e.third.sample),
         }
     }
 
@@ -113,7 +108,7 @@ impl WindowedFilter {
         let new = Sample { sample, time };
         let filter = WindowedFilter {
             window: self.window,
-            held: Held::Full(held.updated(new, self.window)),
+            held: Held::Set(held.updated(new, self.window)),
         };
         Updated {
             reply: Reply::Done,
@@ -127,7 +122,7 @@ impl Held {
     fn is_after(self, time: u64) -> bool
         ensures { λ r. ⌜ r ≡ isAfter self time ⌝ }
     {
-        let Held::Full(e) = self else {
+        let Held::Set(e) = self else {
             return false;
         };
         (time < e.best.time) | (time < e.second.time) | (time < e.third.time)
@@ -137,7 +132,7 @@ impl Held {
     fn updated(self, new: Sample, window: u64) -> Estimates
         ensures { λ r. ⌜ r ≡ updated self new window ⌝ }
     {
-        let Held::Full(e) = self else {
+        let Held::Set(e) = self else {
             return Estimates::all(new);
         };
         if e.is_replaced(new, window) {

@@ -25,19 +25,19 @@ use Rattle.layout.specs.Cycle.{cycleFrom}
 use Rattle.arguments.specs.Params.{paramsFrom}
 use Rattle.arguments.specs.CongestionEvent.{eventFrom, wordsFrom, eventIn, eventWords}
 use Rattle.arguments.specs.Sample.{sampleFrom, ackedOf}
-use Rattle.arguments.proofs.RoundTrip.{round-trip}
-use Rattle.layout.proofs.Laws.{float-fits}
+use Rattle.dispatch.proofs.RoundTrip.{round-trip}
+use Rattle.words.proofs.Back.{float-fits}
 use Rattle.dispatch.specs.declared.outcome.Outcome.{Outcome}
-use Rattle.dispatch.specs.Outcome.{noEvent, sendNumber, sendLeaves, startedNumber, startedLeaves, startedWords, finishedNumber, finishedLeaves, sendOutcome, eventOutcome, finishOutcome, outcomeOf}
+use Rattle.dispatch.specs.Outcome.{noEvent, sendNumber, sendLeaves, eventStartNumber, eventStartLeaves, eventStartWords, eventFinishNumber, eventFinishLeaves, sendOutcome, eventOutcome, finishOutcome, outcomeOf}
 use Rattle.dispatch.specs.Inner.{otherOutcome}
 use Rattle.guovssalu.specs.ModelRun.{stateIn, callsIn, outcomeAt, answersTo, leftBy, wordsLeft, modelRow}
 use Rattle.dispatch.specs.OneCall.{callAt, answerWords}
 use Rattle.guovssalu.proofs.Rows.{done-room, done-first}
 use Rattle.dispatch.proofs.OneCall.{either, length-other}
 
-length-started : (w : List ℕ) (m : NetworkModel) → length (startedWords w m) ≡ 16
+length-started : (w : List ℕ) (m : NetworkModel) → length (eventStartWords w m) ≡ 16
 unfolding settled wordsFrom
-length-started w m = go (eqb (startedNumber w m) 0)
+length-started w m = go (eqb (eventStartNumber w m) 0)
   where
     go : (t : Bool) → length (cond t (eventWords (eventNext m (eventFrom w) (sampleFrom w) (ackedOf w))) (eventIn w)) ≡ 16
     go true = round-trip .eventLength (eventNext m (eventFrom w) (sampleFrom w) (ackedOf w))
@@ -124,11 +124,11 @@ module _ (m : NetworkModel) (y : Cycle) (src : List ℕ) (at : ℕ) (out : List 
   unfolding outcomeAt outcomeOf sendOutcome answerWords
   by-send e p q f r = rw (number-at e) (r, p, q, still p (sent-same m _ _ _ _) f)
 
-  pub by-start : wordAt src at ≡ 3 → m′ ≡ startedLeaves (callAt src at) m → y′ ≡ y → fine′ ≡ modelOk m → out′ ≡ sets out to (allBytes (startedNumber (callAt src at) m ∷ 0 ∷ startedWords (callAt src at) m)) → Carried
+  pub by-start : wordAt src at ≡ 3 → m′ ≡ eventStartLeaves (callAt src at) m → y′ ≡ y → fine′ ≡ modelOk m → out′ ≡ sets out to (allBytes (eventStartNumber (callAt src at) m ∷ 0 ∷ eventStartWords (callAt src at) m)) → Carried
   unfolding outcomeAt outcomeOf eventOutcome answerWords
   by-start e p q f r = rw (number-at e) (r, p, q, still p (start-same m _ _ _ _ (beta-fits (callAt src at))) f)
 
-  pub by-end : wordAt src at ≡ 4 → m′ ≡ finishedLeaves (callAt src at) m → y′ ≡ y → fine′ ≡ modelOk m → out′ ≡ sets out to (allBytes (finishedNumber (callAt src at) m ∷ 0 ∷ noEvent)) → Carried
+  pub by-end : wordAt src at ≡ 4 → m′ ≡ eventFinishLeaves (callAt src at) m → y′ ≡ y → fine′ ≡ modelOk m → out′ ≡ sets out to (allBytes (eventFinishNumber (callAt src at) m ∷ 0 ∷ noEvent)) → Carried
   unfolding outcomeAt outcomeOf finishOutcome answerWords
   by-end e p q f r = rw (number-at e) (r, p, q, still p (finish-same m _) f)
 

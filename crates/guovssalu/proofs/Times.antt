@@ -9,7 +9,7 @@ use borrow.Author.Tests.{ltb-false, le-ltb}
 use lib.Dec.{ltb}
 use Rattle.filters.specs.declared.windowed_filter.Estimates.{Estimates}
 use Rattle.filters.specs.declared.windowed_filter.Held.{Held}
-use Rattle.filters.specs.declared.windowed_filter.Held.the-variants.{Empty, Full}
+use Rattle.filters.specs.declared.windowed_filter.Held.the-variants.{Unset, Set}
 use Rattle.filters.specs.declared.windowed_filter.WindowedFilter.{WindowedFilter}
 use Rattle.filters.specs.WindowedFilter.{sampleAt, isOlder, isReplaced, raised, shifted, lingers, renewed, aged, updated, isAfter, windowedNumber, windowedUpdate}
 use Rattle.words.specs.Words.{wordAt}
@@ -29,16 +29,16 @@ abbrev Past : ℕ → Estimates → Type 0
 Past t e = (e .best .time ≤ t) × (e .second .time ≤ t) × (e .third .time ≤ t)
 
 abbrev HeldPast : ℕ → Held → Type 0
-HeldPast t Empty = Unit {0}
-HeldPast t (Full e) = Past t e
+HeldPast t Unset = Unit {0}
+HeldPast t (Set e) = Past t e
 
 still-past : {last t : ℕ} (h : Held) → last ≤ t → HeldPast last h → HeldPast t h
-still-past Empty l p = p
-still-past (Full e) l p = (omega arith, omega arith, omega arith)
+still-past Unset l p = p
+still-past (Set e) l p = (omega arith, omega arith, omega arith)
 
 not-after : (h : Held) (t : ℕ) → HeldPast t h → isAfter h t ≡ false
-not-after Empty t p = refl
-not-after (Full e) t p = rw (le-ltb t (e .best .time) (p .0), le-ltb t (e .second .time) (p .1), le-ltb t (e .third .time) (p .2))
+not-after Unset t p = refl
+not-after (Set e) t p = rw (le-ltb t (e .best .time) (p .0), le-ltb t (e .second .time) (p .1), le-ltb t (e .third .time) (p .2))
 
 -- an update holds old estimates and the new one
 module _ (s t w : ℕ) where
@@ -58,8 +58,8 @@ module _ (s t w : ℕ) where
       (either (Past t) (lingers (e .second) (e .best) _ t) (p .0, here, here) (either (Past t) (lingers (e .third) (e .second) _ t) (p .0, p .1, here) p))
 
   updated-past : (h : Held) → HeldPast t h → Past t (updated h (sampleAt s t) w)
-  updated-past Empty p = (here, here, here)
-  updated-past (Full e) p = either (Past t) (isReplaced e (sampleAt s t) w) (here, here, here) (aged-past (raised e (sampleAt s t)) (raised-past e p))
+  updated-past Unset p = (here, here, here)
+  updated-past (Set e) p = either (Past t) (isReplaced e (sampleAt s t) w) (here, here, here) (aged-past (raised e (sampleAt s t)) (raised-past e p))
 
 pub never-refused :
     (f : WindowedFilter) (last : ℕ) (src : List ℕ) (at n : ℕ) → HeldPast last (f .held) → timesFall last src at n ≡ false → refuses f src at n ≡ false
@@ -70,4 +70,4 @@ never-refused f last src at (suc n) p h =
     let rises = neither (ltb t last) (timesFall t src (at + 16) n) h in
     let past = still-past (f .held) (ltb-false t last (rises .0)) p in
     let taken = updated-past (wordAt src (at + 8)) t (f .window) (f .held) past in
-    rw (not-after (f .held) t past) (never-refused (record { window = f .window; held = Full (updated (f .held) (sampleAt (wordAt src (at + 8)) t) (f .window)) }) t src (at + 16) n taken (rises .1))
+    rw (not-after (f .held) t past) (never-refused (record { window = f .window; held = Set (updated (f .held) (sampleAt (wordAt src (at + 8)) t) (f .window)) }) t src (at + 16) n taken (rises .1))

@@ -5,8 +5,8 @@ use mathlib.Core.Bool.{Bool, false, not, _||_}
 use mathlib.Core.List.{List, [], _∷_, _++_}
 use lib.ListN.{length}
 use lib.Dec.{ltb, eqb}
-use Rattle.filters.specs.declared.windowed_filter.Estimate.{Estimate}
-use Rattle.filters.specs.declared.windowed_filter.Estimate.the-variants.{Nothing, Value}
+use Rattle.units.specs.declared.maybe.MaybeNumber.{MaybeNumber}
+use Rattle.units.specs.declared.maybe.MaybeNumber.the-variants as Number
 use Rattle.filters.specs.declared.windowed_filter.WindowedFilter.{WindowedFilter}
 use Rattle.filters.specs.WindowedFilter.{windowedNew, windowedNumber, windowedUpdate, bestOf, secondOf, thirdOf}
 use Rattle.state.specs.Refusals.{noRows, argument, earlier, lowest}
@@ -28,9 +28,9 @@ refuses f src at (suc n) =
     not (eqb (windowedNumber f (wordAt src at)) 0) || refuses (afterPair f src at) src (at + 16) n
 
 -- "three samples per pair": the filter's, from the best to the third. After a pair there is one each
-abbrev pub sampleIn : Estimate → ℕ
-sampleIn Nothing = 0
-sampleIn (Value sample) = sample
+abbrev pub sampleIn : MaybeNumber → ℕ
+sampleIn Number.Unset = 0
+sampleIn (Number.Set sample) = sample
 
 unfoldable pub samples : WindowedFilter → List ℕ
 samples f = sampleIn (bestOf (f .held)) ∷ sampleIn (secondOf (f .held)) ∷ sampleIn (thirdOf (f .held)) ∷ []

@@ -5,8 +5,8 @@ use mathlib.Core.Bool.{Bool, false, cond, _||_}
 use mathlib.Core.List.{List}
 use lib.Dec.{ltb}
 use lib.Seq.{sets}
-use Rattle.state.specs.declared.cycle.MaybeBytes.{MaybeBytes}
-use Rattle.state.specs.declared.cycle.MaybeBytes.the-variants.{NoBytes, Bytes}
+use Rattle.units.specs.declared.maybe.MaybeNumber.{MaybeNumber}
+use Rattle.units.specs.declared.maybe.MaybeNumber.the-variants as Number
 use Rattle.words.specs.Words.{wordAt, allBytes}
 
 -- ---- the filter run: whether one of the n times from an index on is earlier than the one before it, the first earlier
@@ -20,6 +20,6 @@ unfoldable pub setsWhere : Bool → List ℕ → ℕ → List ℕ → List ℕ
 setsWhere writes out at words = cond writes (sets out at (allBytes words)) out
 
 -- ---- the slope: a byte count, 0 where there is none; a slope that is raised has one
-abbrev pub countIn : MaybeBytes → ℕ
-countIn NoBytes = 0
-countIn (Bytes count) = count
+abbrev pub countIn : MaybeNumber → ℕ
+countIn Number.Unset = 0
+countIn (Number.Set count) = count

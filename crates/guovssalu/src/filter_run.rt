@@ -10,10 +10,10 @@ ghost use Rattle.guovssalu.specs.FilterRun.{pairs, afterPair, refuses, s
 ghost use Rattle.guovssalu.specs.Inner.{timesFall, setsWhere};
 use crate::reply::or_short;
 use filters::WindowedFilter;
-use filters::windowed_filter::Estimate;
 use filters::windowed_filter::Updated;
 use state::refusals::Rows;
 use state::refusals::refusal;
+use units::MaybeNumber;
 use units::Reply;
 use words::get_word;
 use words::put_words;
@@ -129,11 +129,11 @@ fn samples_of(filter: WindowedFilter) -> [u64; 3]
 }
 
 // An estimate's sample; an empty filter has none.
-fn sample_in(estimate: Estimate) -> u64
+fn sample_in(estimate: MaybeNumber) -> u64
     ensures { λ r. ⌜ r ≡ sampleIn estimate ⌝ }
 {
     match estimate {
-        Estimate::Nothing => 0,
-        Estimate::Value(sample) => sample,
+        MaybeNumber::Unset => 0,
+        MaybeNumber::Set(sample) => sample,
     }
 }

@@ -7,10 +7,10 @@ ghost use Rattle.units.specs.Reply.{number};
 ghost use Rattle.words.specs.Words.{allBytes};
 ghost use Rattle.guovssalu.specs.ModelRun.{stateIn, encodesNone, callsIn, answersTo, leftBy, modelRow, stateOut, answersOut};
 use crate::reply::or_short;
-use dispatch::one_call::end;
+use dispatch::one_call::event_finish;
+use dispatch::one_call::event_start;
 use dispatch::one_call::other;
 use dispatch::one_call::send;
-use dispatch::one_call::start;
 use layout::cycle::cycle_from;
 use layout::form::is_state;
 use layout::network_model::model_from;
@@ -94,9 +94,9 @@ fn run_calls(model: NetworkModel, cycle: Cycle, calls: &[u8], answers: &mut [u8]
         if call == 1 {
             m = send(m, fine, calls, at, answers, to);
         } else if call == 3 {
-            m = start(m, fine, calls, at, answers, to);
+            m = event_start(m, fine, calls, at, answers, to);
         } else if call == 4 {
-            m = end(m, fine, calls, at, answers, to);
+            m = event_finish(m, fine, calls, at, answers, to);
         } else {
             let outcome = other(m, y, calls, at, answers, to);
             m = outcome.model;

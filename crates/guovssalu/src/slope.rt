@@ -9,10 +9,10 @@ use crate::reply::or_short;
 use phases::slope::slope_raised;
 use state::Cycle;
 use state::bounds::bytes_ok;
-use state::cycle::MaybeBytes;
 use state::cycle::Slope;
 use state::refusals::Rows;
 use state::refusals::refusal;
+use units::MaybeNumber;
 use units::Reply;
 use words::put_words;
 
@@ -59,7 +59,7 @@ fn slope_words(rounds: u64, window: u64) -> [u64; 2]
 {
     let slope = Slope {
         rounds,
-        bytes: MaybeBytes::NoBytes,
+        bytes: MaybeNumber::Unset,
         acked: 0,
         applimited: false,
     };
@@ -69,11 +69,11 @@ fn slope_words(rounds: u64, window: u64) -> [u64; 2]
 }
 
 // A byte count; 0 where there is none.
-fn count_in(bytes: MaybeBytes) -> u64
+fn count_in(bytes: MaybeNumber) -> u64
     ensures { λ r. ⌜ r ≡ countIn bytes ⌝ }
 {
     match bytes {
-        MaybeBytes::NoBytes => 0,
-        MaybeBytes::Bytes(count) => count,
+        MaybeNumber::Unset => 0,
+        MaybeNumber::Set(count) => count,
     }
 }

@@ -6,8 +6,7 @@ use Rattle.judge.specs.declared.judge.Decided.{Decided}
 use Rattle.state.specs.declared.network_model.NetworkModel.{NetworkModel}
 use mathlib.Core.Bool.{Bool}
 use Rattle.units.specs.declared.reply.Reply.{Reply}
-use Rattle.state.proofs.Determined.{flag}
-use Rattle.state.proofs.Determined.{changed}
+use Rattle.state.proofs.Determined.{flag, changed}
 use Rattle.judge.proofs.judge as judge
 
 pub decided :

@@ -8,9 +8,9 @@ use Rattle.filters.specs.MaxBandwidthFilter.{maxGet}
 use Rattle.state.specs.Answers.{settled}
 use Rattle.state.specs.declared.network_model.NetworkModel.{NetworkModel}
 use Rattle.state.specs.declared.params.Params.{Params}
-use Rattle.state.specs.declared.parts.MaybeBandwidth.the-variants.{Unset}
+use Rattle.units.specs.declared.maybe.MaybeBandwidth.the-variants.{Unset}
 use Rattle.state.specs.NetworkModel.{startNumber, startModel, one}
-use Rattle.state.specs.declared.congestion_event.MaybeLength.the-variants.{Missing}
+use Rattle.units.specs.declared.maybe.MaybeDuration.the-variants as Length
 use Rattle.state.specs.declared.congestion_event.CongestionEvent.{CongestionEvent}
 use Rattle.judge.specs.Judge.{hasGrown, growthFull, judgedNumber}
 
@@ -47,7 +47,7 @@ idle =
       ended = false;
       probing = false;
       bandwidth = Unset;
-      rtt = Missing;
+      rtt = Length.Unset;
       state = record { valid = false; applimited = false; acked = 0; inflight = 0 };
     }
 

@@ -21,8 +21,8 @@ use Rattle.state.specs.declared.parts.Round.{Round}
 use Rattle.state.specs.declared.refusals.Rows.{Rows}
 use Rattle.state.specs.Bounds.{all, gainOk}
 use Rattle.state.specs.NetworkModel.{one, bdpOf, withMinrtt, withGrowth, judgedRows}
-use Rattle.state.specs.declared.congestion_event.MaybeLength.{MaybeLength}
-use Rattle.state.specs.declared.congestion_event.MaybeLength.the-variants.{Missing, Length}
+use Rattle.units.specs.declared.maybe.MaybeDuration.{MaybeDuration}
+use Rattle.units.specs.declared.maybe.MaybeDuration.the-variants as Length
 use Rattle.state.specs.declared.congestion_event.CongestionEvent.{CongestionEvent}
 use Rattle.state.specs.declared.congestion_event.SendTimeState.{SendTimeState}
 use Rattle.state.specs.CongestionEvent.{eventOk}
@@ -33,19 +33,19 @@ judgedNumber m p e rises = lowest (judgedRows m p (eventOk e) rises)
 
 -- ---- maybe_expire_min_rtt: "Expiry needs a sample and a moment not earlier than the stored one plus the period; the
 -- sample is then forced in"
-abbrev pub isGiven : MaybeLength → Bool
-isGiven Missing = false
-isGiven (Length d) = true
+abbrev pub isGiven : MaybeDuration → Bool
+isGiven Length.Unset = false
+isGiven (Length.Set d) = true
 
 unfoldable pub isDue : Moment → MinRttFilter → Duration → Bool
 isDue now f period = not (isBefore now (plus (f .timestamp) period))
 
-abbrev pub isExpired : MaybeLength → Moment → MinRttFilter → Duration → Bool
+abbrev pub isExpired : MaybeDuration → Moment → MinRttFilter → Duration → Bool
 isExpired sample now f period = isGiven sample && isDue now f period
 
-abbrev pub minrttExpired : MaybeLength → Moment → MinRttFilter → Duration → MinRttFilter
-minrttExpired Missing now f period = f
-minrttExpired (Length d) now f period = cond (isDue now f period) (minForce d now) f
+abbrev pub minrttExpired : MaybeDuration → Moment → MinRttFilter → Duration → MinRttFilter
+minrttExpired Length.Unset now f period = f
+minrttExpired (Length.Set d) now f period = cond (isDue now f period) (minForce d now) f
 
 unfoldable pub expireNext : NetworkModel → Params → CongestionEvent → NetworkModel
 expireNext m p e = withMinrtt m (minrttExpired (e .rtt) (e .time) (m .minrtt) (p .period))

@@ -13,7 +13,6 @@ use state::Params;
 use state::answers::Flag;
 use state::bounds::gain_ok;
 use state::congestion_event::CongestionEvent;
-use state::congestion_event::MaybeLength;
 use state::congestion_event::SendTimeState;
 use state::network_model::Changed;
 use state::parts::Growth;
@@ -22,6 +21,7 @@ use state::refusals::Rows;
 use state::refusals::refusal;
 use units::Bandwidth;
 use units::Duration;
+use units::MaybeDuration;
 use units::Moment;
 use units::Reply;
 use units::counter::FULL;
@@ -66,14 +66,14 @@ fn expire_next(model: NetworkModel, params: Params, event: CongestionEvent) -> N
 }
 
 fn minrtt_expired(
-    sample: MaybeLength,
+    sample: MaybeDuration,
     now: Moment,
     filter: MinRttFilter,
     period: Duration,
 ) -> MinRttFilter
     ensures { λ r. ⌜ r ≡ minrttExpired sample now filter period ⌝ }
 {
-    let MaybeLength::Length(rtt) = sample else {
+    let MaybeDuration::Set(rtt) = sample else {
         return filter;
     };
     if is_due(now, filter, period) {
@@ -83,12 +83,12 @@ fn minrtt_expired(
     }
 }
 
-fn is_given(sample: MaybeLength) -> bool
+fn is_given(sample: MaybeDuration) -> bool
     ensures { λ r. ⌜ r ≡ isGiven sample ⌝ }
 {
     match sample {
-        MaybeLength::Missing => false,
-        MaybeLength::Length(_) => true,
+        MaybeDuration::Unset => false,
+        MaybeDuration::Set(_) => true,
     }
 }
 

@@ -12,8 +12,7 @@ use denote.Struct.Declared.{row}
 use mir.Val.{Val}
 use Rattle.state.specs.declared.params.Params.{Params}
 use Rattle.state.specs.Answers.{settled}
-use Rattle.state.specs.NetworkModel.{modelOk}
-use Rattle.state.specs.NetworkModel.{startModel}
+use Rattle.state.specs.NetworkModel.{modelOk, startModel}
 use Rattle.state.specs.CongestionEvent.{eventOk}
 use Rattle.state.specs.Cycle.{cycleOk, freshCycle}
 use Rattle.state.proofs.Rows.{and-both}

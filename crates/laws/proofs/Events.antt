@@ -21,20 +21,18 @@ use Rattle.state.specs.declared.network_model.NetworkModel.{NetworkModel}
 use Rattle.state.specs.declared.params.Params.{Params}
 use Rattle.state.specs.declared.parts.Latest.{Latest}
 use Rattle.state.specs.declared.parts.Lower.{Lower}
-use Rattle.state.specs.declared.parts.MaybeBandwidth.{MaybeBandwidth}
-use Rattle.state.specs.declared.parts.MaybeBandwidth.the-variants.{Unset, Set}
+use Rattle.units.specs.declared.maybe.MaybeBandwidth.{MaybeBandwidth}
+use Rattle.units.specs.declared.maybe.MaybeBandwidth.the-variants.{Unset, Set}
 use Rattle.state.specs.declared.parts.Round.{Round}
 use Rattle.state.specs.declared.parts.Totals.{Totals}
 use Rattle.state.specs.Bounds.{within, bytesOk, bytesOrUnsetOk, totalOk, momentOk, lengthOk, bandwidthOk, maybeOk, gainOk}
 use Rattle.state.specs.Params.{betaOk, paramsOk}
-use Rattle.state.specs.Parts.{roundOk, latestOk, lowerOk, totalsOk}
-use Rattle.state.specs.NetworkModel.{maxbwOk, minrttOk, modelTests, modelOk}
-use Rattle.state.specs.NetworkModel.{withRound, withMinrtt, withGrowth}
-use Rattle.state.specs.Parts.{roundNew}
+use Rattle.state.specs.Parts.{roundOk, latestOk, lowerOk, totalsOk, roundNew}
+use Rattle.state.specs.NetworkModel.{maxbwOk, minrttOk, modelTests, modelOk, withRound, withMinrtt, withGrowth}
 use Rattle.laws.proofs.Model.{round-new-ok}
 use Rattle.state.proofs.Rows.{none, row-stored, row-argument, and-left, and-right, and-both, or-left, or-right, all-at, all-put}
-use Rattle.state.specs.declared.congestion_event.MaybeLength.{MaybeLength}
-use Rattle.state.specs.declared.congestion_event.MaybeLength.the-variants.{Missing, Length}
+use Rattle.units.specs.declared.maybe.MaybeDuration.{MaybeDuration}
+use Rattle.units.specs.declared.maybe.MaybeDuration.the-variants as Length
 use Rattle.state.specs.declared.congestion_event.CongestionEvent.{CongestionEvent}
 use Rattle.state.specs.declared.congestion_event.CongestionEventSample.{CongestionEventSample}
 use Rattle.state.specs.declared.congestion_event.SendTimeState.{SendTimeState}
@@ -58,10 +56,10 @@ most-kept f (Set b) c l h k =
     arms maxbwOk (c && (not l || ltb (maxGet f .0) (b .0))) (maxUpdate f b) f
     (and-both (bandwidthOk (f .slot0)) (leb (max (f .slot1 .0) (b .0)) (2 ^ 40)) (and-left (bandwidthOk (f .slot0)) (bandwidthOk (f .slot1)) h) (larger-ok (f .slot1 .0) (b .0) (2 ^ 40) (and-right (bandwidthOk (f .slot0)) (bandwidthOk (f .slot1)) h) k)) h
 
-least-kept : (f : MinRttFilter) (r : MaybeLength) (now : Moment) → minrttOk f ≡ true → H.maybeLengthOk r ≡ true → momentOk now ≡ true → minrttOk (E.minrttAfter f r now) ≡ true
+least-kept : (f : MinRttFilter) (r : MaybeDuration) (now : Moment) → minrttOk f ≡ true → H.maybeLengthOk r ≡ true → momentOk now ≡ true → minrttOk (E.minrttAfter f r now) ≡ true
 unfolding minUpdate
-least-kept f Missing now h k t = h
-least-kept f (Length d) now h k t = arms minrttOk (ltb (d .0) (f .rtt .0)) (record { rtt = d; timestamp = now }) f (and-both (lengthOk d) (momentOk now) k t) h
+least-kept f Length.Unset now h k t = h
+least-kept f (Length.Set d) now h k t = arms minrttOk (ltb (d .0) (f .rtt .0)) (record { rtt = d; timestamp = now }) f (and-both (lengthOk d) (momentOk now) k t) h
 
 -- the largest of the filter
 pub most-max : (f : MaxBandwidthFilter) → maxbwOk f ≡ true → bandwidthOk (maxGet f) ≡ true
@@ -252,9 +250,9 @@ module _ (m : NetworkModel) (p : Params) (e : CongestionEvent) (s : CongestionEv
       bandwidth Unset h = all-at (H.eventTests e) 6 event-record
       bandwidth (Set b) h = arms maybeOk (E.isChanged m s) (Set b) (e .bandwidth) h (all-at (H.eventTests e) 6 event-record)
 
-      rtt : (x : MaybeLength) → H.maybeLengthOk x ≡ true → H.maybeLengthOk (E.rttAfter (e .rtt) x) ≡ true
-      rtt Missing h = all-at (H.eventTests e) 7 event-record
-      rtt (Length d) h = h
+      rtt : (x : MaybeDuration) → H.maybeLengthOk x ≡ true → H.maybeLengthOk (E.rttAfter (e .rtt) x) ≡ true
+      rtt Length.Unset h = all-at (H.eventTests e) 7 event-record
+      rtt (Length.Set d) h = h
 
   pub event-model-kept : T (fits binary32 (p .beta)) → modelOk (E.modelNext m p e s acked) ≡ true
   unfolding modelTests H.eventTests H.sampleTests E.modelNext E.modelAfter E.eventNext E.eventAfter E.maxbwNext E.roundNext E.adaptLowerBounds
@@ -305,9 +303,9 @@ expire-kept m p e done = all-put (modelTests m) 1 (minrttOk (J.minrttExpired (e 
     k : H.eventOk e ≡ true
     k = judged m p e false done .1
 
-    go : (x : MaybeLength) → H.maybeLengthOk x ≡ true → minrttOk (J.minrttExpired x (e .time) (m .minrtt) (p .period)) ≡ true
-    go Missing l = all-at (modelTests m) 1 h
-    go (Length d) l = arms minrttOk (J.isDue (e .time) (m .minrtt) (p .period)) (record { rtt = d; timestamp = e .time }) (m .minrtt) (and-both (lengthOk d) (momentOk (e .time)) l (all-at (H.eventTests e) 0 k)) (all-at (modelTests m) 1 h)
+    go : (x : MaybeDuration) → H.maybeLengthOk x ≡ true → minrttOk (J.minrttExpired x (e .time) (m .minrtt) (p .period)) ≡ true
+    go Length.Unset l = all-at (modelTests m) 1 h
+    go (Length.Set d) l = arms minrttOk (J.isDue (e .time) (m .minrtt) (p .period)) (record { rtt = d; timestamp = e .time }) (m .minrtt) (and-both (lengthOk d) (momentOk (e .time)) l (all-at (H.eventTests e) 0 k)) (all-at (modelTests m) 1 h)
 
 pub growth-kept : (m : NetworkModel) (p : Params) (e : CongestionEvent) → J.judgedNumber m p e (J.growthFull m p e) ≡ 0 → modelOk (J.growthNext m p e) ≡ true
 unfolding modelTests J.growthNext withGrowth J.growthAfter J.growthFlat

@@ -14,8 +14,7 @@ use Rattle.state.specs.Bounds.{within}
 use Rattle.state.specs.Refusals.{rowOf}
 use Rattle.state.specs.Params.{paramsOk}
 use Rattle.state.specs.Parts.{roundOk}
-use Rattle.state.specs.NetworkModel.{modelTests}
-use Rattle.state.specs.NetworkModel.{modelNew, startNumber, startModel}
+use Rattle.state.specs.NetworkModel.{modelTests, modelNew, startNumber, startModel}
 use Rattle.events.specs.Event.{lowerAfter, lowerReduced}
 use Rattle.state.specs.CongestionEvent.{eventTests}
 use Rattle.events.specs.Examples.{eventExamples}

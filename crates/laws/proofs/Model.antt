@@ -18,12 +18,10 @@ use Rattle.state.specs.declared.parts.Lower.{Lower}
 use Rattle.state.specs.declared.parts.Totals.{Totals}
 use Rattle.state.specs.Bounds.{bytesOk, bytesOrUnsetOk, totalOk, lengthOk, fractionOk, gainOk, bandwidthOk, maybeOk, momentOk}
 use Rattle.state.specs.Params.{betaOk, thresholdOk, paramsOk}
-use Rattle.state.specs.Parts.{roundOk, lowerOk}
-use Rattle.state.specs.NetworkModel.{maxbwOk, modelTests, modelOk}
+use Rattle.state.specs.Parts.{roundOk, lowerOk, roundNew, roundSent, lowerCapped}
+use Rattle.state.specs.NetworkModel.{maxbwOk, modelTests, modelOk, withMaxbw, withRounds, withRound, withLower, withGrowth, withMoment, withHigh, withGains, withMinrtt, growthRestarted, modelNew, startNumber, storedNumber, givenNumber, restartNext, capNext, clearInflightNext, clearBandwidthNext, advanceNext}
 use Rattle.state.specs.declared.params.Params.{Params}
-use Rattle.state.specs.NetworkModel.{withMaxbw, withRounds, withRound, withLower, withGrowth, withMoment, withHigh, withGains, withMinrtt, growthRestarted, modelNew, startNumber, storedNumber, givenNumber, restartNext, capNext, clearInflightNext, clearBandwidthNext, advanceNext}
 use Rattle.changes.specs.Changes.{sentNumber, sentNext, reachedNext, pacingNext, cwndNext, postponed, postponeNumber, postponeNext}
-use Rattle.state.specs.Parts.{roundNew, roundSent, lowerCapped}
 use Rattle.state.proofs.Rows.{and-left, and-right, and-both, all-at, all-put, row-stored, row-argument}
 
 -- ---- the parts

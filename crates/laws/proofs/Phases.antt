@@ -9,14 +9,13 @@ use borrow.Author.Tests.{leb-true, le-leb}
 use Rattle.units.specs.declared.time.Moment.{Moment}
 use Rattle.state.specs.declared.network_model.NetworkModel.{NetworkModel}
 use Rattle.state.specs.declared.params.Params.{Params}
-use Rattle.state.specs.NetworkModel.{modelOk}
+use Rattle.state.specs.NetworkModel.{modelOk, restartNext, clearInflightNext, clearBandwidthNext, advanceNext}
 use Rattle.state.specs.Params.{paramsOk}
 use Rattle.state.specs.Bounds.{momentOk, bytesOk}
-use Rattle.state.specs.NetworkModel.{restartNext, clearInflightNext, clearBandwidthNext, advanceNext}
 use Rattle.state.specs.declared.cycle.Cycle.{Cycle}
 use Rattle.state.specs.declared.cycle.CyclePhase.{CyclePhase}
 use Rattle.state.specs.declared.cycle.CyclePhase.the-variants.{Up, Cruise, Refill}
-use Rattle.state.specs.declared.cycle.MaybeLength.the-variants.{Length}
+use Rattle.units.specs.declared.maybe.MaybeDuration.the-variants as Length
 use Rattle.state.specs.Cycle.{waitOk, roundsOk, cycleTests, cycleOk, cycleNew, freshNumber, stayFrom}
 use Rattle.phases.specs.Slope.{nextRounds, upBytes, slopeRaised}
 use Rattle.phases.specs.Phases.{restartedAt, isDown, exitNumber, exitModel, exitCycle, leftModel, leftCycle, slopeNumber, slopeCycle, downNumber, downCycle, cycleIn, cappedByHigh, cruiseNumber, cruiseModel, cruiseCycle, refillNumber, refillModel, refilled, refillCycle, upNumber, upCycle}
@@ -96,7 +95,7 @@ down-kept m c p high risky now done =
     let k = accepted.entry-moment m c (paramsOk p) true now done in
     let l = cycleTests c in
     let t = momentOk now in
-    let w = waitOk (Length (record { 0 = p .base .0 + 500_000 })) in (
+    let w = waitOk (Length.Set (record { 0 = p .base .0 + 500_000 })) in (
       restarted-kept m now (accepted.entry-model m c (paramsOk p) true now done) k,
       all-put (set (set (set l 0 t) 1 t) 2 w) 4 true
           (all-put (set (set l 0 t) 1 t) 2 w (all-put (set l 0 t) 1 t (all-put l 0 t (accepted.entry-cycle m c (paramsOk p) true now done) k) k)

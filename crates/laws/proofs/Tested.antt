@@ -18,8 +18,7 @@ use Rattle.state.proofs.Rows.{row-stored}
 use Rattle.state.specs.declared.congestion_event.CongestionEvent.{CongestionEvent}
 use Rattle.state.specs.declared.congestion_event.CongestionEventSample.{CongestionEventSample}
 use Rattle.state.specs.CongestionEvent.{eventOk}
-use Rattle.events.specs.Event.{eventNumber, modelNext}
-use Rattle.events.specs.Event.{finishNumber, finishNext}
+use Rattle.events.specs.Event.{eventNumber, modelNext, finishNumber, finishNext}
 use Rattle.laws.proofs.Model.{sent-kept}
 use Rattle.laws.proofs.Events.{event-model, event-model-kept, finish-kept}
 

@@ -3,7 +3,6 @@ use mathlib.Core.Path.{_≡_, sym, _∙_}
 use Rattle.numbers.specs.OneReply.{OneReply}
 use Rattle.layout.proofs.cycle as cycle
 use Rattle.layout.proofs.form as form
-use Rattle.layout.proofs.maybe as maybe
 use Rattle.layout.proofs.network_model as network-model
 use Rattle.layout.proofs.state_words as state-words
 
@@ -12,18 +11,6 @@ one-cycle-cycle-from κ a x y s t p q = p ∙ sym q
 
 pub one-form-is-state : OneReply form.is_state.Reads.Learnt
 one-form-is-state κ a x y s t p q = p ∙ sym q
-
-pub one-maybe-is-unset : OneReply maybe.is_unset.Reads.Learnt
-one-maybe-is-unset κ a x y s t p q = p ∙ sym q
-
-pub one-maybe-number-in : OneReply maybe.number_in.Reads.Learnt
-one-maybe-number-in κ a x y s t p q = p ∙ sym q
-
-pub one-maybe-bandwidth-of : OneReply maybe.bandwidth_of.Reads.Learnt
-one-maybe-bandwidth-of κ a x y s t p q = p ∙ sym q
-
-pub one-maybe-bandwidth-maybe : OneReply maybe.bandwidth_maybe.Reads.Learnt
-one-maybe-bandwidth-maybe κ a x y s t p q = p ∙ sym q
 
 pub one-network-model-model-from : OneReply network-model.model_from.Reads.Learnt
 one-network-model-model-from κ a x y s t p q = p ∙ sym q

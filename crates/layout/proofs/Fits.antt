@@ -10,15 +10,14 @@ use lib.Ieee.Bits.{toBits-ofBits, nanBits-is}
 use borrow.Author.Tests.{eq-eqb, ne-eqb, eqb-true, eqb-false, lt-leb, leb-true, leb-false, lt-ltb, le-ltb}
 use Rattle.numbers.proofs.Fields.{plain-bits, nan-bits}
 use Rattle.state.proofs.Rows.{and-left, and-right}
-use Rattle.filters.specs.declared.round_trip_counter.RoundEnd.the-variants.{NotSet, At}
-use Rattle.state.specs.declared.parts.MaybeBandwidth.the-variants.{Unset, Set}
-use Rattle.state.specs.declared.cycle.MaybeBytes.the-variants.{NoBytes, Bytes}
-use Rattle.state.specs.declared.cycle.MaybeLength.the-variants.{NoLength, Length}
-use Rattle.layout.specs.declared.maybe.Maybe.{Maybe}
+use Rattle.units.specs.declared.maybe.MaybeNumber.the-variants as Number
+use Rattle.units.specs.declared.maybe.MaybeBandwidth.the-variants.{Unset, Set}
+use Rattle.units.specs.declared.maybe.MaybeDuration.the-variants as Length
+use Rattle.words.specs.declared.maybe.Maybe.{Maybe}
 use Rattle.words.specs.Word.{word, flagWord, flagOf, flagFits, floatWord, floatOf}
-use Rattle.layout.specs.Maybe.{unset, held, isUnset, numberIn, bandwidthMaybe, bandwidthOf}
-use Rattle.layout.specs.NetworkModel.{modelFrom, modelWords, endMaybe, endOf}
-use Rattle.layout.specs.Cycle.{cycleFrom, cycleWords, phaseWord, phaseOf, waitLengthMaybe, waitLengthOf, upBytesMaybe, upBytesOf}
+use Rattle.words.specs.Maybe.{unset, held, isUnset, numberIn, bandwidthMaybe, bandwidthOf, plainMaybe, plainOf, lengthMaybe, lengthOf}
+use Rattle.layout.specs.NetworkModel.{modelFrom, modelWords}
+use Rattle.layout.specs.Cycle.{cycleFrom, cycleWords, phaseWord, phaseOf}
 use Rattle.layout.specs.Form.{pairFits, floatFits, phaseFits, earlyFits, lateFits, cycleFits}
 use Rattle.layout.specs.StateWords.{sameWords, isState}
 
@@ -85,17 +84,17 @@ pair m a b t e = go (isUnset a b) (eqb a 1) refl refl
     go false true h k = rw (e, h, eqb-swap 1 a, k, same b)
     go false false h k = rw (e, h, eqb-swap 1 a, k)
 
-end-pair : (a b : ℕ) (t : Bool) → (eqb (endMaybe (endOf a b) .set) a && (eqb (endMaybe (endOf a b) .number) b && t)) ≡ (pairFits a b && t)
-end-pair a b t = pair (endMaybe (endOf a b)) a b t (cond-out endMaybe (isUnset a b) NotSet (At (numberIn a b)))
+end-pair : (a b : ℕ) (t : Bool) → (eqb (plainMaybe (plainOf a b) .set) a && (eqb (plainMaybe (plainOf a b) .number) b && t)) ≡ (pairFits a b && t)
+end-pair a b t = pair (plainMaybe (plainOf a b)) a b t (cond-out plainMaybe (isUnset a b) Number.Unset (Number.Set (numberIn a b)))
 
 rate-pair : (a b : ℕ) (t : Bool) → (eqb (bandwidthMaybe (bandwidthOf a b) .set) a && (eqb (bandwidthMaybe (bandwidthOf a b) .number) b && t)) ≡ (pairFits a b && t)
 rate-pair a b t = pair (bandwidthMaybe (bandwidthOf a b)) a b t (cond-out bandwidthMaybe (isUnset a b) Unset (Set (record { 0 = numberIn a b })))
 
-wait-pair : (a b : ℕ) (t : Bool) → (eqb (waitLengthMaybe (waitLengthOf a b) .set) a && (eqb (waitLengthMaybe (waitLengthOf a b) .number) b && t)) ≡ (pairFits a b && t)
-wait-pair a b t = pair (waitLengthMaybe (waitLengthOf a b)) a b t (cond-out waitLengthMaybe (isUnset a b) NoLength (Length (record { 0 = numberIn a b })))
+wait-pair : (a b : ℕ) (t : Bool) → (eqb (lengthMaybe (lengthOf a b) .set) a && (eqb (lengthMaybe (lengthOf a b) .number) b && t)) ≡ (pairFits a b && t)
+wait-pair a b t = pair (lengthMaybe (lengthOf a b)) a b t (cond-out lengthMaybe (isUnset a b) Length.Unset (Length.Set (record { 0 = numberIn a b })))
 
-up-pair : (a b : ℕ) (t : Bool) → (eqb (upBytesMaybe (upBytesOf a b) .set) a && (eqb (upBytesMaybe (upBytesOf a b) .number) b && t)) ≡ (pairFits a b && t)
-up-pair a b t = pair (upBytesMaybe (upBytesOf a b)) a b t (cond-out upBytesMaybe (isUnset a b) NoBytes (Bytes (numberIn a b)))
+up-pair : (a b : ℕ) (t : Bool) → (eqb (plainMaybe (plainOf a b) .set) a && (eqb (plainMaybe (plainOf a b) .number) b && t)) ≡ (pairFits a b && t)
+up-pair a b t = pair (plainMaybe (plainOf a b)) a b t (cond-out plainMaybe (isUnset a b) Number.Unset (Number.Set (numberIn a b)))
 
 -- ---- all of them
 pub form : (w : List ℕ) → isState w ≡ (earlyFits w && lateFits w && cycleFits w)

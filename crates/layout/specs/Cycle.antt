@@ -7,16 +7,11 @@ use Rattle.state.specs.declared.cycle.Cycle.{Cycle}
 use Rattle.state.specs.declared.cycle.CyclePhase.{CyclePhase}
 use Rattle.state.specs.declared.cycle.CyclePhase.the-variants.{NotStarted, Up, Down, Cruise, Refill}
 use Rattle.state.specs.declared.cycle.Last.{Last}
-use Rattle.state.specs.declared.cycle.MaybeBytes.{MaybeBytes}
-use Rattle.state.specs.declared.cycle.MaybeBytes.the-variants.{NoBytes, Bytes}
-use Rattle.state.specs.declared.cycle.MaybeLength.{MaybeLength}
-use Rattle.state.specs.declared.cycle.MaybeLength.the-variants.{NoLength, Length}
 use Rattle.state.specs.declared.cycle.Slope.{Slope}
 use Rattle.state.specs.declared.cycle.Stay.{Stay}
 use Rattle.state.specs.declared.cycle.Wait.{Wait}
-use Rattle.layout.specs.declared.maybe.Maybe.{Maybe}
 use Rattle.words.specs.Word.{word, flagWord, flagOf}
-use Rattle.layout.specs.Maybe.{unset, held, maybeWords, maybeOf}
+use Rattle.words.specs.Maybe.{maybeWords, lengthMaybe, lengthOf, plainMaybe, plainOf}
 
 -- a phase: 0 to 4; what is above 4 is read as the last
 abbrev pub phaseWord : CyclePhase → ℕ
@@ -29,21 +24,6 @@ phaseWord Refill = 4
 abbrev pub phaseOf : ℕ → CyclePhase
 phaseOf w = cond (eqb w 0) NotStarted (cond (eqb w 1) Up (cond (eqb w 2) Down (cond (eqb w 3) Cruise Refill)))
 
--- probe_wait_time and probe_up_bytes
-abbrev pub waitLengthMaybe : MaybeLength → Maybe
-waitLengthMaybe NoLength = unset
-waitLengthMaybe (Length d) = held (d .0)
-
-abbrev pub waitLengthOf : ℕ → ℕ → MaybeLength
-waitLengthOf set n = maybeOf NoLength (λ n. Length (record { 0 = n })) set n
-
-abbrev pub upBytesMaybe : MaybeBytes → Maybe
-upBytesMaybe NoBytes = unset
-upBytesMaybe (Bytes n) = held n
-
-abbrev pub upBytesOf : ℕ → ℕ → MaybeBytes
-upBytesOf set n = maybeOf NoBytes (λ n. Bytes n) set n
-
 -- ---- from words
 abbrev pub stayOf : List ℕ → Stay
 stayOf l = record { phase = phaseOf (word l 34); rounds = word l 37; entered = record { 0 = word l 36 } }
@@ -53,14 +33,14 @@ waitOf l =
     record {
       start = record { 0 = word l 35 };
       rounds = word l 38;
-      length = waitLengthOf (word l 39) (word l 40);
+      length = lengthOf (word l 39) (word l 40);
     }
 
 abbrev pub slopeOf : List ℕ → Slope
 slopeOf l =
     record {
       rounds = word l 41;
-      bytes = upBytesOf (word l 42) (word l 43);
+      bytes = plainOf (word l 42) (word l 43);
       acked = word l 44;
       applimited = flagOf (word l 45);
     }
@@ -84,10 +64,10 @@ timesWords s w =
     ∷ s .entered .0
     ∷ s .rounds
     ∷ w .rounds
-    ∷ maybeWords (waitLengthMaybe (w .length))
+    ∷ maybeWords (lengthMaybe (w .length))
 
 abbrev pub slopeWords : Slope → List ℕ
-slopeWords s = s .rounds ∷ maybeWords (upBytesMaybe (s .bytes)) ++ s .acked ∷ flagWord (s .applimited) ∷ []
+slopeWords s = s .rounds ∷ maybeWords (plainMaybe (s .bytes)) ++ s .acked ∷ flagWord (s .applimited) ∷ []
 
 abbrev pub marksWords : Bool → Bool → Last → List ℕ
 marksWords advanced probing last =

@@ -5,8 +5,7 @@ use mathlib.Core.Bool.{Bool, _&&_, _||_}
 use mathlib.Core.List.{List}
 use lib.Dec.{leb, eqb}
 use Rattle.words.specs.Word.{word, flagFits}
-use Rattle.layout.specs.Maybe.{isUnset}
-use Rattle.words.specs.Words as Words
+use Rattle.words.specs.Maybe.{isUnset}
 
 -- ---- whether words encode a state, word by word: only a flag, a float, the phase and what may be unset can be written
 -- in another way than it is read (docs/LAYOUT.md, "How a thing is written")

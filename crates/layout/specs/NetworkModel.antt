@@ -4,8 +4,6 @@ use mathlib.Core.List.{List, [], _∷_, _++_}
 use Rattle.filters.specs.declared.max_bandwidth_filter.MaxBandwidthFilter.{MaxBandwidthFilter}
 use Rattle.filters.specs.declared.min_rtt_filter.MinRttFilter.{MinRttFilter}
 use Rattle.filters.specs.declared.round_trip_counter.RoundTripCounter.{RoundTripCounter}
-use Rattle.filters.specs.declared.round_trip_counter.RoundEnd.{RoundEnd}
-use Rattle.filters.specs.declared.round_trip_counter.RoundEnd.the-variants.{NotSet, At}
 use Rattle.state.specs.declared.network_model.NetworkModel.{NetworkModel}
 use Rattle.state.specs.declared.parts.Gains.{Gains}
 use Rattle.state.specs.declared.parts.Growth.{Growth}
@@ -14,21 +12,12 @@ use Rattle.state.specs.declared.parts.Lower.{Lower}
 use Rattle.state.specs.declared.parts.Rates.{Rates}
 use Rattle.state.specs.declared.parts.Round.{Round}
 use Rattle.state.specs.declared.parts.Totals.{Totals}
-use Rattle.layout.specs.declared.maybe.Maybe.{Maybe}
 use Rattle.words.specs.Word.{word, flagWord, flagOf, floatWord, floatOf}
-use Rattle.layout.specs.Maybe.{unset, held, maybeWords, maybeOf, bandwidthMaybe, bandwidthOf}
-
--- the end of the round, a packet's number
-abbrev pub endMaybe : RoundEnd → Maybe
-endMaybe NotSet = unset
-endMaybe (At n) = held n
-
-abbrev pub endOf : ℕ → ℕ → RoundEnd
-endOf set n = maybeOf NotSet (λ n. At n) set n
+use Rattle.words.specs.Maybe.{maybeWords, bandwidthMaybe, bandwidthOf, plainMaybe, plainOf}
 
 -- ---- from words
 abbrev pub roundsOf : List ℕ → RoundTripCounter
-roundsOf l = record { count = word l 0; sent = word l 1; end = endOf (word l 2) (word l 3) }
+roundsOf l = record { count = word l 0; sent = word l 1; end = plainOf (word l 2) (word l 3) }
 
 abbrev pub roundOf : List ℕ → Round
 roundOf l =
@@ -79,7 +68,7 @@ modelFrom l =
 
 -- ---- into words
 abbrev pub roundsWords : RoundTripCounter → List ℕ
-roundsWords r = r .count ∷ r .sent ∷ maybeWords (endMaybe (r .end))
+roundsWords r = r .count ∷ r .sent ∷ maybeWords (plainMaybe (r .end))
 
 abbrev pub maxbwWords : MaxBandwidthFilter → List ℕ
 maxbwWords f = f .slot0 .0 ∷ f .slot1 .0 ∷ []

@@ -2,20 +2,18 @@
 ghost use mathlib.Core.Path.{_≡_};
 ghost use mathlib.Core.List.{[], _∷_};
 ghost use lib.Seq.{sets};
-ghost use Rattle.layout.specs.Cycle.{phaseOf, phaseWord, waitLengthOf, waitLengthMaybe, upBytesOf, upBytesMaybe, stayOf, waitOf, slopeOf, cycleFrom, timesWords, slopeWords, marksWords, cycleWords};
-use crate::maybe::Maybe;
-use crate::maybe::is_unset;
-use crate::maybe::number_in;
+ghost use Rattle.layout.specs.Cycle.{phaseOf, phaseWord, stayOf, waitOf, slopeOf, cycleFrom, timesWords, slopeWords, marksWords, cycleWords};
 use state::Cycle;
 use state::CyclePhase;
 use state::cycle::Last;
-use state::cycle::MaybeBytes;
-use state::cycle::MaybeLength;
 use state::cycle::Slope;
 use state::cycle::Stay;
 use state::cycle::Wait;
-use units::Duration;
 use units::Moment;
+use words::maybe::length_maybe;
+use words::maybe::length_of;
+use words::maybe::plain_maybe;
+use words::maybe::plain_of;
 use words::word::flag_word;
 
 // ---- from words
@@ -65,17 +63,7 @@ fn wait_of(n: &[u64; 50]) -> Wait
     Wait {
         start: Moment(n[35]),
         rounds: n[38],
-        length: wait_length_of(n[39], n[40]),
-    }
-}
-
-fn wait_length_of(set: u64, number: u64) -> MaybeLength
-    ensures { λ r. ⌜ r ≡ waitLengthOf set number ⌝ }
-{
-    if is_unset(set, number) {
-        MaybeLength::NoLength
-    } else {
-        MaybeLength::Length(Duration(number_in(set, number)))
+        length: length_of(n[39], n[40]),
     }
 }
 
@@ -84,19 +72,9 @@ fn slope_of(n: &[u64; 50]) -> Slope
 {
     Slope {
         rounds: n[41],
-        bytes: up_bytes_of(n[42], n[43]),
+        bytes: plain_of(n[42], n[43]),
         acked: n[44],
         applimited: n[45] == 1,
-    }
-}
-
-fn up_bytes_of(set: u64, number: u64) -> MaybeBytes
-    ensures { λ r. ⌜ r ≡ upBytesOf set number ⌝ }
-{
-    if is_unset(set, number) {
-        MaybeBytes::NoBytes
-    } else {
-        MaybeBytes::Bytes(number_in(set, number))
     }
 }
 
@@ -119,7 +97,7 @@ fn with_times(n: [u64; 50], stay: Stay, wait: Wait) -> [u64; 50]
 {
     let phase = stay.phase;
     let length = wait.length;
-    let held = wait_length_maybe(length);
+    let held = length_maybe(length);
     let mut next = n;
     next[34] = phase_word(phase);
     next[35] = wait.start.0;
@@ -143,23 +121,11 @@ fn phase_word(phase: CyclePhase) -> u64
     }
 }
 
-fn wait_length_maybe(length: MaybeLength) -> Maybe
-    ensures { λ r. ⌜ r ≡ waitLengthMaybe length ⌝ }
-{
-    match length {
-        MaybeLength::NoLength => Maybe { set: 0, number: 0 },
-        MaybeLength::Length(held) => Maybe {
-            set: 1,
-            number: held.0,
-        },
-    }
-}
-
 fn with_slope(n: [u64; 50], slope: Slope) -> [u64; 50]
     ensures { λ r. ⌜ r ≡ sets n 41 (slopeWords slope) ⌝ }
 {
     let bytes = slope.bytes;
-    let held = up_bytes_maybe(bytes);
+    let held = plain_maybe(bytes);
     let mut next = n;
     next[41] = slope.rounds;
     next[42] = held.set;
@@ -167,15 +133,6 @@ fn with_slope(n: [u64; 50], slope: Slope) -> [u64; 50]
     next[44] = slope.acked;
     next[45] = flag_word(slope.applimited);
     next
-}
-
-fn up_bytes_maybe(bytes: MaybeBytes) -> Maybe
-    ensures { λ r. ⌜ r ≡ upBytesMaybe bytes ⌝ }
-{
-    match bytes {
-        MaybeBytes::NoBytes => Maybe { set: 0, number: 0 },
-        MaybeBytes::Bytes(number) => Maybe { set: 1, number },
-    }
 }
 
 fn with_marks(n: [u64; 50], advanced: bool, probing: bool, last: Last) -> [u64; 50]

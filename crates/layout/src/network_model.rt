@@ -3,16 +3,10 @@ ghost use mathlib.Core.Path.{_≡_};
 ghost use mathlib.Core.List.{[], _∷_, _++_};
 ghost use lib.Seq.{sets};
 ghost use Rattle.words.specs.Word.{flagWord};
-ghost use Rattle.layout.specs.NetworkModel.{endOf, endMaybe, roundsOf, roundOf, lowerOf, gainsOf, growthOf, ratesOf, modelFrom, roundsWords, maxbwWords, minrttWords, roundWords, latestWords, lowerWords, gainsWords, growthWords, ratesWords, totalsWords, modelWords};
-use crate::maybe::Maybe;
-use crate::maybe::bandwidth_maybe;
-use crate::maybe::bandwidth_of;
-use crate::maybe::is_unset;
-use crate::maybe::number_in;
+ghost use Rattle.layout.specs.NetworkModel.{roundsOf, roundOf, lowerOf, gainsOf, growthOf, ratesOf, modelFrom, roundsWords, maxbwWords, minrttWords, roundWords, latestWords, lowerWords, gainsWords, growthWords, ratesWords, totalsWords, modelWords};
 use filters::MaxBandwidthFilter;
 use filters::MinRttFilter;
 use filters::RoundTripCounter;
-use filters::round_trip_counter::RoundEnd;
 use state::NetworkModel;
 use state::parts::Gains;
 use state::parts::Growth;
@@ -24,6 +18,10 @@ use state::parts::Totals;
 use units::Bandwidth;
 use units::Duration;
 use units::Moment;
+use words::maybe::bandwidth_maybe;
+use words::maybe::bandwidth_of;
+use words::maybe::plain_maybe;
+use words::maybe::plain_of;
 use words::word::flag_word;
 use words::word::float_of;
 use words::word::float_word;
@@ -69,17 +67,7 @@ fn rounds_of(n: &[u64; 50]) -> RoundTripCounter
     RoundTripCounter {
         count: n[0],
         sent: n[1],
-        end: end_of(n[2], n[3]),
-    }
-}
-
-fn end_of(set: u64, number: u64) -> RoundEnd
-    ensures { λ r. ⌜ r ≡ endOf set number ⌝ }
-{
-    if is_unset(set, number) {
-        RoundEnd::NotSet
-    } else {
-        RoundEnd::At(number_in(set, number))
+        end: plain_of(n[2], n[3]),
     }
 }
 
@@ -161,22 +149,13 @@ fn with_rounds(n: [u64; 50], rounds: RoundTripCounter) -> [u64; 50]
     ensures { λ r. ⌜ r ≡ sets n 0 (roundsWords rounds) ⌝ }
 {
     let end = rounds.end;
-    let held = end_maybe(end);
+    let held = plain_maybe(end);
     let mut next = n;
     next[0] = rounds.count;
     next[1] = rounds.sent;
     next[2] = held.set;
     next[3] = held.number;
     next
-}
-
-fn end_maybe(end: RoundEnd) -> Maybe
-    ensures { λ r. ⌜ r ≡ endMaybe end ⌝ }
-{
-    match end {
-        RoundEnd::NotSet => Maybe { set: 0, number: 0 },
-        RoundEnd::At(number) => Maybe { set: 1, number },
-    }
 }
 
 fn with_filters(n: [u64; 50], most: MaxBandwidthFilter, least: MinRttFilter) -> [u64; 50]

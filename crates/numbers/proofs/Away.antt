@@ -3,8 +3,7 @@ use mathlib.Core.Path.{_≡_, sym, ap, _∙_}
 use mathlib.Core.Logic.{inl, inr}
 use mathlib.Core.Bool.{Bool, true, false, not, true≢false}
 use Prim.Native.Nat.{ℕ, zero, suc, _+_, _-_, _*_, _/_, _%_, _^_, _≤_, _<_, min}
-use native.Mathlib.Nat.{lt-of-lt-of-le, mul-one, zero-mul, mul-assoc, mul-le-mul-right, mul-le-mul-left, mul-lt-mul-of-pos-right, mul-pos, div-lt-iff-lt-mul, div-eq-of-lt}
-use native.Mathlib.Nat.{div-one, min-eq-left, pow-suc}
+use native.Mathlib.Nat.{lt-of-lt-of-le, mul-one, zero-mul, mul-assoc, mul-le-mul-right, mul-le-mul-left, mul-lt-mul-of-pos-right, mul-pos, div-lt-iff-lt-mul, div-eq-of-lt, div-one, min-eq-left, pow-suc}
 use native.Mathlib.Omega.{arith}
 use lib.IntN.{ℤ, pos, negsuc}
 use lib.Dec.{T}
@@ -18,8 +17,7 @@ use lib.Ieee.Back.{round-whole}
 use Rattle.numbers.specs.FloatToInt.{roundAway}
 use Rattle.numbers.proofs.Closest.{le-or-lt, one-shifted}
 use Rattle.numbers.proofs.Rounding.{sizes, format-digits, format-range}
-use Rattle.numbers.proofs.Fields.{cut-value, nothing, nothing-of, cut-nothing, field, digits, digits-lt, highest, count, count-value, count-lt, normal, whole, cut-left}
-use Rattle.numbers.proofs.Fields.{cut-large}
+use Rattle.numbers.proofs.Fields.{cut-value, nothing, nothing-of, cut-nothing, field, digits, digits-lt, highest, count, count-value, count-lt, normal, whole, cut-left, cut-large}
 
 -- ---- `roundAway` loses nothing: of a value that the format holds it is the whole number itself
 pub away-exact : (f : Format) (s : Bool) (m : ℕ) (e : ℤ) → m < 2 ^ prec f → m * up e < 2 ^ suc (emax f) * down e

@@ -4,8 +4,7 @@ use mathlib.Core.Path.{_≡_, sym, ap}
 use mathlib.Core.Logic.{inl, inr}
 use mathlib.Core.Bool.{true, false, _&&_, _||_, true≢false}
 use Prim.Native.Nat.{ℕ, suc, _+_, _-_, _*_, _/_, _^_, _≤_, _<_}
-use native.Mathlib.Nat.{le-of-lt, lt-of-le-of-lt, le-of-suc-le-suc, mul-assoc, mul-le-mul-right, div-lt-iff-lt-mul, div-mul-le-self, lt-div-mul-add, div-le-of-le-mul}
-use native.Mathlib.Nat.{sub-add-cancel}
+use native.Mathlib.Nat.{le-of-lt, lt-of-le-of-lt, le-of-suc-le-suc, mul-assoc, mul-le-mul-right, div-lt-iff-lt-mul, div-mul-le-self, lt-div-mul-add, div-le-of-le-mul, sub-add-cancel}
 use native.Mathlib.Omega.{arith}
 use lib.Dec.{T, ltb, eqb}
 use lib.Pow.{pow-pos, pow-add, pow-lt}

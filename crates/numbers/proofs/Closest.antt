@@ -4,9 +4,7 @@ use mathlib.Core.Path.{_≡_, refl, sym, ap, _∙_}
 use mathlib.Core.Logic.{_⊎_, inl, inr}
 use mathlib.Core.Bool.{not}
 use Prim.Native.Nat.{ℕ, suc, _+_, _-_, _*_, _/_, _%_, _^_, _≤_, _<_, compare, Ordering, Ordering·lt, Ordering·eq, Ordering·gt}
-use native.Mathlib.Nat.{le-trans, le-of-eq, le-of-lt, le-antisymm, lt-of-not-le, not-le-of-lt, eq-or-lt-of-le, eq-zero-or-pos, add-zero, mul-one, one-mul, mul-assoc}
-use native.Mathlib.Nat.{mul-le-mul-right, lt-of-mul-lt-mul-right, le-mul-of-pos-right, eq-of-mul-eq-mul-right, div-add-mod', mod-lt, mod-eq-of-lt, pow-suc, le-div-iff-mul-le}
-use native.Mathlib.Nat.{sub-add-cancel}
+use native.Mathlib.Nat.{le-trans, le-of-eq, le-of-lt, le-antisymm, lt-of-not-le, not-le-of-lt, eq-or-lt-of-le, eq-zero-or-pos, add-zero, mul-one, one-mul, mul-assoc, mul-le-mul-right, lt-of-mul-lt-mul-right, le-mul-of-pos-right, eq-of-mul-eq-mul-right, div-add-mod', mod-lt, mod-eq-of-lt, pow-suc, le-div-iff-mul-le, sub-add-cancel}
 use native.Mathlib.Numerals.{add-one}
 use native.Mathlib.Omega.{arith}
 use lib.Dec.{T, isLe, isEq, leb→le, nleb→lt, eqb→eq}

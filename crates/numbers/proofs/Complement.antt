@@ -4,8 +4,7 @@ use mathlib.Core.Path.{_≡_, sym, ap}
 use mathlib.Core.Logic.{inl, inr}
 use mathlib.Core.Bool.{true, false}
 use Prim.Native.Nat.{ℕ, zero, suc, _-_, _*_, _/_, _^_, _≤_, _<_}
-use native.Mathlib.Nat.{le-trans, lt-of-le-of-lt, sub-le, sub-add-cancel, mul-one, one-mul, mul-assoc, mul-comm, mul-left-comm, mul-pos, mul-le-mul-right}
-use native.Mathlib.Nat.{mul-lt-mul-of-pos-right, le-div-iff-mul-le, div-lt-iff-lt-mul, div-eq-of-eq-mul-left}
+use native.Mathlib.Nat.{le-trans, lt-of-le-of-lt, sub-le, sub-add-cancel, mul-one, one-mul, mul-assoc, mul-comm, mul-left-comm, mul-pos, mul-le-mul-right, mul-lt-mul-of-pos-right, le-div-iff-mul-le, div-lt-iff-lt-mul, div-eq-of-eq-mul-left}
 use native.Mathlib.Omega.{arith}
 use lib.IntN.{ℤ, pos, negsuc}
 use lib.Dec.{T, lit≤, lit<}

@@ -3,8 +3,7 @@ use mathlib.Core.Path.{_≡_, refl, sym, ap, _∙_}
 use mathlib.Core.Logic.{inl, inr}
 use mathlib.Core.Bool.{Bool, true, false, not, cond, true≢false}
 use Prim.Native.Nat.{ℕ, zero, suc, _+_, _-_, _*_, _/_, _%_, _^_, _≤_, _<_, min}
-use native.Mathlib.Nat.{lt-of-lt-of-le, lt-of-le-of-lt, one-mul, mul-one, mul-assoc, add-zero, mul-le-mul-right, div-one, div-eq-of-lt, div-lt-iff-lt-mul, mul-div-cancel}
-use native.Mathlib.Nat.{mul-div-mul-right, mul-mod-left, mod-lt, mod-eq-of-lt, min-eq-left, min-eq-right}
+use native.Mathlib.Nat.{lt-of-lt-of-le, lt-of-le-of-lt, one-mul, mul-one, mul-assoc, add-zero, mul-le-mul-right, div-one, div-eq-of-lt, div-lt-iff-lt-mul, mul-div-cancel, mul-div-mul-right, mul-mod-left, mod-lt, mod-eq-of-lt, min-eq-left, min-eq-right}
 use native.Mathlib.Numerals.{sub-one}
 use native.Mathlib.Omega.{arith}
 use lib.Dec.{T, eqb, lit<}

@@ -3,8 +3,7 @@ use mathlib.Core.Path.{_≡_, refl, sym, ap, _∙_, subst}
 use mathlib.Core.Logic.{_⊎_, inl, inr}
 use mathlib.Core.Bool.{Bool, true, false, _&&_, _||_}
 use Prim.Native.Nat.{ℕ, _+_, _-_, _*_, _/_, _^_, _≤_, _<_, min}
-use native.Mathlib.Nat.{le-trans, le-of-eq, le-of-lt, zero-mul, mul-zero, lt-of-le-of-lt, le-of-suc-le-suc, eq-or-lt-of-le, le-antisymm, mul-one, one-mul, mul-assoc, mul-comm, mul-pos, mul-le-mul-right, mul-le-mul-left, mul-le-mul}
-use native.Mathlib.Nat.{le-div-iff-mul-le, div-lt-iff-lt-mul, div-mul-le-self, div-le-of-le-mul, lt-div-mul-add, lt-of-mul-lt-mul-right, mul-lt-mul-of-pos-right, le-min, min-le-left, min-eq-left, div-eq-of-lt, eq-of-mul-eq-mul-right}
+use native.Mathlib.Nat.{le-trans, le-of-eq, le-of-lt, zero-mul, mul-zero, lt-of-le-of-lt, le-of-suc-le-suc, eq-or-lt-of-le, le-antisymm, mul-one, one-mul, mul-assoc, mul-comm, mul-pos, mul-le-mul-right, mul-le-mul-left, mul-le-mul, le-div-iff-mul-le, div-lt-iff-lt-mul, div-mul-le-self, div-le-of-le-mul, lt-div-mul-add, lt-of-mul-lt-mul-right, mul-lt-mul-of-pos-right, le-min, min-le-left, min-eq-left, div-eq-of-lt, eq-of-mul-eq-mul-right}
 use native.Mathlib.Omega.{arith}
 use lib.IntN.{ℤ, pos}
 use lib.Dec.{T, ltb, eqb, eqb→eq, lit≤, lit<}

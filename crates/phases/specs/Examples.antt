@@ -3,18 +3,18 @@ use Prim.Native.Nat.{ℕ}
 use mathlib.Core.Bool.{Bool, false, _&&_}
 use mathlib.Core.List.{List, [], _∷_}
 use lib.Dec.{eqb}
-use Rattle.state.specs.declared.cycle.MaybeBytes.{MaybeBytes}
-use Rattle.state.specs.declared.cycle.MaybeBytes.the-variants.{NoBytes, Bytes}
+use Rattle.units.specs.declared.maybe.MaybeNumber.{MaybeNumber}
+use Rattle.units.specs.declared.maybe.MaybeNumber.the-variants as Number
 use Rattle.state.specs.declared.cycle.Slope.{Slope}
 use Rattle.phases.specs.Slope.{slopeRaised}
 
-abbrev pub bytesAre : MaybeBytes → ℕ → Bool
-bytesAre NoBytes n = false
-bytesAre (Bytes b) n = eqb b n
+abbrev pub bytesAre : MaybeNumber → ℕ → Bool
+bytesAre Number.Unset n = false
+bytesAre (Number.Set b) n = eqb b n
 
 -- the slope that follows the rounds given, with the window 26,000
 abbrev pub raisedFrom : ℕ → Slope
-raisedFrom rounds = slopeRaised (record { rounds = rounds; bytes = NoBytes; acked = 0; applimited = false }) 26_000
+raisedFrom rounds = slopeRaised (record { rounds = rounds; bytes = Number.Unset; acked = 0; applimited = false }) 26_000
 
 abbrev pub gives : Slope → ℕ → ℕ → Bool
 gives s bytes rounds = bytesAre (s .bytes) bytes && eqb (s .rounds) rounds

@@ -9,14 +9,13 @@ use Rattle.state.specs.declared.params.Params.{Params}
 use Rattle.state.specs.declared.refusals.Rows.{Rows}
 use Rattle.state.specs.Bounds.{bytesOk, momentOk}
 use Rattle.state.specs.Refusals.{noRows, stored, argument, earlier, lowest}
-use Rattle.state.specs.NetworkModel.{modelOk}
+use Rattle.state.specs.NetworkModel.{modelOk, withMoment, restartNext, capNext, clearInflightNext, clearBandwidthNext, advanceNext}
 use Rattle.state.specs.Params.{paramsOk}
-use Rattle.state.specs.NetworkModel.{withMoment, restartNext, capNext, clearInflightNext, clearBandwidthNext, advanceNext}
 use Rattle.state.specs.declared.cycle.Cycle.{Cycle}
 use Rattle.state.specs.declared.cycle.CyclePhase.{CyclePhase}
 use Rattle.state.specs.declared.cycle.CyclePhase.the-variants.{NotStarted, Up, Down, Cruise, Refill}
-use Rattle.state.specs.declared.cycle.MaybeBytes.the-variants.{NoBytes}
-use Rattle.state.specs.declared.cycle.MaybeLength.the-variants.{Length}
+use Rattle.units.specs.declared.maybe.MaybeNumber.the-variants as Number
+use Rattle.units.specs.declared.maybe.MaybeDuration.the-variants as Length
 use Rattle.state.specs.Cycle.{cycleOk, roundsOk, stayFrom}
 use Rattle.phases.specs.Slope.{slopeRaised}
 
@@ -99,8 +98,8 @@ unfoldable pub downCycle : Cycle → Params → (high risky : Bool) → Moment �
 downCycle c p high risky now =
     record {
       stay = stayFrom Down now;
-      wait = record { start = now; rounds = 0; length = Length (record { 0 = p .base .0 + 500_000 }) };
-      slope = record { rounds = c .slope .rounds; bytes = NoBytes; acked = c .slope .acked; applimited = false };
+      wait = record { start = now; rounds = 0; length = Length.Set (record { 0 = p .base .0 + 500_000 }) };
+      slope = record { rounds = c .slope .rounds; bytes = Number.Unset; acked = c .slope .acked; applimited = false };
       advanced = false;
       probing = c .probing;
       last = record { high = high; risky = risky };

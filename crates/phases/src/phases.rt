@@ -15,14 +15,14 @@ use state::bounds::bytes_ok;
 use state::bounds::moment_ok;
 use state::cycle::CycleChanged;
 use state::cycle::Last;
-use state::cycle::MaybeBytes;
-use state::cycle::MaybeLength;
 use state::cycle::Slope;
 use state::cycle::Stay;
 use state::cycle::Wait;
 use state::refusals::Rows;
 use state::refusals::refusal;
 use units::Duration;
+use units::MaybeDuration;
+use units::MaybeNumber;
 use units::Moment;
 use units::Reply;
 
@@ -284,11 +284,11 @@ fn down_cycle(cycle: Cycle, params: Params, high: bool, risky: bool, now: Moment
         wait: Wait {
             start: now,
             rounds: 0,
-            length: MaybeLength::Length(length),
+            length: MaybeDuration::Set(length),
         },
         slope: Slope {
             rounds: cycle.slope.rounds,
-            bytes: MaybeBytes::NoBytes,
+            bytes: MaybeNumber::Unset,
             acked: cycle.slope.acked,
             applimited: false,
         },

@@ -5,8 +5,8 @@ ghost use Rattle.phases.specs.Slope.{slopeRaised, nextRounds};
 use numbers::larger;
 use state::Cycle;
 use state::NetworkModel;
-use state::cycle::MaybeBytes;
 use state::cycle::Slope;
+use units::MaybeNumber;
 
 // The window over 2^rounds.
 fn share(window: u64, rounds: u64) -> u64
@@ -38,7 +38,7 @@ pub fn slope_raised(slope: Slope, window: u64) -> Slope
     let bytes = larger(share(window, slope.rounds), NetworkModel::DEFAULT_MSS);
     Slope {
         rounds: next_rounds(slope.rounds),
-        bytes: MaybeBytes::Bytes(bytes),
+        bytes: MaybeNumber::Set(bytes),
         acked: slope.acked,
         applimited: slope.applimited,
     }

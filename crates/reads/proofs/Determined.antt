@@ -2,12 +2,7 @@
 use mathlib.Core.Path.{_≡_, sym, _∙_}
 use Rattle.numbers.specs.OneReply.{OneReply}
 use Rattle.units.proofs.reply.Number.{number-injective}
-use Rattle.state.proofs.Determined.{number}
-use Rattle.state.proofs.Determined.{bandwidthread}
-use Rattle.state.proofs.Determined.{lengthread}
-use Rattle.state.proofs.Determined.{momentread}
-use Rattle.state.proofs.Determined.{flag}
-use Rattle.state.proofs.Determined.{gainread}
+use Rattle.state.proofs.Determined.{number, bandwidthread, lengthread, momentread, flag, gainread}
 use Rattle.reads.proofs.reads as reads
 
 pub one-reads-bdp : OneReply reads.bdp.Reads.Learnt

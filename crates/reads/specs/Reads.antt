@@ -5,8 +5,8 @@ use lib.Ieee.{Float}
 use Rattle.units.specs.declared.bandwidth.Bandwidth.{Bandwidth}
 use Rattle.units.specs.Bandwidth.{smallerOf}
 use Rattle.numbers.specs.Scaling.{scaled}
-use Rattle.state.specs.declared.parts.MaybeBandwidth.{MaybeBandwidth}
-use Rattle.state.specs.declared.parts.MaybeBandwidth.the-variants.{Unset, Set}
+use Rattle.units.specs.declared.maybe.MaybeBandwidth.{MaybeBandwidth}
+use Rattle.units.specs.declared.maybe.MaybeBandwidth.the-variants.{Unset, Set}
 
 -- bandwidth_estimate: the smaller of bandwidth_lo, if it is set, and the maximum
 abbrev pub estimateOf : MaybeBandwidth → Bandwidth → Bandwidth

@@ -19,8 +19,8 @@ use state::answers::Number;
 use state::bounds::UNSET;
 use state::bounds::bandwidth_ok;
 use state::bounds::gain_ok;
-use state::parts::MaybeBandwidth;
 use units::Bandwidth;
+use units::MaybeBandwidth;
 
 fn estimate_of(lo: MaybeBandwidth, most: Bandwidth) -> Bandwidth
     ensures { λ r. ⌜ r ≡ estimateOf lo most ⌝ }

@@ -42,7 +42,7 @@ fn filter_of(n: &[u64; 12]) -> WindowedFilter {
     if n[5] != 1 {
         return WindowedFilter::new(window);
     }
-    let held = Held::Full(Estimates {
+    let held = Held::Set(Estimates {
         best: sample(n[6], n[7]),
         second: sample(n[8], n[9]),
         third: sample(n[10], n[11]),
@@ -62,8 +62,8 @@ fn answer_words(updated: Updated) -> [u64; 18] {
     words[0] = reply.row();
     words[2] = filter.window;
     match held {
-        Held::Empty => words,
-        Held::Full(e) => with_estimates(words, e),
+        Held::Unset => words,
+        Held::Set(e) => with_estimates(words, e),
     }
 }
 

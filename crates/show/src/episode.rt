@@ -12,12 +12,12 @@ use state::NetworkModel;
 use state::Params;
 use state::congestion_event::CongestionEvent;
 use state::congestion_event::CongestionEventSample;
-use state::congestion_event::MaybeLength;
 use state::congestion_event::SendTimeState;
 use state::network_model::Changed;
-use state::parts::MaybeBandwidth;
 use state::parts::Totals;
 use units::Duration;
+use units::MaybeBandwidth;
+use units::MaybeDuration;
 use units::Moment;
 use units::Reply;
 
@@ -61,7 +61,7 @@ fn event_at(time: Moment) -> CongestionEvent {
         ended: false,
         probing: false,
         bandwidth: MaybeBandwidth::Unset,
-        rtt: MaybeLength::Missing,
+        rtt: MaybeDuration::Unset,
         state: no_state(),
     }
 }
@@ -73,7 +73,7 @@ fn lost_by(lost: u64) -> CongestionEventSample {
         send: MaybeBandwidth::Unset,
         ack: MaybeBandwidth::Unset,
         applimited: false,
-        rtt: MaybeLength::Missing,
+        rtt: MaybeDuration::Unset,
         inflight: 0,
         extra: 0,
         state: no_state(),

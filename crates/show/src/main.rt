@@ -48,10 +48,10 @@ fn estimate(e: Sample) {
 fn estimates(filter: WindowedFilter) {
     let held = filter.held;
     match held {
-        Held::Empty => {
+        Held::Unset => {
             text(b"  empty");
         }
-        Held::Full(e) => {
+        Held::Set(e) => {
             let best = e.best;
             let second = e.second;
             let third = e.third;

@@ -7,8 +7,8 @@ use lib.Ieee.{Float, binary32, ofBits, le}
 use Rattle.units.specs.declared.bandwidth.Bandwidth.{Bandwidth}
 use Rattle.units.specs.declared.time.Duration.{Duration}
 use Rattle.units.specs.declared.time.Moment.{Moment}
-use Rattle.state.specs.declared.parts.MaybeBandwidth.{MaybeBandwidth}
-use Rattle.state.specs.declared.parts.MaybeBandwidth.the-variants.{Unset, Set}
+use Rattle.units.specs.declared.maybe.MaybeBandwidth.{MaybeBandwidth}
+use Rattle.units.specs.declared.maybe.MaybeBandwidth.the-variants.{Unset, Set}
 
 -- "byte counts 2^40"
 abbrev pub bytesOk : ℕ → Bool

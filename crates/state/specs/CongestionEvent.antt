@@ -4,15 +4,15 @@ use mathlib.Core.Bool.{Bool, true, _&&_}
 use mathlib.Core.List.{List, [], _∷_}
 use Rattle.state.specs.Bounds.{all, bytesOk, totalOk, momentOk, lengthOk, maybeOk}
 use Rattle.state.specs.Parts.{totalsOk}
-use Rattle.state.specs.declared.congestion_event.MaybeLength.{MaybeLength}
-use Rattle.state.specs.declared.congestion_event.MaybeLength.the-variants.{Missing, Length}
+use Rattle.units.specs.declared.maybe.MaybeDuration.{MaybeDuration}
+use Rattle.units.specs.declared.maybe.MaybeDuration.the-variants as Length
 use Rattle.state.specs.declared.congestion_event.CongestionEvent.{CongestionEvent}
 use Rattle.state.specs.declared.congestion_event.CongestionEventSample.{CongestionEventSample}
 use Rattle.state.specs.declared.congestion_event.SendTimeState.{SendTimeState}
 
-abbrev pub maybeLengthOk : MaybeLength → Bool
-maybeLengthOk Missing = true
-maybeLengthOk (Length d) = lengthOk d
+abbrev pub maybeLengthOk : MaybeDuration → Bool
+maybeLengthOk Length.Unset = true
+maybeLengthOk (Length.Set d) = lengthOk d
 
 abbrev pub stateOk : SendTimeState → Bool
 stateOk t = totalOk (t .acked) && bytesOk (t .inflight)

@@ -10,23 +10,23 @@ use Rattle.state.specs.Refusals.{noRows, argument, lowest}
 use Rattle.state.specs.declared.cycle.Cycle.{Cycle}
 use Rattle.state.specs.declared.cycle.CyclePhase.{CyclePhase}
 use Rattle.state.specs.declared.cycle.CyclePhase.the-variants.{NotStarted}
-use Rattle.state.specs.declared.cycle.MaybeBytes.{MaybeBytes}
-use Rattle.state.specs.declared.cycle.MaybeBytes.the-variants.{NoBytes, Bytes}
-use Rattle.state.specs.declared.cycle.MaybeLength.{MaybeLength}
-use Rattle.state.specs.declared.cycle.MaybeLength.the-variants.{NoLength, Length}
+use Rattle.units.specs.declared.maybe.MaybeNumber.{MaybeNumber}
+use Rattle.units.specs.declared.maybe.MaybeNumber.the-variants as Number
+use Rattle.units.specs.declared.maybe.MaybeDuration.{MaybeDuration}
+use Rattle.units.specs.declared.maybe.MaybeDuration.the-variants as Length
 use Rattle.state.specs.declared.cycle.Stay.{Stay}
 use Rattle.state.specs.declared.refusals.Rows.{Rows}
 
 -- ---- the bounds: document 01, "Replies and bounds"
 -- "lengths of time 2^36 ns (the stored probe wait 500,000 ns more)"
-abbrev pub waitOk : MaybeLength → Bool
-waitOk NoLength = true
-waitOk (Length d) = leb (d .0) (2 ^ 36 + 500_000)
+abbrev pub waitOk : MaybeDuration → Bool
+waitOk Length.Unset = true
+waitOk (Length.Set d) = leb (d .0) (2 ^ 36 + 500_000)
 
 -- "byte counts 2^40"
-abbrev pub upBytesOk : MaybeBytes → Bool
-upBytesOk NoBytes = true
-upBytesOk (Bytes n) = bytesOk n
+abbrev pub upBytesOk : MaybeNumber → Bool
+upBytesOk Number.Unset = true
+upBytesOk (Number.Set n) = bytesOk n
 
 -- "probe_up_rounds 30"
 abbrev pub roundsOk : ℕ → Bool
@@ -56,8 +56,8 @@ unfoldable pub cycleNew : Moment → Cycle
 cycleNew now =
     record {
       stay = stayFrom NotStarted now;
-      wait = record { start = now; rounds = 0; length = NoLength };
-      slope = record { rounds = 0; bytes = NoBytes; acked = 0; applimited = false };
+      wait = record { start = now; rounds = 0; length = Length.Unset };
+      slope = record { rounds = 0; bytes = Number.Unset; acked = 0; applimited = false };
       advanced = false;
       probing = false;
       last = record { high = false; risky = false };

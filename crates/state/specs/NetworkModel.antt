@@ -16,7 +16,7 @@ use Rattle.state.specs.declared.parts.Gains.{Gains}
 use Rattle.state.specs.declared.parts.Growth.{Growth}
 use Rattle.state.specs.declared.parts.Lower.{Lower}
 use Rattle.state.specs.declared.parts.Round.{Round}
-use Rattle.state.specs.declared.parts.MaybeBandwidth.the-variants.{Unset}
+use Rattle.units.specs.declared.maybe.MaybeBandwidth.the-variants.{Unset}
 use Rattle.state.specs.declared.refusals.Rows.{Rows}
 use Rattle.state.specs.Bounds.{bytesOrUnsetOk, momentOk, lengthOk, bandwidthOk, all}
 use Rattle.state.specs.Refusals.{noRows, stored, argument, full, lowest}

@@ -1,9 +1,9 @@
 // Document 01's bounds.
 ghost use mathlib.Core.Path.{_≡_};
 ghost use Rattle.state.specs.Bounds.{bytesOk, bytesOrUnsetOk, totalOk, momentOk, lengthOk, bandwidthOk, maybeOk, fractionOk, gainOk};
-use crate::parts::MaybeBandwidth;
 use units::Bandwidth;
 use units::Duration;
+use units::MaybeBandwidth;
 use units::Moment;
 
 pub const MOST_BYTES: u64 = 0x100_0000_0000;

@@ -6,16 +6,10 @@ use crate::bounds::length_ok;
 use crate::bounds::maybe_ok;
 use crate::bounds::moment_ok;
 use crate::bounds::total_ok;
-use crate::parts::MaybeBandwidth;
 use crate::parts::Totals;
-use units::Duration;
+use units::MaybeBandwidth;
+use units::MaybeDuration;
 use units::Moment;
-
-// A length of time, or none.
-pub enum MaybeLength {
-    Missing,
-    Length(Duration),
-}
 
 // SendTimeState: is_valid, is_app_limited, total_bytes_acked, bytes_in_flight.
 pub struct SendTimeState {
@@ -38,7 +32,7 @@ pub struct CongestionEvent {
     pub ended: bool,
     pub probing: bool,
     pub bandwidth: MaybeBandwidth,
-    pub rtt: MaybeLength,
+    pub rtt: MaybeDuration,
     pub state: SendTimeState,
 }
 
@@ -50,22 +44,21 @@ pub struct CongestionEventSample {
     pub send: MaybeBandwidth,
     pub ack: MaybeBandwidth,
     pub applimited: bool,
-    pub rtt: MaybeLength,
+    pub rtt: MaybeDuration,
     pub inflight: u64,
     pub extra: u64,
     pub state: SendTimeState,
     pub totals: Totals,
 }
 
-impl MaybeLength {
-    pub(crate) fn ok(self) -> bool
-        ensures { λ r. ⌜ r ≡ maybeLengthOk self ⌝ }
-    {
-        let MaybeLength::Length(length) = self else {
-            return true;
-        };
-        length_ok(length)
-    }
+// A length of time that may be unset.
+fn maybe_length_ok(length: MaybeDuration) -> bool
+    ensures { λ r. ⌜ r ≡ maybeLengthOk length ⌝ }
+{
+    let MaybeDuration::Set(held) = length else {
+        return true;
+    };
+    length_ok(held)
 }
 
 impl SendTimeState {
@@ -92,7 +85,7 @@ impl CongestionEvent {
             & total_ok(self.acked)
             & total_ok(self.lost)
             & maybe_ok(bandwidth)
-            & rtt.ok()
+            & maybe_length_ok(rtt)
             & state.ok()
     }
 }
@@ -111,7 +104,7 @@ impl CongestionEventSample {
         maybe_ok(bandwidth)
             & maybe_ok(send)
             & maybe_ok(ack)
-            & rtt.ok()
+            & maybe_length_ok(rtt)
             & bytes_ok(self.inflight)
             & bytes_ok(self.extra)
             & state.ok()

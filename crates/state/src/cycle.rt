@@ -8,6 +8,8 @@ use crate::bounds::moment_ok;
 use crate::refusals::Rows;
 use crate::refusals::refusal;
 use units::Duration;
+use units::MaybeDuration;
+use units::MaybeNumber;
 use units::Moment;
 use units::Reply;
 
@@ -17,18 +19,6 @@ pub enum CyclePhase {
     Down,
     Cruise,
     Refill,
-}
-
-// A length of time, or none: probe_wait_time.
-pub enum MaybeLength {
-    NoLength,
-    Length(Duration),
-}
-
-// A byte count, or none: probe_up_bytes.
-pub enum MaybeBytes {
-    NoBytes,
-    Bytes(u64),
 }
 
 // phase, rounds_in_phase, phase_start_time.
@@ -42,13 +32,13 @@ pub struct Stay {
 pub struct Wait {
     pub start: Moment,
     pub rounds: u64,
-    pub length: MaybeLength,
+    pub length: MaybeDuration,
 }
 
 // probe_up_rounds, probe_up_bytes, probe_up_acked, probe_up_app_limited_since_inflight_hi_applimited.
 pub struct Slope {
     pub rounds: u64,
-    pub bytes: MaybeBytes,
+    pub bytes: MaybeNumber,
     pub acked: u64,
     pub applimited: bool,
 }
@@ -77,20 +67,20 @@ pub struct CycleChanged {
 }
 
 // The stored wait is at most the longest length of time and the extra wait.
-fn wait_ok(wait: MaybeLength) -> bool
+fn wait_ok(wait: MaybeDuration) -> bool
     ensures { λ r. ⌜ r ≡ waitOk wait ⌝ }
 {
-    let MaybeLength::Length(length) = wait else {
+    let MaybeDuration::Set(length) = wait else {
         return true;
     };
     length.0 <= MOST_LENGTH + Cycle::EXTRA_WAIT.0
 }
 
 // A byte count that may be missing.
-fn up_bytes_ok(bytes: MaybeBytes) -> bool
+fn up_bytes_ok(bytes: MaybeNumber) -> bool
     ensures { λ r. ⌜ r ≡ upBytesOk bytes ⌝ }
 {
-    let MaybeBytes::Bytes(count) = bytes else {
+    let MaybeNumber::Set(count) = bytes else {
         return true;
     };
     bytes_ok(count)
@@ -146,11 +136,11 @@ impl Cycle {
             wait: Wait {
                 start: now,
                 rounds: 0,
-                length: MaybeLength::NoLength,
+                length: MaybeDuration::Unset,
             },
             slope: Slope {
                 rounds: 0,
-                bytes: MaybeBytes::NoBytes,
+                bytes: MaybeNumber::Unset,
                 acked: 0,
                 applimited: false,
             },

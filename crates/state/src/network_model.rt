@@ -14,7 +14,6 @@ use crate::parts::Gains;
 use crate::parts::Growth;
 use crate::parts::Latest;
 use crate::parts::Lower;
-use crate::parts::MaybeBandwidth;
 use crate::parts::Rates;
 use crate::parts::Round;
 use crate::parts::Totals;
@@ -25,6 +24,7 @@ use filters::MinRttFilter;
 use filters::RoundTripCounter;
 use units::Bandwidth;
 use units::Duration;
+use units::MaybeBandwidth;
 use units::Moment;
 use units::Reply;
 

@@ -1,7 +1,6 @@
 // The model's state, by concern.
 ghost use mathlib.Core.Path.{_≡_};
-ghost use Rattle.state.specs.Parts.{roundOk, latestOk, lowerOk, gainsOk, growthOk, ratesOk, totalsOk};
-ghost use Rattle.state.specs.Parts.{roundNew, roundSent, lowerCapped};
+ghost use Rattle.state.specs.Parts.{roundOk, latestOk, lowerOk, gainsOk, growthOk, ratesOk, totalsOk, roundNew, roundSent, lowerCapped};
 use crate::bounds::UNSET;
 use crate::bounds::bandwidth_ok;
 use crate::bounds::bytes_ok;
@@ -11,12 +10,7 @@ use crate::bounds::maybe_ok;
 use crate::bounds::total_ok;
 use numbers::smaller;
 use units::Bandwidth;
-
-// A bandwidth, or none: bandwidth_lo, and the latest send and ack rates.
-pub enum MaybeBandwidth {
-    Unset,
-    Set(Bandwidth),
-}
+use units::MaybeBandwidth;
 
 // bytes_lost_in_round, loss_events_in_round, max_bytes_delivered_in_round,
 // min_bytes_in_flight_in_round, inflight_hi_limited_in_round.

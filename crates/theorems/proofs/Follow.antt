@@ -15,13 +15,12 @@ use Rattle.state.specs.declared.network_model.NetworkModel.{NetworkModel}
 use Rattle.state.specs.declared.params.Params.{Params}
 use Rattle.state.specs.Answers.{settled}
 use Rattle.state.specs.Refusals.{rowOf}
-use Rattle.state.specs.NetworkModel.{modelOk}
-use Rattle.state.specs.NetworkModel.{storedNumber}
+use Rattle.state.specs.NetworkModel.{modelOk, storedNumber}
 use Rattle.state.specs.declared.congestion_event.CongestionEvent.{CongestionEvent}
 use Rattle.state.specs.declared.congestion_event.CongestionEventSample.{CongestionEventSample}
 use Rattle.state.specs.declared.cycle.Cycle.{Cycle}
 use Rattle.words.proofs.Laws.{getD-wordsAt}
-use Rattle.layout.specs.Maybe.{bandwidthOf}
+use Rattle.words.specs.Maybe.{bandwidthOf}
 use Rattle.layout.specs.NetworkModel.{modelFrom}
 use Rattle.arguments.specs.Params.{paramsFrom}
 use Rattle.arguments.specs.CongestionEvent.{eventFromWord, eventFrom}

@@ -10,13 +10,13 @@ use lib.Ieee.{Float, binary32, fits}
 use lib.Ieee.Bits.{toBits-lt}
 use lib.ListN.{getD}
 use borrow.Author.Tests.{leb-true, eqb-true}
-use Rattle.filters.specs.declared.round_trip_counter.RoundEnd.{RoundEnd}
-use Rattle.filters.specs.declared.round_trip_counter.RoundEnd.the-variants.{NotSet, At}
+use Rattle.units.specs.declared.maybe.MaybeNumber.{MaybeNumber}
+use Rattle.units.specs.declared.maybe.MaybeNumber.the-variants as Number
 use Rattle.filters.specs.declared.round_trip_counter.RoundTripCounter.{RoundTripCounter}
 use Rattle.state.specs.declared.network_model.NetworkModel.{NetworkModel}
 use Rattle.state.specs.declared.parts.Gains.{Gains}
-use Rattle.state.specs.declared.parts.MaybeBandwidth.{MaybeBandwidth}
-use Rattle.state.specs.declared.parts.MaybeBandwidth.the-variants.{Unset, Set}
+use Rattle.units.specs.declared.maybe.MaybeBandwidth.{MaybeBandwidth}
+use Rattle.units.specs.declared.maybe.MaybeBandwidth.the-variants.{Unset, Set}
 use Rattle.state.specs.Bounds.{bytesOrUnsetOk, bandwidthOk, lengthOk, momentOk, bytesOk, totalOk, maybeOk}
 use Rattle.state.specs.Parts.{roundOk}
 use Rattle.state.specs.NetworkModel.{modelTests, modelOk}
@@ -24,17 +24,15 @@ use Rattle.state.proofs.Rows.{and-left, and-right, all-at}
 use Rattle.state.specs.declared.cycle.Cycle.{Cycle}
 use Rattle.state.specs.declared.cycle.CyclePhase.{CyclePhase}
 use Rattle.state.specs.declared.cycle.CyclePhase.the-variants.{NotStarted, Up, Down, Cruise, Refill}
-use Rattle.state.specs.declared.cycle.MaybeBytes.{MaybeBytes}
-use Rattle.state.specs.declared.cycle.MaybeBytes.the-variants.{NoBytes, Bytes}
-use Rattle.state.specs.declared.cycle.MaybeLength.{MaybeLength}
-use Rattle.state.specs.declared.cycle.MaybeLength.the-variants.{NoLength, Length}
+use Rattle.units.specs.declared.maybe.MaybeDuration.{MaybeDuration}
+use Rattle.units.specs.declared.maybe.MaybeDuration.the-variants as Length
 use Rattle.state.specs.Cycle.{waitOk, upBytesOk, cycleTests, cycleOk}
 use Rattle.words.proofs.Laws.{AllWords}
 use Rattle.words.specs.Word.{outside, flagWord, flagOf, floatWord}
-use Rattle.layout.specs.Maybe.{isUnset, numberIn, bandwidthMaybe, bandwidthOf}
-use Rattle.layout.specs.NetworkModel.{endMaybe, modelFrom, modelWords}
-use Rattle.layout.specs.Cycle.{phaseWord, waitLengthMaybe, upBytesMaybe, cycleFrom, cycleWords}
-use Rattle.layout.proofs.Laws.{float-fits}
+use Rattle.words.specs.Maybe.{isUnset, numberIn, bandwidthMaybe, bandwidthOf, plainMaybe, lengthMaybe}
+use Rattle.layout.specs.NetworkModel.{modelFrom, modelWords}
+use Rattle.layout.specs.Cycle.{phaseWord, cycleFrom, cycleWords}
+use Rattle.words.proofs.Back.{float-fits}
 use Rattle.drift.specs.Calls.{State}
 use Rattle.theorems.proofs.Choice.{either}
 
@@ -44,21 +42,21 @@ Word n = n < 2 ^ 64
 abbrev pub Single : Float → Type 0
 Single x = T (fits binary32 x)
 
-abbrev pub EndForm : RoundEnd → Type 0
-EndForm NotSet = Unit {0}
-EndForm (At n) = Word n
+abbrev pub EndForm : MaybeNumber → Type 0
+EndForm Number.Unset = Unit {0}
+EndForm (Number.Set n) = Word n
 
 abbrev pub BandwidthForm : MaybeBandwidth → Type 0
 BandwidthForm Unset = Unit {0}
 BandwidthForm (Set b) = Word (b .0)
 
-abbrev pub LengthForm : MaybeLength → Type 0
-LengthForm NoLength = Unit {0}
-LengthForm (Length d) = Word (d .0)
+abbrev pub LengthForm : MaybeDuration → Type 0
+LengthForm Length.Unset = Unit {0}
+LengthForm (Length.Set d) = Word (d .0)
 
-abbrev pub BytesForm : MaybeBytes → Type 0
-BytesForm NoBytes = Unit {0}
-BytesForm (Bytes n) = Word n
+abbrev pub BytesForm : MaybeNumber → Type 0
+BytesForm Number.Unset = Unit {0}
+BytesForm (Number.Set n) = Word n
 
 -- "Counters and packet numbers are free"; the gains' range says nothing of their format
 pub record Free (rounds : RoundTripCounter) (l f q : ℕ) (gains : Gains) : Type 0 where
@@ -178,13 +176,13 @@ bound-ok m h =
       moment = total-word _ (all-at (modelTests m) 10 h);
     }
 
-wait-word : (x : MaybeLength) → waitOk x ≡ true → LengthForm x
-wait-word NoLength h = tt
-wait-word (Length d) h = word-of (d .0) (2 ^ 36 + 500_000) (omega arith) h
+wait-word : (x : MaybeDuration) → waitOk x ≡ true → LengthForm x
+wait-word Length.Unset h = tt
+wait-word (Length.Set d) h = word-of (d .0) (2 ^ 36 + 500_000) (omega arith) h
 
-up-word : (x : MaybeBytes) → upBytesOk x ≡ true → BytesForm x
-up-word NoBytes h = tt
-up-word (Bytes n) h = bytes-word n h
+up-word : (x : MaybeNumber) → upBytesOk x ≡ true → BytesForm x
+up-word Number.Unset h = tt
+up-word (Number.Set n) h = bytes-word n h
 
 pub bound-cycle-ok : (y : Cycle) → cycleOk y ≡ true → BoundCycle y
 unfolding cycleTests
@@ -209,7 +207,7 @@ module _ (w : List ℕ) (h : AllWords w) where
       record {
         count = h 0;
         sent = h 1;
-        end = either EndForm (isUnset (getD w 2 0) (getD w 3 0)) NotSet (At (numberIn (getD w 2 0) (getD w 3 0))) tt (number-word (getD w 2 0) (getD w 3 0) (h 3));
+        end = either EndForm (isUnset (getD w 2 0) (getD w 3 0)) Number.Unset (Number.Set (numberIn (getD w 2 0) (getD w 3 0))) tt (number-word (getD w 2 0) (getD w 3 0) (h 3));
         losses = h 9;
         flat = h 24;
         queueing = h 25;
@@ -254,9 +252,9 @@ module _ (w : List ℕ) (h : AllWords w) where
       record {
         entered = h 36;
         start = h 35;
-        length = either LengthForm (isUnset (getD w 39 0) (getD w 40 0)) NoLength (Length (record { 0 = numberIn (getD w 39 0) (getD w 40 0) })) tt (number-word (getD w 39 0) (getD w 40 0) (h 40));
+        length = either LengthForm (isUnset (getD w 39 0) (getD w 40 0)) Length.Unset (Length.Set (record { 0 = numberIn (getD w 39 0) (getD w 40 0) })) tt (number-word (getD w 39 0) (getD w 40 0) (h 40));
         rounds = h 41;
-        bytes = either BytesForm (isUnset (getD w 42 0) (getD w 43 0)) NoBytes (Bytes (numberIn (getD w 42 0) (getD w 43 0))) tt (number-word (getD w 42 0) (getD w 43 0) (h 43));
+        bytes = either BytesForm (isUnset (getD w 42 0) (getD w 43 0)) Number.Unset (Number.Set (numberIn (getD w 42 0) (getD w 43 0))) tt (number-word (getD w 42 0) (getD w 43 0) (h 43));
         acked = h 44;
       }
 
@@ -278,21 +276,21 @@ phase-word Down = omega arith
 phase-word Cruise = omega arith
 phase-word Refill = omega arith
 
-end-words : (x : RoundEnd) → EndForm x → Word (endMaybe x .set) × Word (endMaybe x .number)
-end-words NotSet h = (omega arith, omega arith)
-end-words (At n) h = (omega arith, h)
+end-words : (x : MaybeNumber) → EndForm x → Word (plainMaybe x .set) × Word (plainMaybe x .number)
+end-words Number.Unset h = (omega arith, omega arith)
+end-words (Number.Set n) h = (omega arith, h)
 
 bandwidth-words : (x : MaybeBandwidth) → BandwidthForm x → Word (bandwidthMaybe x .set) × Word (bandwidthMaybe x .number)
 bandwidth-words Unset h = (omega arith, omega arith)
 bandwidth-words (Set b) h = (omega arith, h)
 
-wait-words : (x : MaybeLength) → LengthForm x → Word (waitLengthMaybe x .set) × Word (waitLengthMaybe x .number)
-wait-words NoLength h = (omega arith, omega arith)
-wait-words (Length d) h = (omega arith, h)
+wait-words : (x : MaybeDuration) → LengthForm x → Word (lengthMaybe x .set) × Word (lengthMaybe x .number)
+wait-words Length.Unset h = (omega arith, omega arith)
+wait-words (Length.Set d) h = (omega arith, h)
 
-up-words : (x : MaybeBytes) → BytesForm x → Word (upBytesMaybe x .set) × Word (upBytesMaybe x .number)
-up-words NoBytes h = (omega arith, omega arith)
-up-words (Bytes n) h = (omega arith, h)
+up-words : (x : MaybeNumber) → BytesForm x → Word (plainMaybe x .set) × Word (plainMaybe x .number)
+up-words Number.Unset h = (omega arith, omega arith)
+up-words (Number.Set n) h = (omega arith, h)
 
 pub at-words : (l : List ℕ) → Words l → AllWords l
 at-words [] none i = omega arith

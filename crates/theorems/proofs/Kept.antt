@@ -7,10 +7,10 @@ use mathlib.Core.Path.{_≡_, refl, sym, subst}
 use native.Mathlib.Omega.{arith}
 use lib.Dec.{leb, ltb, eqb}
 use lib.Ieee as Ieee
-use lib.Ieee.{Float}
+use lib.Ieee.{Float, binary32}
 use borrow.Author.Tests.{eqb-true, eqb-false}
 use Rattle.filters.specs.declared.round_trip_counter.RoundTripCounter.{RoundTripCounter}
-use Rattle.filters.specs.declared.round_trip_counter.RoundEnd.the-variants.{At}
+use Rattle.units.specs.declared.maybe.MaybeNumber.the-variants as Number
 use Rattle.units.specs.declared.time.Duration.{Duration}
 use Rattle.units.specs.declared.time.Moment.{Moment}
 use Rattle.filters.specs.MaxBandwidthFilter.{maxGet}
@@ -21,10 +21,8 @@ use Rattle.state.specs.declared.parts.Growth.{Growth}
 use Rattle.state.specs.Answers.{settled, zeroLength, zeroMoment}
 use Rattle.state.specs.Bounds.{bytesOrUnsetOk, gainOk, within}
 use Rattle.state.specs.Refusals.{rowOf}
-use Rattle.state.specs.Parts.{roundOk}
-use Rattle.state.specs.NetworkModel.{modelTests, modelOk}
-use Rattle.state.specs.Parts.{roundNew, roundSent}
-use Rattle.state.specs.NetworkModel.{withMaxbw, withRounds, withRound, withLower, withMinrtt, withHigh, withGains, withGrowth, withMoment, growthRestarted, modelNew, one, startNumber, startModel, restartNext, capNext, clearInflightNext, clearBandwidthNext, advanceNext}
+use Rattle.state.specs.Parts.{roundOk, roundNew, roundSent}
+use Rattle.state.specs.NetworkModel.{modelTests, modelOk, withMaxbw, withRounds, withRound, withLower, withMinrtt, withHigh, withGains, withGrowth, withMoment, growthRestarted, modelNew, one, startNumber, startModel, restartNext, capNext, clearInflightNext, clearBandwidthNext, advanceNext}
 use Rattle.changes.specs.Changes.{sentNext, reachedNext, pacingNext, cwndNext, postponeNext}
 use Rattle.state.proofs.Rows.{none, or-right}
 use Rattle.state.specs.declared.congestion_event.CongestionEvent.{CongestionEvent}
@@ -39,12 +37,11 @@ use Rattle.laws.proofs.Events as N
 use Rattle.laws.proofs.Phases as P
 use Rattle.drift.specs.Calls as C
 use Rattle.drift.specs.Calls.{Call, Other, State, otherNumber, numberOf, otherNext, nextOf, after}
-use lib.Ieee.{binary32}
 use lib.Ieee.Bits.{ofBits-fits}
 use lib.ListN.{getD}
 use Rattle.words.proofs.Laws.{AllWords}
 use Rattle.arguments.specs.Params.{paramsFrom}
-use Rattle.layout.proofs.Laws.{float-fits}
+use Rattle.words.proofs.Back.{float-fits}
 use Rattle.dispatch.specs.Outcome.{isJudged, isAsked}
 use Rattle.theorems.specs.Steps.{Step, begins, makes, keeps, judgeStep, enterStep, changeStep, stepOf, begun, afterStep}
 use Rattle.theorems.proofs.Choice.{arms, either}
@@ -133,7 +130,7 @@ counted : (r : RoundTripCounter) (acked : List ℕ) → Counted r → Counted (r
 unfolding roundsAcked roundsEnded roundsFull
 counted r acked h = go (endsRound (r .end) acked) (eqb (r .count) (2 ^ 64 - 1)) refl
   where
-    go : (t u : Bool) → eqb (r .count) (2 ^ 64 - 1) ≡ u → Counted (cond (t && not (t && u)) (record { count = r .count + 1; sent = r .sent; end = At (r .sent) }) r)
+    go : (t u : Bool) → eqb (r .count) (2 ^ 64 - 1) ≡ u → Counted (cond (t && not (t && u)) (record { count = r .count + 1; sent = r .sent; end = Number.Set (r .sent) }) r)
     go true true e = h
     go true false e = (one-more (r .count) (h .0) e, h .1, h .1)
     go false u e = h

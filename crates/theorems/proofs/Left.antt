@@ -16,7 +16,7 @@ use Rattle.words.proofs.Stores.{sets-whole}
 use Rattle.layout.specs.NetworkModel.{modelFrom}
 use Rattle.layout.specs.Cycle.{cycleFrom}
 use Rattle.arguments.specs.Params.{paramsFrom}
-use Rattle.arguments.proofs.RoundTrip.{round-trip}
+use Rattle.dispatch.proofs.RoundTrip.{round-trip}
 use Rattle.guovssalu.specs.Reply.{answered}
 use Rattle.guovssalu.specs.ModelRun.{stateIn, encodesNone, callsIn, outcomeAt, leftBy, wordsLeft, modelRow, stateOut}
 use Rattle.layout.specs.StateWords.{stateWords, sameWords, isState}

@@ -11,7 +11,7 @@ use Rattle.laws.proofs.Examples.{marked-examples}
 use Rattle.laws.proofs.Contracts.{every-call}
 use Rattle.laws.proofs.Replies.{every-reply}
 use Rattle.words.specs.Word.{flagFits}
-use Rattle.arguments.proofs.RoundTrip.{round-trip}
+use Rattle.dispatch.proofs.RoundTrip.{round-trip}
 use Rattle.arguments.proofs.Tested.{fits-where, tested}
 use Rattle.calls.specs.Enter.{downAt}
 use Rattle.theorems.specs.Runs.{Unasked}

@@ -19,7 +19,7 @@ use Rattle.state.specs.Bounds.{bytesOk}
 use Rattle.state.specs.NetworkModel.{modelOk}
 use Rattle.state.specs.Cycle.{roundsOk, cycleOk}
 use Rattle.words.specs.Words as Bytes
-use Rattle.layout.specs.Maybe.{bandwidthOf}
+use Rattle.words.specs.Maybe.{bandwidthOf}
 use Rattle.words.specs.Word.{word, floatOf}
 use Rattle.layout.specs.NetworkModel.{modelFrom}
 use Rattle.layout.specs.Cycle.{cycleFrom}

@@ -37,7 +37,7 @@ use Rattle.state.specs.Bounds.{momentOk}
 use Rattle.laws.specs.Laws.{EveryCall}
 use Rattle.laws.specs.Replies.{Exactly, EveryReply}
 use Rattle.words.specs.Words.{allBytes}
-use Rattle.arguments.specs.RoundTrip.{RoundTrip}
+use Rattle.dispatch.specs.RoundTrip.{RoundTrip}
 use Rattle.arguments.specs.Tested.{Tested}
 use Rattle.words.specs.Word.{word}
 use Rattle.calls.specs.Enter.{downAt}
@@ -164,6 +164,6 @@ pub record Theorems : Type 0 where
 -- compiles what was proved. The page docs/LAYOUT.md. And the definitions that this page is made of, written from
 -- document 01, the original and docs/LAYOUT.md: all files of specs/ to which `use` lines lead from here, with their
 -- remarks. A script of the gate counts their lines (tests/contracts.py):
---   numbers 257, units 71, filters 240, state 652, reads 18, changes 61, events 362, judge 199, phases 209, words
---   72, layout 284, arguments 250, calls 204, dispatch 162, laws 459, guovssalu 195, drift 382, theorems 720:
---   together 4797
+--   numbers 257, units 71, filters 240, state 652, reads 18, changes 61, events 362, judge 199, phases 208, words
+--   129, layout 215, arguments 191, calls 204, dispatch 210, laws 459, guovssalu 195, drift 382, theorems 720:
+--   together 4773

@@ -6,6 +6,7 @@ use denote.Triple.Clauses.{AtExit}
 use borrow.Fn.Kinds.{Dens, resT, endedOf}
 use Rattle.numbers.specs.OneReply.{OneReply}
 use Rattle.words.proofs.float_bits as floats
+use Rattle.words.proofs.maybe as maybe
 use Rattle.words.proofs.word as word
 use Rattle.words.proofs.get_word as get-word
 use Rattle.words.proofs.get_words as get-words
@@ -38,6 +39,30 @@ one-float-of κ a x y s t p q = p ∙ sym q
 
 pub one-float-word : OneReply word.float_word.Reads.Learnt
 one-float-word κ a x y s t p q = p ∙ sym q
+
+pub one-is-unset : OneReply maybe.is_unset.Reads.Learnt
+one-is-unset κ a x y s t p q = p ∙ sym q
+
+pub one-number-in : OneReply maybe.number_in.Reads.Learnt
+one-number-in κ a x y s t p q = p ∙ sym q
+
+pub one-bandwidth-of : OneReply maybe.bandwidth_of.Reads.Learnt
+one-bandwidth-of κ a x y s t p q = p ∙ sym q
+
+pub one-bandwidth-maybe : OneReply maybe.bandwidth_maybe.Reads.Learnt
+one-bandwidth-maybe κ a x y s t p q = p ∙ sym q
+
+pub one-length-of : OneReply maybe.length_of.Reads.Learnt
+one-length-of κ a x y s t p q = p ∙ sym q
+
+pub one-length-maybe : OneReply maybe.length_maybe.Reads.Learnt
+one-length-maybe κ a x y s t p q = p ∙ sym q
+
+pub one-plain-of : OneReply maybe.plain_of.Reads.Learnt
+one-plain-of κ a x y s t p q = p ∙ sym q
+
+pub one-plain-maybe : OneReply maybe.plain_maybe.Reads.Learnt
+one-plain-maybe κ a x y s t p q = p ∙ sym q
 
 pub one-get-word : OneReply get-word.Reads.Learnt
 one-get-word κ a x y s t p q = p ∙ sym q

@@ -2,6 +2,7 @@
 // calls. These functions are no public entries: each asks that what it reads or writes lies within
 // the slice.
 pub mod float_bits;
+pub mod maybe;
 pub mod word;
 
 ghost use mathlib.Core.Path.{_≡_};

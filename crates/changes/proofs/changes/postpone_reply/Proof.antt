@@ -2,7 +2,6 @@
 use borrow.Author.Needs.{needs}
 use mathlib.Core.Path.{_∙_}
 use Rattle.changes.specs.Changes.{postponeNumber}
-use Rattle.state.specs.NetworkModel.{givenNumber}
 use Rattle.changes.proofs.changes.postpone_reply.Statement.{statement}
 use Rattle.changes.proofs.changes.postpone_reply.Tie as tie
 

@@ -5,7 +5,7 @@ use lib.ListN.{length}
 use lib.Seq.{sets}
 use Rattle.words.specs.Words.{allBytes}
 use Rattle.dispatch.specs.declared.outcome.Outcome.{Outcome}
-use Rattle.dispatch.specs.OneCall.{callAt, answerWords}
+use Rattle.dispatch.specs.OneCall.{answerWords}
 use Rattle.dispatch.proofs.OneCall.{length-other}
 use Rattle.dispatch.proofs.one_call.other.Statement.{statement}
 use Rattle.dispatch.proofs.one_call.other.Tie as tie

@@ -8,8 +8,8 @@ use Rattle.units.specs.Bandwidth.{largerOf, timesF32}
 use Rattle.numbers.specs.Scaling.{scaled, complement}
 use Rattle.state.specs.declared.parts.Latest.{Latest}
 use Rattle.state.specs.declared.parts.Lower.{Lower}
-use Rattle.state.specs.declared.parts.MaybeBandwidth.the-variants.{Set}
-use Rattle.events.specs.Event.{seedOf, startOf, lowerReduced, lowerAfter, adaptLowerBounds}
+use Rattle.units.specs.declared.maybe.MaybeBandwidth.the-variants.{Set}
+use Rattle.events.specs.Event.{seedOf, lowerReduced, lowerAfter, adaptLowerBounds}
 use Rattle.events.proofs.event.adapt_lower_bounds.Statement.{statement}
 use Rattle.events.proofs.event.adapt_lower_bounds.Tie as tie
 

@@ -3,8 +3,8 @@ use borrow.Author.Needs.{needs}
 use mathlib.Core.Path.{refl, ap, ap₂, _∙_}
 use mathlib.Core.Bool.{Bool}
 use Prim.Native.Nat.{ℕ, _-_}
-use Rattle.state.specs.declared.parts.MaybeBandwidth.{MaybeBandwidth}
-use Rattle.state.specs.declared.congestion_event.MaybeLength.{MaybeLength}
+use Rattle.units.specs.declared.maybe.MaybeBandwidth.{MaybeBandwidth}
+use Rattle.units.specs.declared.maybe.MaybeDuration.{MaybeDuration}
 use Rattle.state.specs.declared.congestion_event.CongestionEvent.{CongestionEvent}
 use Rattle.state.specs.declared.congestion_event.SendTimeState.{SendTimeState}
 use Rattle.events.specs.Event.{eventAfter, bandwidthAfter}
@@ -12,7 +12,7 @@ use Rattle.state.proofs.Settling.{ap6}
 use Rattle.events.proofs.event.event_after.Statement.{statement}
 use Rattle.events.proofs.event.event_after.Tie as tie
 
-abbrev made : CongestionEvent → Bool → ℕ → ℕ → ℕ → MaybeBandwidth → MaybeLength → SendTimeState → CongestionEvent
+abbrev made : CongestionEvent → Bool → ℕ → ℕ → ℕ → MaybeBandwidth → MaybeDuration → SendTimeState → CongestionEvent
 made e ended acked lost inflight bandwidth rtt state = record { time = e .time; window = e .window; prior = e .prior; inflight = inflight; acked = acked; lost = lost; ended = ended; probing = e .probing; bandwidth = bandwidth; rtt = rtt; state = state }
 
 returns : tie.Need-returns

@@ -37,11 +37,11 @@ get-word-requires c κs = omega arith
 send-requires : tie.Need-send-requires Inv-loop μ-loop
 send-requires c κs = (omega arith, omega arith, c .before .before .before .before .loop .inv .5)
 
-start-requires : tie.Need-start-requires Inv-loop μ-loop
-start-requires c κs = (omega arith, omega arith, c .before .before .before .before .before .loop .inv .5)
+event-start-requires : tie.Need-event-start-requires Inv-loop μ-loop
+event-start-requires c κs = (omega arith, omega arith, c .before .before .before .before .before .loop .inv .5)
 
-end-requires : tie.Need-end-requires Inv-loop μ-loop
-end-requires c κs = (omega arith, omega arith, c .before .before .before .before .before .before .loop .inv .5)
+event-finish-requires : tie.Need-event-finish-requires Inv-loop μ-loop
+event-finish-requires c κs = (omega arith, omega arith, c .before .before .before .before .before .before .loop .inv .5)
 
 other-requires : tie.Need-other-requires Inv-loop μ-loop
 other-requires c κs = (omega arith, omega arith)
@@ -94,8 +94,8 @@ run-calls-spec =
     (λ c. omega arith)
     get-word-requires
     send-requires
-    start-requires
-    end-requires
+    event-start-requires
+    event-finish-requires
     other-requires
     (λ c κs. search needs)
     (λ c. omega arith)

@@ -4,7 +4,7 @@ use Rattle.layout.proofs.cycle.with_slope.Statement.{statement}
 use Rattle.layout.proofs.cycle.with_slope.Tie as tie
 
 returns : tie.Need-returns
-returns c = simp (c .flag-word .ensures, c .before .up-bytes-maybe .ensures)
+returns c = simp (c .flag-word .ensures, c .before .plain-maybe .ensures)
 
 pub with-slope-spec : {M : Type 1} → statement M
 with-slope-spec = tie.close (tie.spec (λ c κs. search needs) (λ c. search needs) (λ c. search needs) (λ c. search needs) (λ c. search needs) (λ c κs. search needs) (λ c. search needs) returns)

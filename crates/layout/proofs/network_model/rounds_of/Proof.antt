@@ -4,7 +4,7 @@ use Rattle.layout.proofs.network_model.rounds_of.Statement.{statement}
 use Rattle.layout.proofs.network_model.rounds_of.Tie as tie
 
 returns : tie.Need-returns
-returns c = rw (c .end-of .ensures)
+returns c = rw (c .plain-of .ensures)
 
 pub rounds-of-spec : {M : Type 1} → statement M
 rounds-of-spec = tie.close (tie.spec (λ c. search needs) (λ c. search needs) (λ c. search needs) (λ c. search needs) (λ c κs. search needs) returns)

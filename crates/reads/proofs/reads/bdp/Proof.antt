@@ -1,7 +1,6 @@
 -- `NetworkModel::bdp` meets its contract: what its calls ensure, put together.
 use borrow.Author.Needs.{needs}
-use mathlib.Core.Path.{refl, ap, _∙_}
-use mathlib.Core.Path.{ap₂}
+use mathlib.Core.Path.{refl, ap, _∙_, ap₂}
 use mathlib.Core.Bool.{_&&_}
 use Rattle.units.specs.Reply.{number}
 use Rattle.state.specs.NetworkModel.{givenNumber}

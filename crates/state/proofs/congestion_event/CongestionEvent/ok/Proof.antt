@@ -6,7 +6,7 @@ use Rattle.state.proofs.congestion_event.CongestionEvent.ok.Tie as tie
 
 returns : tie.Need-returns
 unfolding eventTests
-returns c = simp (c .ok2 .ensures, c .before .ok .ensures, c .before .before .maybe-ok .ensures, c .before .before .before .total-ok2 .ensures, c .before .before .before .before .total-ok .ensures, c .before .before .before .before .before .bytes-ok3 .ensures, c .before .before .before .before .before .before .bytes-ok2 .ensures, c .before .before .before .before .before .before .before .bytes-ok .ensures, c .before .before .before .before .before .before .before .before .moment-ok .ensures)
+returns c = simp (c .ok .ensures, c .before .maybe-length-ok .ensures, c .before .before .maybe-ok .ensures, c .before .before .before .total-ok2 .ensures, c .before .before .before .before .total-ok .ensures, c .before .before .before .before .before .bytes-ok3 .ensures, c .before .before .before .before .before .before .bytes-ok2 .ensures, c .before .before .before .before .before .before .before .bytes-ok .ensures, c .before .before .before .before .before .before .before .before .moment-ok .ensures)
 
 pub ok-spec : {M : Type 1} → statement M
 ok-spec =

@@ -6,7 +6,7 @@ use Rattle.state.proofs.congestion_event.CongestionEventSample.ok.Tie a
 
 returns : tie.Need-returns
 unfolding sampleTests
-returns c = simp (c .ok3 .ensures, c .before .ok2 .ensures, c .before .before .bytes-ok2 .ensures, c .before .before .before .bytes-ok .ensures, c .before .before .before .before .ok .ensures, c .before .before .before .before .before .maybe-ok3 .ensures, c .before .before .before .before .before .before .maybe-ok2 .ensures, c .before .before .before .before .before .before .before .maybe-ok .ensures)
+returns c = simp (c .ok2 .ensures, c .before .ok .ensures, c .before .before .bytes-ok2 .ensures, c .before .before .before .bytes-ok .ensures, c .before .before .before .before .maybe-length-ok .ensures, c .before .before .before .before .before .maybe-ok3 .ensures, c .before .before .before .before .before .before .maybe-ok2 .ensures, c .before .before .before .before .before .before .before .maybe-ok .ensures)
 
 pub ok-spec : {M : Type 1} → statement M
 ok-spec =

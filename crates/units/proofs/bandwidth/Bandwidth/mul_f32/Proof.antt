@@ -2,7 +2,6 @@
 use borrow.Author.Needs.{needs}
 use mathlib.Core.Path.{ap, _∙_}
 use lib.Ieee.{Float}
-use Rattle.numbers.specs.Scaling.{scaledF64}
 use Rattle.units.specs.Bandwidth.{timesF32}
 use Rattle.units.proofs.bandwidth.Bandwidth.mul_f32.Statement.{statement}
 use Rattle.units.proofs.bandwidth.Bandwidth.mul_f32.Tie as tie

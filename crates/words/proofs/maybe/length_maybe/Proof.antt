@@ -1,0 +1,13 @@
+-- `length_maybe` meets its contract: by the two cases.
+use borrow.Author.Needs.{needs}
+use Rattle.words.proofs.maybe.length_maybe.Statement.{statement}
+use Rattle.words.proofs.maybe.length_maybe.Tie as tie
+
+returns : tie.Need-returns
+returns c = rw (c .enum-told .given .1)
+
+returns-2 : tie.Need-returns-2
+returns-2 c = rw (c .before .length .given .1)
+
+pub length-maybe-spec : {M : Type 1} → statement M
+length-maybe-spec = tie.close (tie.spec (λ c. search needs) (λ c. search needs) returns returns-2)
