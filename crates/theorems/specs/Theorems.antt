@@ -164,6 +164,6 @@ pub record Theorems : Type 0 where
 -- compiles what was proved. The page docs/LAYOUT.md. And the definitions that this page is made of, written from
 -- document 01, the original and docs/LAYOUT.md: all files of specs/ to which `use` lines lead from here, with their
 -- remarks. A script of the gate counts their lines (tests/contracts.py):
---   numbers 257, units 71, filters 240, state 652, reads 18, changes 61, events 362, judge 199, phases 208, words
---   129, layout 215, arguments 191, calls 204, dispatch 210, laws 459, guovssalu 195, drift 382, theorems 720:
+--   numbers 257, units 71, filters 240, words 129, state 652, layout 215, events 362, phases 208, changes 61, judge
+--   199, arguments 191, reads 18, calls 204, laws 459, dispatch 210, guovssalu 195, drift 382, theorems 720:
 --   together 4773
