@@ -72,7 +72,7 @@ PHRASES = [
     (r"room < (\d+) \* \(src|ltb room \((\d+) \* pairs", ("SAMPLES_BYTES",)),
     (r"or_short\(reply, room < (\d+)\)|\(ltb room (\d+)\)", ("SLOPE_BYTES",)),
 ]
-SIZED = [f"crates/{crate}/{folder}/*" for crate in ("words", "layout", "arguments", "calls", "dispatch", "guovssalu", "theorems") for folder in ("src", "specs")]
+SIZED = [f"crates/{crate}/{folder}/*" for crate in ("words", "layout", "arguments", "pairs", "calls", "dispatch", "guovssalu", "theorems") for folder in ("src", "specs")]
 # Where a number above every word and every call, and below 1000, is a size, or one of these: bits of a word, values of a
 # byte, and what is the program `serve`'s own (oracle/README.md, "The frames").
 COUNTED = SIZED + ["crates/serve/src/*"]

@@ -12,7 +12,7 @@ use Rattle.state.specs.NetworkModel.{modelTests, withRounds, withRound, withMom
 use Rattle.state.specs.Cycle.{cycleNew, stayFrom, freshNumber, freshCycle}
 use Rattle.changes.specs.Changes.{sentNumber, sentNext}
 use lib.Ieee as Ieee
-use Rattle.state.specs.Refusals.{rowOf}
+use Rattle.state.specs.Refusals.{rowOf, orShort}
 use lib.Ieee.{toBits, ofBits}
 use Rattle.words.specs.Words.{numberAt, lowBytes, wordsAt, allBytes}
 use Rattle.layout.specs.NetworkModel.{modelFrom, modelWords}
@@ -21,10 +21,11 @@ use Rattle.arguments.specs.Params.{paramsFrom}
 use Rattle.dispatch.specs.OneCall.{answerWords}
 use Rattle.dispatch.specs.Outcome.{startOutcome, sendOutcome, outcomeOf}
 use Rattle.guovssalu.specs.Examples.{exportExamples, startExamples}
-use Rattle.guovssalu.specs.FilterRun.{afterPair, refuses, samples, samplesOf, runRow, runOut}
+use Rattle.pairs.specs.Pairs.{afterPair, refuses, samples, samplesOf, runRow}
+use Rattle.guovssalu.specs.FilterRun.{runOut}
 use Rattle.layout.specs.StateWords.{sameWords, isState}
 use Rattle.guovssalu.specs.ModelRun.{encodesNone, outcomeAt, answersTo, leftBy, answersFrom, wordsLeft, modelRow, answersOut, stateOut}
-use Rattle.guovssalu.specs.Reply.{orShort, answered}
+use Rattle.guovssalu.specs.Reply.{answered}
 use Rattle.guovssalu.specs.Slope.{slopeRow, slopeWords, slopeOut}
 
 pub export-examples : all exportExamples ≡ true

@@ -3,5 +3,4 @@ pub mod Determined
 pub mod Examples
 pub mod Rows
 pub mod ModelRun
-pub mod Run
-pub mod Times
+pub mod FilterRun

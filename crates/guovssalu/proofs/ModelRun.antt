@@ -1,4 +1,4 @@
--- One outcome of each pass of the model's run, over plain variables: what is still to be done leads to the same end. Assumes nothing.
+-- One turn of each pass of the model's run, over plain variables: what is still to be done leads to the same end. Assumes nothing.
 use Prim.Native.Nat.{ℕ, zero, suc, _+_, _-_, _*_, _≤_, _<_}
 use mathlib.Core.Bool.{Bool, true, false, not, cond}
 use mathlib.Core.List.{List, _∷_}

@@ -7,7 +7,8 @@ use borrow.Author.Tests.{not-true, not-false, eqb-true}
 use lib.Dec.{eqb}
 use lib.Seq.{sets}
 use Rattle.words.specs.Words.{allBytes}
-use Rattle.guovssalu.specs.Reply.{orShort, answered}
+use Rattle.state.specs.Refusals.{orShort}
+use Rattle.guovssalu.specs.Reply.{answered}
 
 -- done, the output is not short
 pub done-room : (row : ℕ) (short : Bool) → eqb (orShort row short) 0 ≡ true → short ≡ false

@@ -8,7 +8,8 @@ use lib.Dec.{eqb}
 use lib.ListN.{take, replicate}
 use Rattle.words.specs.Words.{wordAt, allBytes}
 use Rattle.dispatch.specs.Examples.{same, zeros, with}
-use Rattle.guovssalu.specs.FilterRun.{runRow, runOut}
+use Rattle.pairs.specs.Pairs.{runRow}
+use Rattle.guovssalu.specs.FilterRun.{runOut}
 use Rattle.guovssalu.specs.ModelRun.{modelRow, stateOut, answersOut}
 use Rattle.guovssalu.specs.Slope.{slopeRow, slopeOut}
 

@@ -8,14 +8,14 @@ use mathlib.Core.List.{List, [], _++_}
 use lib.Dec.{ltb, eqb}
 use lib.ListN.{length}
 use Rattle.state.specs.declared.network_model.NetworkModel.{NetworkModel}
-use Rattle.state.specs.Refusals.{noRows, stored, argument, lowest}
+use Rattle.state.specs.Refusals.{noRows, stored, argument, lowest, orShort}
 use Rattle.state.specs.declared.cycle.Cycle.{Cycle}
 use Rattle.words.specs.Words.{wordsAt}
 use Rattle.layout.specs.NetworkModel.{modelFrom}
 use Rattle.layout.specs.Cycle.{cycleFrom}
 use Rattle.dispatch.specs.declared.outcome.Outcome.{Outcome}
 use Rattle.dispatch.specs.Outcome.{outcomeOf}
-use Rattle.guovssalu.specs.Reply.{orShort, answered}
+use Rattle.guovssalu.specs.Reply.{answered}
 use Rattle.layout.specs.StateWords.{stateWords, isState}
 use Rattle.dispatch.specs.OneCall.{callAt, answerWords}
 

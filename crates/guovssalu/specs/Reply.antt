@@ -6,11 +6,6 @@ use lib.Dec.{eqb}
 use lib.Seq.{sets}
 use Rattle.words.specs.Words.{allBytes}
 
--- row 7, "the lent output is shorter than the answer", after the rows that `lowest` decides: "If several refusals
--- apply, the lowest number is given"
-unfoldable pub orShort : ℕ → Bool → ℕ
-orShort row short = cond (eqb row 0 && short) 7 row
-
 -- done, the answer's words stand in the first bytes: "Output bytes past the answer keep what they held". Refused, "lent
 -- memory keeps its bytes"
 unfoldable pub answered : ℕ → List ℕ → List ℕ → List ℕ

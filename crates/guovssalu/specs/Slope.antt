@@ -6,10 +6,10 @@ use mathlib.Core.List.{List, [], _∷_}
 use lib.ListN.{length}
 use lib.Dec.{ltb}
 use Rattle.state.specs.Bounds.{bytesOk}
-use Rattle.state.specs.Refusals.{noRows, stored, argument, lowest}
+use Rattle.state.specs.Refusals.{noRows, stored, argument, lowest, orShort}
 use Rattle.state.specs.Cycle.{roundsOk}
 use Rattle.phases.specs.Slope.{nextRounds, upBytes}
-use Rattle.guovssalu.specs.Reply.{orShort, answered}
+use Rattle.guovssalu.specs.Reply.{answered}
 
 -- "In the exported slope, rounds over 30 give 1." A window is an argument, a byte count: above 2^40 it is 2. The answer
 -- has two words

@@ -2,5 +2,4 @@
 pub mod conversions;
 pub mod filter_run;
 pub mod model_run;
-mod reply;
 pub mod slope;

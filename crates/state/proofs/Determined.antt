@@ -118,6 +118,9 @@ one-bounds-maybe-ok κ a x y s t p q = p ∙ sym q
 pub one-bounds-gain-ok : OneReply bounds.gain_ok.Reads.Learnt
 one-bounds-gain-ok κ a x y s t p q = p ∙ sym q
 
+pub one-refusals-or-short : OneReply refusals.or_short.Reads.Learnt
+one-refusals-or-short κ a x y s t p q = number-injective _ _ (p ∙ sym q)
+
 pub one-refusals-refusal : OneReply refusals.refusal.Reads.Learnt
 one-refusals-refusal κ a x y s t p q = number-injective _ _ (p ∙ sym q)
 

@@ -1,7 +1,7 @@
 -- document 01, "Replies and bounds": the table of refusals. A call says by name which of its rows hold (`Rows`,
 -- src/refusals.rt), and the lowest of them is its reply's number.
 use Prim.Native.Nat.{ℕ, _-_, _^_}
-use mathlib.Core.Bool.{Bool, false, cond}
+use mathlib.Core.Bool.{Bool, false, cond, _&&_}
 use lib.Dec.{eqb}
 use Rattle.state.specs.declared.refusals.Rows.{Rows}
 
@@ -50,3 +50,8 @@ rowOf stored argument earlier lower full =
 
 abbrev pub lowest : Rows → ℕ
 lowest r = rowOf (r .stored) (r .argument) (r .earlier) (r .lower) (r .full)
+
+-- row 7, "the lent output is shorter than the answer", after the rows that `lowest` decides: "If several refusals
+-- apply, the lowest number is given"
+unfoldable pub orShort : ℕ → Bool → ℕ
+orShort row short = cond (eqb row 0 && short) 7 row

@@ -1,7 +1,7 @@
 // Document 01's table of refusals: which rows of it hold for a call, and the reply that they give.
 ghost use mathlib.Core.Path.{_≡_};
 ghost use Rattle.units.specs.Reply.{number};
-ghost use Rattle.state.specs.Refusals.{lowest};
+ghost use Rattle.state.specs.Refusals.{lowest, orShort};
 use units::Reply;
 
 // For one call, which of the table's rows hold.
@@ -49,4 +49,15 @@ pub fn refusal(rows: Rows) -> Reply
         return Reply::FullCounter;
     }
     Reply::Done
+}
+
+// The reply, or `ShortOutput` where it is done and the output is too short.
+pub fn or_short(reply: Reply, short: bool) -> Reply
+    ensures { λ r. ⌜ number r ≡ orShort (number reply) short ⌝ }
+{
+    if reply.is_done() & short {
+        Reply::ShortOutput
+    } else {
+        reply
+    }
 }

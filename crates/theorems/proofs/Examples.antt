@@ -9,7 +9,7 @@ use Rattle.filters.specs.MaxBandwidthFilter.{maxGet, maxUpdate}
 use Rattle.filters.specs.RoundTripCounter.{roundsSent, endsRound, roundsFull, roundsEnded, roundsAcked}
 use Rattle.state.specs.Answers.{settled}
 use Rattle.state.specs.Bounds.{all, within}
-use Rattle.state.specs.Refusals.{rowOf}
+use Rattle.state.specs.Refusals.{rowOf, orShort}
 use Rattle.state.specs.Params.{paramsOk}
 use Rattle.state.specs.Parts.{roundOk, roundSent, lowerCapped}
 use Rattle.state.specs.NetworkModel.{modelTests, withRounds, withRound, withLower, withMoment, modelNew, startNumber, startModel, storedNumber, givenNumber}
@@ -29,7 +29,7 @@ use Rattle.dispatch.specs.Outcome.{startOutcome, sendOutcome, eventOutcome, fin
 use Rattle.layout.specs.StateWords.{sameWords, isState}
 use Rattle.guovssalu.specs.ModelRun.{encodesNone, outcomeAt, answersTo, leftBy, answersFrom, wordsLeft, modelRow, answersOut, stateOut}
 use Rattle.dispatch.specs.OneCall.{answerWords}
-use Rattle.guovssalu.specs.Reply.{orShort, answered}
+use Rattle.guovssalu.specs.Reply.{answered}
 use Rattle.drift.specs.Calls.{otherNumber, numberOf, otherNext, nextOf, after}
 use Rattle.drift.specs.Exact.{isReduced, inflightEffect, exactly}
 use Rattle.theorems.specs.Steps.{judgeStep, enterStep, changeStep, stepOf, begun, afterStep, stepsFrom, walk, exactStep, exactWalk}

@@ -7,10 +7,11 @@ use mathlib.Core.Path.{_≡_, refl, sym, subst, _∙_}
 use lib.Dec.{eqb}
 use lib.ListN.{length}
 use borrow.Author.Tests.{eq-eqb, ne-eqb, eqb-true}
-use Rattle.state.specs.Refusals.{rowOf}
+use Rattle.state.specs.Refusals.{rowOf, orShort}
 use Rattle.state.proofs.Rows.{and-left, and-right}
-use Rattle.guovssalu.specs.Reply.{orShort, answered}
-use Rattle.guovssalu.specs.FilterRun.{pairs, runRow, runOut}
+use Rattle.guovssalu.specs.Reply.{answered}
+use Rattle.pairs.specs.Pairs.{pairs, runRow}
+use Rattle.guovssalu.specs.FilterRun.{runOut}
 use Rattle.guovssalu.specs.ModelRun.{modelRow, stateOut, answersOut}
 use Rattle.guovssalu.specs.Slope.{slopeRow, slopeOut}
 use Rattle.theorems.specs.Runs.{Run, Ran, FilterRun, Filtered, SlopeRun, Raised, OneOutcome, Conversions, FirstRow, RunRow, FilterRow, SlopeRow}

@@ -24,7 +24,7 @@ use Rattle.words.specs.Word.{word, floatOf}
 use Rattle.layout.specs.NetworkModel.{modelFrom}
 use Rattle.layout.specs.Cycle.{cycleFrom}
 use Rattle.guovssalu.specs.Conversions.{f32Bits, f64Bits, f32ToU64, f64RoundToU64, scaledBy, bandwidthBy, bytesIn}
-use Rattle.guovssalu.specs.FilterRun.{pairs, refuses}
+use Rattle.pairs.specs.Pairs.{pairs, refuses}
 use Rattle.guovssalu.specs.ModelRun.{stateIn, encodesNone, callsIn}
 use Rattle.dispatch.specs.OneCall.{callAt}
 use Rattle.guovssalu.proofs.conversions as conversions

@@ -41,7 +41,8 @@ use Rattle.dispatch.specs.RoundTrip.{RoundTrip}
 use Rattle.arguments.specs.Tested.{Tested}
 use Rattle.words.specs.Word.{word}
 use Rattle.calls.specs.Enter.{downAt}
-use Rattle.guovssalu.specs.FilterRun.{runRow, runOut}
+use Rattle.pairs.specs.Pairs.{runRow}
+use Rattle.guovssalu.specs.FilterRun.{runOut}
 use Rattle.layout.specs.StateWords.{stateWords}
 use Rattle.guovssalu.specs.ModelRun.{encodesNone, modelRow, stateOut, answersOut}
 use Rattle.dispatch.specs.OneCall.{answerWords}
@@ -164,6 +165,6 @@ pub record Theorems : Type 0 where
 -- compiles what was proved. The page docs/LAYOUT.md. And the definitions that this page is made of, written from
 -- document 01, the original and docs/LAYOUT.md: all files of specs/ to which `use` lines lead from here, with their
 -- remarks. A script of the gate counts their lines (tests/contracts.py):
---   numbers 257, units 71, filters 240, words 129, state 652, layout 215, events 362, phases 208, changes 61, judge
---   199, arguments 191, reads 18, calls 204, laws 459, dispatch 210, guovssalu 195, drift 382, theorems 720:
---   together 4773
+--   numbers 257, units 71, filters 240, words 129, state 657, layout 215, events 362, phases 208, changes 61, judge
+--   199, arguments 191, reads 18, pairs 48, calls 204, laws 459, dispatch 210, guovssalu 148, drift 382, theorems
+--   721: together 4780

@@ -1,10 +1,11 @@
 -- `guovssalu_filter_run` meets its contract: it stops at a refusal, or writes the answer. Assumes nothing.
 use borrow.Author.Needs.{needs}
 use Rattle.filters.specs.WindowedFilter.{windowedNew}
-use Rattle.guovssalu.specs.FilterRun.{pairs, samplesOf, runOut}
-use Rattle.guovssalu.specs.Inner.{setsWhere}
+use Rattle.pairs.specs.Pairs.{pairs, samplesOf}
+use Rattle.guovssalu.specs.FilterRun.{runOut}
+use Rattle.pairs.specs.Inner.{setsWhere}
 use Rattle.guovssalu.proofs.Rows.{done-row, refused, written}
-use Rattle.guovssalu.proofs.Run.{run-done}
+use Rattle.guovssalu.proofs.FilterRun.{run-done}
 use Rattle.guovssalu.proofs.filter_run.guovssalu_filter_run.Statement.{statement}
 use Rattle.guovssalu.proofs.filter_run.guovssalu_filter_run.Tie as tie
 

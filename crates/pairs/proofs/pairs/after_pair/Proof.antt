@@ -2,9 +2,9 @@
 use borrow.Author.Needs.{needs}
 use mathlib.Core.Path.{ap, ap₂, _∙_}
 use Rattle.filters.specs.WindowedFilter.{windowedNumber, windowedUpdate}
-use Rattle.guovssalu.specs.FilterRun.{afterPair}
-use Rattle.guovssalu.proofs.filter_run.after_pair.Statement.{statement}
-use Rattle.guovssalu.proofs.filter_run.after_pair.Tie as tie
+use Rattle.pairs.specs.Pairs.{afterPair}
+use Rattle.pairs.proofs.pairs.after_pair.Statement.{statement}
+use Rattle.pairs.proofs.pairs.after_pair.Tie as tie
 
 returns : tie.Need-returns
 unfolding afterPair

@@ -1,8 +1,8 @@
 -- `guovssalu::run_reply` meets its contract: what the first pass ensures, put into the rows. Assumes nothing.
 use borrow.Author.Needs.{needs}
-use Rattle.guovssalu.specs.FilterRun.{runRow}
-use Rattle.guovssalu.proofs.filter_run.run_reply.Statement.{statement}
-use Rattle.guovssalu.proofs.filter_run.run_reply.Tie as tie
+use Rattle.pairs.specs.Pairs.{runRow}
+use Rattle.pairs.proofs.pairs.run_reply.Statement.{statement}
+use Rattle.pairs.proofs.pairs.run_reply.Tie as tie
 
 returns : tie.Need-returns
 unfolding runRow

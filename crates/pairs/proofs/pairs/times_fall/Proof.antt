@@ -4,10 +4,10 @@ use mathlib.Core.Path.{_≡_}
 use native.Mathlib.Nat.{sub-zero, sub-self}
 use native.Mathlib.Omega.{arith}
 use lib.ListN.{length}
-use Rattle.guovssalu.specs.Inner.{timesFall}
-use Rattle.guovssalu.proofs.Run.{falls-now, falls-later}
-use Rattle.guovssalu.proofs.filter_run.times_fall.Statement.{statement}
-use Rattle.guovssalu.proofs.filter_run.times_fall.Tie as tie
+use Rattle.pairs.specs.Inner.{timesFall}
+use Rattle.pairs.proofs.Run.{falls-now, falls-later}
+use Rattle.pairs.proofs.pairs.times_fall.Statement.{statement}
+use Rattle.pairs.proofs.pairs.times_fall.Tie as tie
 
 abbrev Inv-loop : tie.InvT-loop
 Inv-loop src count last₀ i₀ last i = (i ≤ count) × (timesFall last src (16 * i) (count - i) ≡ timesFall 0 src 0 count)

@@ -4,10 +4,10 @@ use borrow.Author.Tests.{not-true}
 use mathlib.Core.Bool.{false≢true}
 use mathlib.Core.Path.{sym, _∙_}
 use Rattle.filters.specs.WindowedFilter.{windowedNew}
-use Rattle.guovssalu.specs.FilterRun.{pairs}
-use Rattle.guovssalu.proofs.Times.{never-refused}
-use Rattle.guovssalu.proofs.filter_run.is_refused.Statement.{statement}
-use Rattle.guovssalu.proofs.filter_run.is_refused.Tie as tie
+use Rattle.pairs.specs.Pairs.{pairs}
+use Rattle.pairs.proofs.Times.{never-refused}
+use Rattle.pairs.proofs.pairs.is_refused.Statement.{statement}
+use Rattle.pairs.proofs.pairs.is_refused.Tie as tie
 
 returns : tie.Need-returns
 returns c =

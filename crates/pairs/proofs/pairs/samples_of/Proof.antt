@@ -1,8 +1,8 @@
 -- `guovssalu::samples_of` meets its contract: what its six calls ensure. Assumes nothing.
 use borrow.Author.Needs.{needs}
-use Rattle.guovssalu.specs.FilterRun.{samples}
-use Rattle.guovssalu.proofs.filter_run.samples_of.Statement.{statement}
-use Rattle.guovssalu.proofs.filter_run.samples_of.Tie as tie
+use Rattle.pairs.specs.Pairs.{samples}
+use Rattle.pairs.proofs.pairs.samples_of.Statement.{statement}
+use Rattle.pairs.proofs.pairs.samples_of.Tie as tie
 
 returns : tie.Need-returns
 unfolding samples

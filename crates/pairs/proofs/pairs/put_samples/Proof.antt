@@ -3,10 +3,10 @@ use borrow.Author.Needs.{needs}
 use mathlib.Core.Path.{_≡_, ap}
 use native.Mathlib.Omega.{arith}
 use lib.ListN.{length}
-use Rattle.guovssalu.specs.FilterRun.{samples}
-use Rattle.guovssalu.specs.Inner.{setsWhere}
-use Rattle.guovssalu.proofs.filter_run.put_samples.Statement.{statement}
-use Rattle.guovssalu.proofs.filter_run.put_samples.Tie as tie
+use Rattle.pairs.specs.Pairs.{samples}
+use Rattle.pairs.specs.Inner.{setsWhere}
+use Rattle.pairs.proofs.pairs.put_samples.Statement.{statement}
+use Rattle.pairs.proofs.pairs.put_samples.Tie as tie
 
 put-words-requires : tie.Need-put-words-requires
 unfolding samples

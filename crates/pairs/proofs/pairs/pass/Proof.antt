@@ -9,11 +9,11 @@ use native.Mathlib.Omega.{arith}
 use lib.Dec.{eqb}
 use lib.ListN.{length}
 use Rattle.filters.specs.WindowedFilter.{windowedNew}
-use Rattle.guovssalu.specs.FilterRun.{refuses, samplesOf}
-use Rattle.guovssalu.specs.Inner.{setsWhere}
-use Rattle.guovssalu.proofs.Run.{refused-now, refused-later, none-written, write-pair, none-left}
-use Rattle.guovssalu.proofs.filter_run.pass.Statement.{statement}
-use Rattle.guovssalu.proofs.filter_run.pass.Tie as tie
+use Rattle.pairs.specs.Pairs.{refuses, samplesOf}
+use Rattle.pairs.specs.Inner.{setsWhere}
+use Rattle.pairs.proofs.Run.{refused-now, refused-later, none-written, write-pair, none-left}
+use Rattle.pairs.proofs.pairs.pass.Statement.{statement}
+use Rattle.pairs.proofs.pairs.pass.Tie as tie
 
 abbrev Inv-loop : tie.InvT-loop
 Inv-loop window src out₀ writes count filter₀ i₀ out filter i =

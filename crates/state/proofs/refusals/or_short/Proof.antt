@@ -1,8 +1,8 @@
--- `guovssalu::or_short` meets its contract: by its one test. Assumes nothing.
+-- `or_short` meets its contract: by its one test. Assumes nothing.
 use borrow.Author.Needs.{needs}
-use Rattle.guovssalu.specs.Reply.{orShort}
-use Rattle.guovssalu.proofs.reply.or_short.Statement.{statement}
-use Rattle.guovssalu.proofs.reply.or_short.Tie as tie
+use Rattle.state.specs.Refusals.{orShort}
+use Rattle.state.proofs.refusals.or_short.Statement.{statement}
+use Rattle.state.proofs.refusals.or_short.Tie as tie
 
 returns : tie.Need-returns
 unfolding orShort

@@ -1,22 +1,21 @@
--- One outcome of each loop of the filter run, over plain variables: what is still to be done leads to the same end. Assumes nothing.
+-- One turn of each loop of the filter run, over plain variables: what is still to be done leads to the same end.
+-- Assumes nothing.
 use Prim.Native.Nat.{ℕ, suc, _+_, _-_, _*_, _≤_, _<_}
 use mathlib.Core.Bool.{Bool, true, false, true≢false}
 use mathlib.Core.List.{List, []}
 use mathlib.Core.Path.{_≡_, refl, sym, ap, _∙_}
 use native.Mathlib.Omega.{arith}
-use lib.Dec.{eqb, ltb}
+use lib.Dec.{eqb}
 use lib.ListN.{length}
 use lib.Seq.{sets}
-use borrow.Author.Tests.{lt-ltb, le-ltb, ltb-false}
+use borrow.Author.Tests.{lt-ltb, le-ltb}
 use Rattle.filters.specs.declared.windowed_filter.WindowedFilter.{WindowedFilter}
-use Rattle.filters.specs.WindowedFilter.{windowedNew, windowedNumber}
-use Rattle.state.proofs.Rows.{none}
+use Rattle.filters.specs.WindowedFilter.{windowedNumber}
 use Rattle.words.specs.Words.{wordAt, allBytes}
 use Rattle.words.proofs.Stores.{sets-append}
 use Rattle.words.proofs.Laws.{allBytes-append, length-allBytes}
-use Rattle.guovssalu.specs.FilterRun.{pairs, afterPair, refuses, samples, samplesOf, runRow}
-use Rattle.guovssalu.specs.Inner.{timesFall, setsWhere}
-use Rattle.guovssalu.proofs.Rows.{done-room, done-first}
+use Rattle.pairs.specs.Pairs.{afterPair, refuses, samples, samplesOf}
+use Rattle.pairs.specs.Inner.{timesFall, setsWhere}
 
 module _ (src : List ℕ) (i count : ℕ) (h : i < count) where
   left : count - i ≡ suc (count - (i + 1))
@@ -76,12 +75,3 @@ pub none-left : (writes : Bool) (l : List ℕ) (at : ℕ) → setsWhere writes l
 unfolding setsWhere allBytes
 none-left true l at = refl
 none-left false l at = refl
-
--- done, no pair is refused, and there is room for three words a pair
-pub run-done :
-    (window : ℕ) (src : List ℕ) (room : ℕ) → eqb (runRow window src room) 0 ≡ true →
-    (refuses (windowedNew window) src 0 (pairs src) ≡ false) × (24 * pairs src ≤ room)
-unfolding runRow
-run-done window src room h =
-    let short = ltb room (24 * pairs src) in
-    (none _ _ _ _ _ (done-first _ short h) .in-order, ltb-false room (24 * pairs src) (done-room _ short h))

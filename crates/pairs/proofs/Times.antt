@@ -13,8 +13,8 @@ use Rattle.filters.specs.declared.windowed_filter.Held.the-variants.{Unset, Set
 use Rattle.filters.specs.declared.windowed_filter.WindowedFilter.{WindowedFilter}
 use Rattle.filters.specs.WindowedFilter.{sampleAt, isOlder, isReplaced, raised, shifted, lingers, renewed, aged, updated, isAfter, windowedNumber, windowedUpdate}
 use Rattle.words.specs.Words.{wordAt}
-use Rattle.guovssalu.specs.FilterRun.{afterPair, refuses}
-use Rattle.guovssalu.specs.Inner.{timesFall}
+use Rattle.pairs.specs.Pairs.{afterPair, refuses}
+use Rattle.pairs.specs.Inner.{timesFall}
 
 either : {A : Type 0} (P : A → Type 0) {x y : A} (b : Bool) → P x → P y → P (cond b x y)
 either P true p q = p

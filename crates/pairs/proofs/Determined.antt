@@ -1,0 +1,17 @@
+-- Any two outcomes that the contract of a public function allows coincide, the reply and the bytes left in lent memory: a line for each, about what its contract says (`Reads.Learnt`).
+use mathlib.Core.Path.{_≡_, sym, _∙_}
+use contract.Lifetimes.{Lfts}
+use denote.Ref.{now}
+use denote.Triple.Clauses.{AtExit}
+use borrow.Fn.Kinds.{Dens, resT, endedOf}
+use Rattle.numbers.specs.OneReply.{OneReply}
+use Rattle.units.proofs.reply.Number.{number-injective}
+use Rattle.pairs.proofs.pairs as pairs
+
+pub one-run-reply : OneReply pairs.run_reply.Reads.Learnt
+one-run-reply κ a x y s t p q = number-injective _ _ (p ∙ sym q)
+
+pub one-pass :
+    (κ : Lfts 2) (a : Dens κ pairs.pass.Kinds.ps) (x y : resT pairs.pass.Kinds.r κ .Denot) (s t : AtExit (endedOf 2 pairs.pass.Kinds.ps pairs.pass.Kinds.r) κ) →
+    pairs.pass.Reads.Learnt κ a x s → pairs.pass.Reads.Learnt κ a y t → (x ≡ y) × (now (s .1 .1 .0) ≡ now (t .1 .1 .0))
+one-pass κ a x y s t p q = (p .0 ∙ sym (q .0), p .1 ∙ sym (q .1))
