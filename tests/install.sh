@@ -22,8 +22,8 @@ installed() {
     python3 tests/versions.py "$1/lib/pkgconfig/guovssalu.pc" >"$made/log" 2>&1 || fail "$(cat "$made/log")"
     grep -qx "prefix=$2" "$1/lib/pkgconfig/guovssalu.pc" || fail "the pkg-config file has another prefix than $2"
 }
-make -s install DESTDIR="$made/stage" PREFIX=/opt/guovssalu
-installed "$made/stage/opt/guovssalu" /opt/guovssalu
+make -s install DESTDIR="$made/stage" PREFIX=/usr/local
+installed "$made/stage/usr/local" /usr/local
 prefix=$made/prefix
 make -s install DESTDIR= PREFIX="$prefix"
 installed "$prefix" "$prefix"
