@@ -19,7 +19,7 @@ import sys
 ROOT = os.path.dirname(os.path.dirname(os.path.abspath(__file__)))
 PAGE = "docs/CONTRACTS.md"
 THEOREMS = "crates/theorems/specs/Theorems.antt"
-PAGES = ["docs/*.md", "*.md", "rust/README.md", "oracle/README.md", "hostile/README.md"]
+PAGES = ["docs/*.md", "*.md", "NOTICE", "rust/README.md", "oracle/README.md", "hostile/README.md"]
 COLUMNS = ["function", "answers", "definition", "from", "rules out", "must-fail"]
 FOLDERS = ["crates", "docs", "tests", "rust", "oracle", "include", "bench", "hostile"]
 # Cited by so many contracts that the page says once what they are.

@@ -1,4 +1,4 @@
--- A outcome, part by part. Assumes nothing.
+-- An outcome, part by part. Assumes nothing.
 use Prim.Native.Nat.{ℕ}
 use mathlib.Core.List.{List}
 use mathlib.Core.Path.{_≡_}

@@ -35,7 +35,7 @@ use words::get_word;
 use words::get_words;
 use words::put_words;
 
-// Call 1, a send, which reads four words of its record.
+// Call 1, a send, which reads four of its words.
 pub fn send(
     model: NetworkModel,
     fine: bool,

@@ -1,4 +1,4 @@
-// One call on a model and a cycle, from the 49 words of its record.
+// One call on a model and a cycle, from its 49 words.
 ghost use mathlib.Core.Path.{_≡_};
 ghost use Rattle.units.specs.Reply.{number};
 ghost use Rattle.state.specs.Answers.{settled, zeroMoment};

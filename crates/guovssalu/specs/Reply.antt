@@ -1,6 +1,6 @@
--- The number that an exported call replies, and the bytes that it leaves: document 01, "Replies and bounds".
+-- The bytes that an exported call leaves, by the number that it replies: document 01, "Replies and bounds".
 use Prim.Native.Nat.{ℕ}
-use mathlib.Core.Bool.{Bool, cond, _&&_}
+use mathlib.Core.Bool.{cond}
 use mathlib.Core.List.{List}
 use lib.Dec.{eqb}
 use lib.Seq.{sets}

@@ -1,4 +1,4 @@
-// The model, run over call records on a state in lent bytes (docs/LAYOUT.md).
+// The model, run over calls on a state in lent bytes (docs/LAYOUT.md).
 ghost use mathlib.Core.Path.{_≡_};
 ghost use Prim.Native.Nat.{_*_, _≤_};
 ghost use lib.ListN.{length};

@@ -1,4 +1,4 @@
--- The exported run of the model: calls, carried out in order on a state in lent bytes (docs/LAYOUT.md).
+-- The state in 50 words, the model's and then the cycle's, and whether words encode one (docs/LAYOUT.md).
 use Prim.Native.Nat.{ℕ, zero, suc, _+_}
 use mathlib.Core.Bool.{Bool, true, _&&_}
 use mathlib.Core.List.{List, _++_}

@@ -1,4 +1,4 @@
--- `NetworkModel::advance_max_bandwidth_filter` meets its contract: what its calls ensure, put together.
+-- `advance_max_bandwidth_filter` meets its contract: what its calls ensure, put together.
 use borrow.Author.Needs.{needs}
 use mathlib.Core.Path.{ap, _∙_}
 use Rattle.units.specs.Reply.{number}

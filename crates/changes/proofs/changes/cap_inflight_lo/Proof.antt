@@ -1,4 +1,4 @@
--- `NetworkModel::cap_inflight_lo` meets its contract: what its calls ensure, put together.
+-- `cap_inflight_lo` meets its contract: what its calls ensure, put together.
 use borrow.Author.Needs.{needs}
 use mathlib.Core.Path.{ap, _∙_}
 use Rattle.units.specs.Reply.{number}

@@ -1,4 +1,4 @@
--- `NetworkModel::clear_inflight_lo` meets its contract: what its calls ensure, put together.
+-- `clear_inflight_lo` meets its contract: what its calls ensure, put together.
 use borrow.Author.Needs.{needs}
 use mathlib.Core.Path.{ap, _∙_}
 use Rattle.units.specs.Reply.{number}

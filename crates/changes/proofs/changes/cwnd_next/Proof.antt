@@ -1,4 +1,4 @@
--- `NetworkModel::windowed` meets its contract: part by part.
+-- `cwnd_next` meets its contract: part by part.
 use mathlib.Core.Path.{refl}
 use Rattle.changes.specs.Changes.{cwndNext}
 use Rattle.state.specs.NetworkModel.{withGains}

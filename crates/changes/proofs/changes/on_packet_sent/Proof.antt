@@ -1,4 +1,4 @@
--- `NetworkModel::on_packet_sent` meets its contract: that of its part, given the test.
+-- `on_packet_sent` meets its contract: that of its part, given the test.
 use borrow.Author.Needs.{needs}
 use Rattle.changes.proofs.changes.on_packet_sent.Statement.{statement}
 use Rattle.changes.proofs.changes.on_packet_sent.Tie as tie

@@ -1,4 +1,4 @@
--- `NetworkModel::paced` meets its contract: part by part.
+-- `pacing_next` meets its contract: part by part.
 use mathlib.Core.Path.{refl}
 use Rattle.changes.specs.Changes.{pacingNext}
 use Rattle.state.specs.NetworkModel.{withGains}

@@ -1,4 +1,4 @@
--- `NetworkModel::postpone_min_rtt_timestamp` meets its contract: what its calls ensure, put together.
+-- `postpone_min_rtt_timestamp` meets its contract: what its calls ensure, put together.
 use borrow.Author.Needs.{needs}
 use mathlib.Core.Path.{ap, _∙_}
 use Rattle.units.specs.Reply.{number}

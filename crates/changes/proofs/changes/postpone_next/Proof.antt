@@ -1,4 +1,4 @@
--- `NetworkModel::put_off` meets its contract: part by part.
+-- `postpone_next` meets its contract: part by part.
 use borrow.Author.Needs.{needs}
 use mathlib.Core.Path.{ap, _∙_}
 use Rattle.filters.specs.MinRttFilter.{minForce}

@@ -1,4 +1,4 @@
--- `NetworkModel::later` meets its contract.
+-- `postponed` meets its contract.
 use borrow.Author.Needs.{needs}
 use Rattle.changes.specs.Changes.{postponed}
 use Rattle.changes.proofs.changes.postponed.Statement.{statement}

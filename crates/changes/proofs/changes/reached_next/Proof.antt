@@ -1,4 +1,4 @@
--- `NetworkModel::reached` meets its contract: part by part.
+-- `reached_next` meets its contract: part by part.
 use mathlib.Core.Path.{refl}
 use Rattle.changes.specs.Changes.{reachedNext}
 use Rattle.state.specs.NetworkModel.{withGrowth}

@@ -1,4 +1,4 @@
--- `NetworkModel::sent_reply` meets its contract.
+-- `sent_reply` meets its contract.
 use borrow.Author.Needs.{needs}
 use mathlib.Core.Path.{_∙_}
 use Rattle.changes.specs.Changes.{sentNumber}

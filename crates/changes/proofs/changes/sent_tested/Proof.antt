@@ -1,4 +1,4 @@
--- `NetworkModel::sent_tested` meets its contract: part by part where it is done, and nothing where it is not.
+-- `sent_tested` meets its contract: part by part where it is done, and nothing where it is not.
 use borrow.Author.Needs.{needs}
 use mathlib.Core.Bool.{Bool}
 use mathlib.Core.Path.{refl, ap, ap₂, _∙_}

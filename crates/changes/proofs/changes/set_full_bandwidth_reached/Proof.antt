@@ -1,4 +1,4 @@
--- `NetworkModel::set_full_bandwidth_reached` meets its contract: what its calls ensure, put together.
+-- `set_full_bandwidth_reached` meets its contract: what its calls ensure, put together.
 use borrow.Author.Needs.{needs}
 use mathlib.Core.Path.{ap, _∙_}
 use Rattle.units.specs.Reply.{number}

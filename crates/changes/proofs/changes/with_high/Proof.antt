@@ -1,4 +1,4 @@
--- `NetworkModel::topped` meets its contract: part by part.
+-- `with_high` meets its contract: part by part.
 use mathlib.Core.Path.{refl}
 use Rattle.state.specs.NetworkModel.{withHigh}
 use Rattle.changes.proofs.changes.with_high.Statement.{statement}

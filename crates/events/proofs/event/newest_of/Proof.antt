@@ -1,4 +1,4 @@
--- `newest` meets its contract.
+-- `newest_of` meets its contract.
 use borrow.Author.Tests.{lt-ltb, le-ltb}
 use Rattle.events.proofs.event.newest_of.Statement.{statement}
 use Rattle.events.proofs.event.newest_of.Tie as tie

@@ -1,4 +1,4 @@
--- `expired` meets its contract: part by part.
+-- `expire_next` meets its contract: part by part.
 use borrow.Author.Needs.{needs}
 use mathlib.Core.Path.{refl, sym, ap, ap₂, _∙_}
 use Rattle.state.specs.NetworkModel.{withMinrtt}

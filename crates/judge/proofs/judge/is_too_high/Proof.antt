@@ -1,4 +1,4 @@
--- `too_high` meets its contract.
+-- `is_too_high` meets its contract.
 use borrow.Author.Needs.{needs}
 use Rattle.judge.specs.Judge.{isTooHigh}
 use Rattle.judge.proofs.judge.is_too_high.Statement.{statement}

@@ -1,4 +1,4 @@
--- `restarted` meets its contract.
+-- `restarted_at` meets its contract.
 use borrow.Author.Needs.{needs}
 use mathlib.Core.Path.{_∙_}
 use Rattle.phases.specs.Phases.{restartedAt}

@@ -1,4 +1,4 @@
--- `accepted` meets its contract.
+-- `with_moment` meets its contract.
 use mathlib.Core.Path.{refl}
 use Rattle.state.specs.NetworkModel.{withMoment}
 use Rattle.phases.proofs.phases.with_moment.Statement.{statement}

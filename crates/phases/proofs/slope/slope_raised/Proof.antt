@@ -1,4 +1,4 @@
--- `Slope::raised` meets its contract: part by part.
+-- `slope_raised` meets its contract: part by part.
 use borrow.Author.Needs.{needs}
 use Rattle.phases.specs.Slope.{slopeRaised}
 use Rattle.phases.proofs.slope.slope_raised.Statement.{statement}

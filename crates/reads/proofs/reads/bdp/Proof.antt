@@ -1,4 +1,4 @@
--- `NetworkModel::bdp` meets its contract: what its calls ensure, put together.
+-- `bdp` meets its contract: what its calls ensure, put together.
 use borrow.Author.Needs.{needs}
 use mathlib.Core.Path.{refl, ap, _∙_, ap₂}
 use mathlib.Core.Bool.{_&&_}

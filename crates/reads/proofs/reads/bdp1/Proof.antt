@@ -1,4 +1,4 @@
--- `NetworkModel::bdp1` meets its contract: what its calls ensure, put together.
+-- `bdp1` meets its contract: what its calls ensure, put together.
 use borrow.Author.Needs.{needs}
 use mathlib.Core.Path.{refl, ap, _∙_}
 use Rattle.units.specs.Reply.{number}

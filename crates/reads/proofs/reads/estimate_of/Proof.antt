@@ -1,4 +1,4 @@
--- `estimate` meets its contract: by the two cases.
+-- `estimate_of` meets its contract: by the two cases.
 use borrow.Author.Needs.{needs}
 use Rattle.reads.proofs.reads.estimate_of.Statement.{statement}
 use Rattle.reads.proofs.reads.estimate_of.Tie as tie

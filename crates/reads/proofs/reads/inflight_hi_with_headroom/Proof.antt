@@ -1,4 +1,4 @@
--- `NetworkModel::inflight_hi_with_headroom` meets its contract: what its calls ensure, put together.
+-- `inflight_hi_with_headroom` meets its contract: what its calls ensure, put together.
 use borrow.Author.Needs.{needs}
 use mathlib.Core.Path.{ap, _∙_}
 use Rattle.units.specs.Reply.{number}

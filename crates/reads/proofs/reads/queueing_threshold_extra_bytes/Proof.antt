@@ -1,4 +1,4 @@
--- `NetworkModel::queueing_threshold_extra_bytes` meets its contract: what is stored, if the stored numbers are within bounds.
+-- `queueing_threshold_extra_bytes` meets its contract: what is stored, if the stored numbers are within bounds.
 use borrow.Author.Needs.{needs}
 use mathlib.Core.Path.{refl, ap, _∙_}
 use Rattle.units.specs.Reply.{number}

@@ -1,4 +1,4 @@
--- `NetworkModel::rounds_with_queueing` meets its contract: what is stored, if the stored numbers are within bounds.
+-- `rounds_with_queueing` meets its contract: what is stored, if the stored numbers are within bounds.
 use borrow.Author.Needs.{needs}
 use mathlib.Core.Path.{refl, ap, _∙_}
 use Rattle.units.specs.Reply.{number}

@@ -1,4 +1,4 @@
--- `NetworkModel::advanced` meets its contract: part by part.
+-- `NetworkModel::advance_next` meets its contract: part by part.
 use borrow.Author.Needs.{needs}
 use mathlib.Core.Path.{ap}
 use Rattle.state.specs.NetworkModel.{advanceNext, withMaxbw}

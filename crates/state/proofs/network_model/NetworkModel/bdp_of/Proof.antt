@@ -1,4 +1,4 @@
--- `NetworkModel::product` meets its contract.
+-- `NetworkModel::bdp_of` meets its contract.
 use borrow.Author.Needs.{needs}
 use mathlib.Core.Path.{ap, _∙_}
 use Rattle.units.specs.declared.bandwidth.Bandwidth.{Bandwidth}

@@ -1,4 +1,4 @@
--- `NetworkModel::capped` meets its contract: part by part.
+-- `NetworkModel::cap_next` meets its contract: part by part.
 use borrow.Author.Needs.{needs}
 use mathlib.Core.Path.{ap}
 use Rattle.state.specs.NetworkModel.{capNext, withLower}

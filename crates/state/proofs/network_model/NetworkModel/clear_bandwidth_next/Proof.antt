@@ -1,4 +1,4 @@
--- `NetworkModel::bandwidth_cleared` meets its contract: part by part.
+-- `NetworkModel::clear_bandwidth_next` meets its contract: part by part.
 use mathlib.Core.Path.{refl}
 use Rattle.state.specs.NetworkModel.{clearBandwidthNext, withLower}
 use Rattle.state.proofs.network_model.NetworkModel.clear_bandwidth_next.Statement.{statement}

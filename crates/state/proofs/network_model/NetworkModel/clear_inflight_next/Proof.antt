@@ -1,4 +1,4 @@
--- `NetworkModel::inflight_cleared` meets its contract: part by part.
+-- `NetworkModel::clear_inflight_next` meets its contract: part by part.
 use mathlib.Core.Path.{refl}
 use Rattle.state.specs.NetworkModel.{clearInflightNext, withLower}
 use Rattle.state.proofs.network_model.NetworkModel.clear_inflight_next.Statement.{statement}

@@ -1,4 +1,4 @@
--- `NetworkModel::restarted` meets its contract: part by part.
+-- `NetworkModel::restart_next` meets its contract: part by part.
 use borrow.Author.Needs.{needs}
 use mathlib.Core.Path.{ap₂}
 use Rattle.filters.specs.declared.round_trip_counter.RoundTripCounter.{RoundTripCounter}
