@@ -1,5 +1,5 @@
 # make run: proves, builds and runs the demonstration. make test: the whole gate. README.md has the others.
-.PHONY: run test contracts table diff patterns changes mutants drift picture lists rust year hostile bench install clean kit archive
+.PHONY: run test contracts table diff patterns changes mutants drift picture lists rust year hostile bench instructions install clean kit archive
 
 run: kit
 	rt check show
@@ -95,6 +95,11 @@ hostile: archive
 # The port beside the original, in one process (docs/BENCHMARKS.md).
 bench: archive
 	$(CARGO) run --release --quiet --manifest-path bench/Cargo.toml
+
+# The same cases by the instructions that they take, counted under valgrind.
+instructions: archive
+	$(CARGO) build --release --quiet --manifest-path bench/Cargo.toml
+	python3 tests/instructions.py target/cargo/release/bench
 
 # All that links the archive, tested: symbols, Rust packages, examples, some bad input, the install. Elsewhere the
 # packages are only checked.

@@ -2,7 +2,8 @@
 the sizes, the replies. tests/table.py calls `faults`; the lists below say where to look.
 
 Each check takes paths and gives lines: file, what stands there, what should. Of the words it is reading that is held:
-that what was written is read back as it was is proved (crates/dispatch/specs/RoundTrip.antt)."""
+that what was written is read back as it was is proved (crates/dispatch/specs/RoundTrip.antt). Of the calls' arguments it is
+the source: that the definitions take them from the same words is proved too."""
 
 import glob
 import os
@@ -53,6 +54,20 @@ FORMS = [
     ("crates/arguments/specs/CongestionEvent.antt", "eventFits", "event", 0),
     ("crates/arguments/src/sample.rt", "sample_fits", "sample", 0),
     ("crates/arguments/specs/Sample.antt", "sampleFits", "sample", 0),
+]
+# Where a call's words become its arguments: for most calls in the first file, by a function that has the call's number and
+# chooses it in a file of its own; for a start, and for a send, in a function that knows the call. The arguments are handed
+# on in the order of their rows, or in the one that stands here.
+HANDED = "crates/dispatch/src/outcome.rt"
+CHOOSERS = {
+    "judge": "crates/calls/src/question.rt",
+    "ask": "crates/calls/src/ask.rt",
+    "enter": "crates/calls/src/enter.rt",
+    "change": "crates/calls/src/change.rt",
+}
+KNOWING = [
+    (HANDED, "started", "NetworkModel::new", "start", ["initial_rtt", "now"]),
+    ("crates/dispatch/src/one_call.rt", "send", "sent_tested", "on_packet_sent", None),
 ]
 # Phrases of the source and of definitions that have a size, and which.
 WORDS = ("STATE_WORDS", "CALL_WORDS", "ANSWER_WORDS", "EVENT_WORDS", "SAMPLES_WORDS", "SLOPE_WORDS", "MOST_ACKED")
@@ -299,6 +314,61 @@ def check_forms(table, path, name, section, first):
             yield f"{path}: {name or 'the forms'}: words {stands[kind]} are tested as {kind}, and should be {due[kind]}"
 
 
+# ---- arguments by place
+
+
+def word_in(text):
+    """The word that an expression reads, and whether as an f32. In bytes it stands at so many after the call's first."""
+    found = re.search(r"(\bfloat_of\()?\bn\[(\d+)\]", text)
+    if found:
+        return int(found.group(2)), bool(found.group(1))
+    found = re.search(r"\bget_word\(calls, at \+ (\d+)\)", text)
+    return (int(found.group(1)) / WORD_BYTES, False) if found else None
+
+
+def used(text, named):
+    """The words that an expression uses, in order, by the names of what was read and as they are."""
+    mentioned = re.findall(r"\bfloat_of\(n\[\d+\]\)|\bn\[\d+\]|\b[a-z]\w*\b(?!\(|::)", text)
+    words = [named.get(name) or word_in(name) for name in mentioned]
+    return list(dict.fromkeys(word for word in words if word))
+
+
+def check_given(table, where, name, stands, order=None):
+    """A call's arguments, in the order in which they are handed on, are the words of its rows, an f32 as one."""
+    rows = {row["argument"]: row for row in table.given(name)}
+    due = [(int(rows[one]["word"]), rows[one]["kind"] == "f32") for one in order or rows]
+    if stands != due:
+        said = lambda words: ", ".join(f"{at:g}{' as an f32' if is_float else ''}" for at, is_float in words) or "none"
+        yield f"{where}: {name}: words {said(stands)} are handed on there, and should be {said(due)}"
+
+
+def check_arguments(table, handed, choosers, knowing):
+    """Every call is given its arguments from their words."""
+    seen = set()
+    names = {int(row["number"]): row["name"] for row in table.rows("calls")}
+    text = code(handed)
+    for chooser, path in choosers.items():
+        at = re.search(rf"\b{chooser}\(", text)
+        takes = re.search(rf"\bfn {chooser}\(", code(path))
+        if not at or not takes:
+            yield f"{handed}: {chooser} of {path} stands in one of the two and not in both"
+            continue
+        parameters = [part.split(":")[0] for part in split(closed(code(path), takes.end() - 1), ",")]
+        given = [word_in(part) for part in split(closed(text, at.end() - 1), ",")]
+        named = {name: word for name, word in zip(parameters, given) if word and word[0]}
+        for number, called in choices(path):
+            yield from check_given(table, line_of(path, called), names[number], used(called, named))
+            seen.add(names[number])
+    for path, function, call, name, order in knowing:
+        body = functions(path)[function]
+        named = {found: word_in(value) for found, value in re.findall(r"\blet (\w+) = (.*);", body) if word_in(value)}
+        at = re.search(rf"\b{call}\(", body)
+        yield from check_given(table, f"{path}: {function}", name, used(closed(body, at.end() - 1), named) if at else [], order)
+        seen.add(name)
+    for name in sorted({row["call"] for row in table.rows("arguments")} - seen):
+        yield f"{handed}: nothing stands there or in the files beside it that hands on the arguments of {name}"
+
+
 # ---- sizes and replies
 
 
@@ -360,7 +430,8 @@ def named():
     """Every path of the lists above."""
     yield from CHOICES
     yield from (path for paths in ROWS.values() for path in paths)
-    yield from (path for path, *_ in READERS + FORMS)
+    yield from (path for path, *_ in READERS + FORMS + KNOWING)
+    yield from [HANDED, *CHOOSERS.values()]
     yield from NOT_COUNTED + REPLIES
 
 
@@ -376,6 +447,7 @@ def faults(table):
         out += check_reader(table, *reader)
     for form in FORMS:
         out += check_forms(table, *form)
+    out += check_arguments(table, HANDED, CHOOSERS, KNOWING)
     out += check_phrases(table, PHRASES, files(SIZED))
     out += check_numbers(table, [path for path in files(COUNTED) if path not in NOT_COUNTED], OTHERS)
     out += check_replies(table, REPLIES)

@@ -1,13 +1,17 @@
 #!/bin/sh
-# Compares the kit with the one that the file KIT names. Another logic fails, since what is proved is proved by it; another
-# build of the kit with the same logic is only said. `rt version >KIT` takes a new one.
+# Compares the kit with those that the file KIT names, one to a line, by which this was proved so far. Another logic fails, since
+# what is proved is proved by it; another build of the kit with one of their logics is only said. `rt version >>KIT` takes
+# one more.
 set -eu
 cd "$(dirname "$0")/.."
-kept=$(cat KIT)
 found=$(rt version)
-if [ "$found" = "$kept" ]; then
+if grep -qxF "$found" KIT; then
     echo "kit: $found"
     exit
 fi
-echo "kit: here it is $found, and KIT says $kept"
-[ "${found#*logic }" = "${kept#*logic }" ]
+echo "kit: here it is $found, and KIT names others:"
+cat KIT
+while read -r kept; do
+    [ "${found#*logic }" != "${kept#*logic }" ] || exit 0
+done <KIT
+exit 1

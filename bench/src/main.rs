@@ -1,6 +1,10 @@
 //! Times the port beside the original, in one process and on the same inputs: both sides by turns,
 //! the best of many. docs/BENCHMARKS.md has what was seen.
+//!
+//! With `--once` it runs each side of each case once and prints the names and items alone, for a tool
+//! that counts instructions (tests/instructions.py).
 
+mod empty;
 mod inputs;
 #[path = "../../oracle/src/model.rs"]
 #[allow(dead_code)]
@@ -41,7 +45,14 @@ const CALLS: usize = 1_024;
 const PAIRS: usize = 65_536;
 
 fn main() {
-    println!("{:52} {:>10} {:>10} {:>6}", "", "port", "original", "ratio");
+    if !is_once() {
+        println!("{:52} {:>10} {:>10} {:>6}", "", "port", "original", "ratio");
+    }
+    each(
+        "an empty call",
+        |n| empty::exported(n as u64),
+        |n| empty::rust(n as u64),
+    );
     for bits in [24, 40, 64] {
         numbers(bits);
     }
@@ -57,26 +68,47 @@ fn main() {
     }
 }
 
-/// Runs both sides by turns and prints the best time of each, for one item in nanoseconds. The
-/// program's argument leaves out the cases that don't have it in their name.
+/// Whether each side is to be run once, to be counted.
+fn is_once() -> bool {
+    env::args().any(|word| word == "--once")
+}
+
+/// Runs both sides by turns and prints the best time of each, for one item in nanoseconds. Words given
+/// to the program leave out the cases that don't have them in their name.
 fn compare(name: &str, items: usize, mut port: impl FnMut(), mut original: impl FnMut()) {
-    let left_out = env::args().skip(1).any(|part| !name.contains(&part));
+    let mut words = env::args().skip(1).filter(|word| word != "--once");
+    if words.any(|word| !name.contains(&word)) {
+        port();
+        original();
+        return;
+    }
+    if is_once() {
+        counted(&mut port);
+        counted(&mut original);
+        println!("{items}\t{name}");
+        return;
+    }
     let mut best = [f64::MAX; 2];
-    for _ in 0..if left_out { 1 } else { TIMES } {
+    for _ in 0..TIMES {
         best[0] = best[0].min(time(&mut port));
         best[1] = best[1].min(time(&mut original));
     }
-    if !left_out {
-        let [port, original] = best.map(|nanos| nanos / items as f64);
-        let ratio = port / original;
-        println!("{name:52} {port:7.2} ns {original:7.2} ns {ratio:6.2}");
-    }
+    let [port, original] = best.map(|nanos| nanos / items as f64);
+    let ratio = port / original;
+    println!("{name:52} {port:7.2} ns {original:7.2} ns {ratio:6.2}");
 }
 
 fn time(run: &mut impl FnMut()) -> f64 {
     let began = Instant::now();
     run();
     began.elapsed().as_nanos() as f64
+}
+
+/// What is counted is what happens in here; its name is what the counting tool looks for.
+#[no_mangle]
+#[inline(never)]
+fn counted(run: &mut dyn FnMut()) {
+    run();
 }
 
 /// The functions on single numbers, for numbers of so many bits at most.

@@ -28,7 +28,8 @@ use Rattle.state.specs.declared.cycle.Cycle.{Cycle}
 use Rattle.phases.specs.Phases.{restartedAt, cruiseModel, refillModel, leftModel}
 use Rattle.drift.specs.Calls.{Call, event, cap, clearInflight, clearBandwidth, cruise, refill, other, State, nextOf, after, run, started}
 use Rattle.drift.specs.Exact.{stays, clears, caps, reduces, Exact, unset, over, isReduced, inflightEffect, exactly, exactRun}
-use Rattle.drift.specs.Drift.{none, at, inflightLow, Nearer, Near, Follows, Along, HasBeta, IsSmall, InflightDrift}
+use Rattle.units.specs.declared.maybe.MaybeNumber.the-variants as Number
+use Rattle.drift.specs.Drift.{inflightLow, Nearer, Near, Follows, Along, HasBeta, IsSmall, InflightDrift}
 use Rattle.drift.proofs.Others.{other-same, left-same, left-high}
 use Rattle.drift.proofs.Runs.{run-kept, both-along}
 use Rattle.drift.proofs.Beta.{every-beta}
@@ -59,7 +60,7 @@ module _ (beta : Float) (parts : ℕ) (value : HasValue (complement beta) false 
   set : (n : ℕ) → n ≤ 2 ^ 24 → eqb n (2 ^ 64 - 1) ≡ false
   set n h = ne-eqb n (2 ^ 64 - 1) (λ e. omega (arith, e, h))
 
-  follows : (n : ℕ) (x : Exact) → Raw n x → Follows 1 1 parts (cond (eqb n (2 ^ 64 - 1)) none (at n)) x
+  follows : (n : ℕ) (x : Exact) → Raw n x → Follows 1 1 parts (cond (eqb n (2 ^ 64 - 1)) Number.Unset (Number.Set n)) x
   follows n unset h = rw (eq-eqb n (2 ^ 64 - 1) h) tt
   follows n (over num exponent k) h = rw (set n (h .0)) (h .1)
 

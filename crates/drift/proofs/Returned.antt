@@ -18,7 +18,8 @@ use Rattle.state.specs.declared.cycle.Cycle.{Cycle}
 use Rattle.drift.specs.Calls as Calls
 use Rattle.drift.specs.Calls.{Call, Other, State, otherNumber, otherNext, numberOf, nextOf, after, run, started}
 use Rattle.drift.specs.Exact.{Effect, unset, inflightEffect, bandwidthEffect, exactRun}
-use Rattle.drift.specs.Drift.{Low, inflightLow, bandwidthLow, Follows, Along, HasBeta, IsSmall, IsAny, Drift, UsualDrift, Under, usualBeta, usualParts}
+use Rattle.units.specs.declared.maybe.MaybeNumber.{MaybeNumber}
+use Rattle.drift.specs.Drift.{inflightLow, bandwidthLow, Follows, Along, HasBeta, IsSmall, IsAny, Drift, UsualDrift, Under, usualBeta, usualParts}
 use Rattle.drift.specs.Returned.{Leaves, MadeOther, Made, Begun, Ran, CodeDrift, CodeUsualDrift, CodeInflightDrift, CodeBandwidthDrift, CodeUsualInflightDrift, CodeUsualBandwidthDrift}
 use Rattle.drift.proofs.Inflight.{inflight-drift}
 use Rattle.drift.proofs.Bandwidth.{bandwidth-drift}
@@ -115,7 +116,7 @@ module _ (p : Params) (rtt : Duration) (time : Moment) (calls : List Call) (s t 
   along : (P : Call → Type 0) → Along P calls s → Along P calls (started p rtt time (s .cycle))
   along P h = subst (λ (z : State). Along P calls z) (begun p rtt time s b) h
 
-module _ (effect : Call → State → Effect) (low : State → Low) (Q : Call → Type 0) where
+module _ (effect : Call → State → Effect) (low : State → MaybeNumber) (Q : Call → Type 0) where
   code-drift : (u v : ℕ) → Drift u v effect low Q → CodeDrift u v effect low Q
   code-drift u v drift beta ok =
       let parts = partsOf (complement beta) in (

@@ -8,7 +8,9 @@ use Rattle.numbers.specs.Scaling.{complement, partsOf}
 use Rattle.state.specs.Bounds.{within}
 use Rattle.drift.specs.Calls.{Call, State, run, started}
 use Rattle.drift.specs.Exact.{Effect, Exact, unset, over, inflightEffect, bandwidthEffect, exactRun}
-use Rattle.drift.specs.Drift.{IsBeta, Low, none, at, inflightLow, bandwidthLow, Nearer, Follows, usualBeta, usualParts, Under, UsualInflightDrift, UsualBandwidthDrift}
+use Rattle.units.specs.declared.maybe.MaybeNumber.{MaybeNumber}
+use Rattle.units.specs.declared.maybe.MaybeNumber.the-variants as Number
+use Rattle.drift.specs.Drift.{IsBeta, inflightLow, bandwidthLow, Nearer, Follows, usualBeta, usualParts, Under, UsualInflightDrift, UsualBandwidthDrift}
 use Rattle.drift.proofs.Inflight.{inflight-drift}
 use Rattle.drift.proofs.Bandwidth.{bandwidth-drift}
 
@@ -28,13 +30,13 @@ bandwidth-under n num exponent h = record { not-over = omega (arith, h .not-over
 
 -- with the parts as they are computed from beta
 module _ (u v h : ℕ) (rate : (n num exponent : ℕ) → Nearer n num exponent (2 ^ 24) u (v * (2 ^ 24 - usualParts)) → Nearer n num exponent h 1 100) where
-  under : (l : Low) (x : Exact) → Follows u v usualParts l x → Under h l x
-  under none unset f = tt
-  under none (over num exponent k) f = f
-  under (at n) unset f = f
-  under (at n) (over num exponent k) f = rate n num exponent (f .by-rate)
+  under : (l : MaybeNumber) (x : Exact) → Follows u v usualParts l x → Under h l x
+  under Number.Unset unset f = tt
+  under Number.Unset (over num exponent k) f = f
+  under (Number.Set n) unset f = f
+  under (Number.Set n) (over num exponent k) f = rate n num exponent (f .by-rate)
 
-  usual : (effect : Call → State → Effect) (l : Low) (calls : List Call) (s : State)
+  usual : (effect : Call → State → Effect) (l : MaybeNumber) (calls : List Call) (s : State)
       → Follows u v (partsOf (complement usualBeta)) l (exactRun effect (partsOf (complement usualBeta)) calls s unset)
       → Under h l (exactRun effect usualParts calls s unset)
   usual effect l calls s f =

@@ -27,10 +27,10 @@
 --     2      637          179299554057781300   636.99997830..    0.00002169..
 --     3      445   2105703107131840534046300   445.89997721..   -0.89997721..
 --
--- After the third, `Follows 1 1 11744051 (at 445) (over num 72 3)` is `Near 1 1 11744051 445 num 72 3`. Its `counted`
--- is 0 < 3. Its `by-count` is 0.89997.. < 3 * 1 / 1, multiplied by 2^72: |445 * 2^72 - num| < 3 * 2^72, which is
--- 4250022254848413951580 < 14167099448608935641088. Its `by-rate` is 0.89997.. < 1 / (1 - b) = 3.33333..: with
--- 1 - b = 5033165 / 2^24, both sides multiplied by 2^72 * 5033165. `Under 334 (at 445) (over num 72 3)` is
+-- After the third, `Follows 1 1 11744051 (Number.Set 445) (over num 72 3)` is `Near 1 1 11744051 445 num 72 3`. Its
+-- `counted` is 0 < 3. Its `by-count` is 0.89997.. < 3 * 1 / 1, multiplied by 2^72: |445 * 2^72 - num| < 3 * 2^72, which
+-- is 4250022254848413951580 < 14167099448608935641088. Its `by-rate` is 0.89997.. < 1 / (1 - b) = 3.33333..: with
+-- 1 - b = 5033165 / 2^24, both sides multiplied by 2^72 * 5033165. `Under 334 (Number.Set 445) (over num 72 3)` is
 -- 0.89997.. < 3.34. The runs and these statements are computed in Examples.antt (`driftExamples`, `EpisodeFollows`).
 use Prim.Native.Nat.{ℕ, _+_, _-_, _*_, _^_, _≤_, _<_}
 use mathlib.Core.Bool.{cond, true, false}
@@ -45,6 +45,8 @@ use Rattle.units.specs.declared.time.Moment.{Moment}
 use Rattle.state.specs.declared.params.Params.{Params}
 use Rattle.units.specs.declared.maybe.MaybeBandwidth.{MaybeBandwidth}
 use Rattle.units.specs.declared.maybe.MaybeBandwidth.the-variants.{Unset, Set}
+use Rattle.units.specs.declared.maybe.MaybeNumber.{MaybeNumber}
+use Rattle.units.specs.declared.maybe.MaybeNumber.the-variants as Number
 use Rattle.state.specs.Params.{betaOk}
 use Rattle.state.specs.declared.congestion_event.CongestionEvent.{CongestionEvent}
 use Rattle.state.specs.declared.congestion_event.CongestionEventSample.{CongestionEventSample}
@@ -53,20 +55,15 @@ use Rattle.drift.specs.Calls as Calls
 use Rattle.drift.specs.Calls.{Call, State, numberOf, after, run, started}
 use Rattle.drift.specs.Exact.{Effect, Exact, unset, over, inflightEffect, bandwidthEffect, exactRun}
 
--- ---- a lower bound as it is stored: unset, or a number
-pub data Low : Type 0 where
-  none : Low
-  at : ℕ → Low
+-- ---- a lower bound as it is stored: unset, or a number. inflight_lo is unset where it is 2^64 - 1
+unfoldable pub inflightLow : State → MaybeNumber
+inflightLow s = let n = s .model .lower .inflight in cond (eqb n (2 ^ 64 - 1)) Number.Unset (Number.Set n)
 
--- inflight_lo is unset where it is 2^64 - 1
-unfoldable pub inflightLow : State → Low
-inflightLow s = let n = s .model .lower .inflight in cond (eqb n (2 ^ 64 - 1)) none (at n)
+abbrev pub lowOf : MaybeBandwidth → MaybeNumber
+lowOf Unset = Number.Unset
+lowOf (Set b) = Number.Set (b .0)
 
-abbrev pub lowOf : MaybeBandwidth → Low
-lowOf Unset = none
-lowOf (Set b) = at (b .0)
-
-unfoldable pub bandwidthLow : State → Low
+unfoldable pub bandwidthLow : State → MaybeNumber
 bandwidthLow s = lowOf (s .model .lower .bandwidth)
 
 -- ---- how near it is. All is multiplied out, so that every number is whole
@@ -84,11 +81,11 @@ pub record Near (u v parts n num exponent k : ℕ) : Type 0 where
   pub by-rate : Nearer n num exponent (2 ^ 24) u (v * (2 ^ 24 - parts))
 
 -- the stored one is set exactly where the exact one is, and then near it
-abbrev pub Follows : (u v parts : ℕ) → Low → Exact → Type 0
-Follows u v parts none unset = Unit {0}
-Follows u v parts none (over num exponent k) = ⊥
-Follows u v parts (at n) unset = ⊥
-Follows u v parts (at n) (over num exponent k) = Near u v parts n num exponent k
+abbrev pub Follows : (u v parts : ℕ) → MaybeNumber → Exact → Type 0
+Follows u v parts Number.Unset unset = Unit {0}
+Follows u v parts Number.Unset (over num exponent k) = ⊥
+Follows u v parts (Number.Set n) unset = ⊥
+Follows u v parts (Number.Set n) (over num exponent k) = Near u v parts n num exponent k
 
 -- ---- the runs: P holds of every call that is done
 abbrev pub Along : (Call → Type 0) → List Call → State → Type 0
@@ -124,7 +121,7 @@ pub record IsBeta (beta : Float) : Type 0 where
 -- ---- the theorem: b is exactly parts / 2^24, and after any list of calls from a fresh model, beside any cycle y, the
 -- number follows its exact run. u / v bounds what one reduction is off, `effect` is what a call does to the number,
 -- `low` the number as it is stored, P what is asked of every accepted event besides beta
-abbrev pub Drift : (u v : ℕ) → (Call → State → Effect) → (State → Low) → (Call → Type 0) → Type 0
+abbrev pub Drift : (u v : ℕ) → (Call → State → Effect) → (State → MaybeNumber) → (Call → Type 0) → Type 0
 Drift u v effect low P =
     (beta : Float) → IsBeta beta →
     let parts = partsOf (complement beta) in
@@ -151,13 +148,13 @@ abbrev pub usualParts : ℕ
 usualParts = 11744051
 
 -- the stored one differs from the exact one by less than so many hundredths
-abbrev pub Under : (hundredths : ℕ) → Low → Exact → Type 0
-Under h none unset = Unit {0}
-Under h none (over num exponent k) = ⊥
-Under h (at n) unset = ⊥
-Under h (at n) (over num exponent k) = Nearer n num exponent h 1 100
+abbrev pub Under : (hundredths : ℕ) → MaybeNumber → Exact → Type 0
+Under h Number.Unset unset = Unit {0}
+Under h Number.Unset (over num exponent k) = ⊥
+Under h (Number.Set n) unset = ⊥
+Under h (Number.Set n) (over num exponent k) = Nearer n num exponent h 1 100
 
-abbrev pub UsualDrift : (hundredths : ℕ) → (Call → State → Effect) → (State → Low) → (Call → Type 0) → Type 0
+abbrev pub UsualDrift : (hundredths : ℕ) → (Call → State → Effect) → (State → MaybeNumber) → (Call → Type 0) → Type 0
 UsualDrift h effect low P =
     (p : Params) (rtt : Duration) (now : Moment) (y : Cycle) (calls : List Call) →
     let s = started p rtt now y in

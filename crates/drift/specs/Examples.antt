@@ -8,12 +8,14 @@ use Rattle.state.specs.NetworkModel.{one}
 use Rattle.units.specs.declared.maybe.MaybeBandwidth.the-variants.{Unset, Set}
 use Rattle.units.specs.declared.time.Moment.{Moment}
 use Rattle.units.specs.declared.maybe.MaybeDuration.the-variants as Length
+use Rattle.units.specs.declared.maybe.MaybeNumber.{MaybeNumber}
+use Rattle.units.specs.declared.maybe.MaybeNumber.the-variants as Number
 use Rattle.state.specs.declared.congestion_event.CongestionEvent.{CongestionEvent}
 use Rattle.state.specs.declared.congestion_event.CongestionEventSample.{CongestionEventSample}
 use Rattle.state.specs.Cycle.{freshCycle}
 use Rattle.drift.specs.Calls.{Call, event, cap, clearInflight, cruise, refill, other, sent, finish, State, run, started}
 use Rattle.drift.specs.Exact.{Exact, unset, over, inflightEffect, bandwidthEffect, exactRun}
-use Rattle.drift.specs.Drift.{Low, none, at, inflightLow, bandwidthLow, Follows, Under, usualBeta, usualParts}
+use Rattle.drift.specs.Drift.{inflightLow, bandwidthLow, Follows, Under, usualBeta, usualParts}
 
 -- ---- a run of lossy rounds: in each a packet is sent, and an event acks it and loses a byte
 abbrev params : Params
@@ -83,15 +85,15 @@ abbrev fresh : State
 fresh = started params (record { 0 = 0 }) moment (freshCycle moment)
 
 -- ---- how far the stored number is from the exact one: below it, or above it, by more than so many tenths
-abbrev pub isBelow : (tenths : ℕ) → Low → Exact → Bool
-isBelow t none x = false
-isBelow t (at n) unset = false
-isBelow t (at n) (over num exponent k) = ltb (n * 2 ^ exponent * 10 + t * 2 ^ exponent) (num * 10)
+abbrev pub isBelow : (tenths : ℕ) → MaybeNumber → Exact → Bool
+isBelow t Number.Unset x = false
+isBelow t (Number.Set n) unset = false
+isBelow t (Number.Set n) (over num exponent k) = ltb (n * 2 ^ exponent * 10 + t * 2 ^ exponent) (num * 10)
 
-abbrev pub isAbove : (tenths : ℕ) → Low → Exact → Bool
-isAbove t none x = false
-isAbove t (at n) unset = false
-isAbove t (at n) (over num exponent k) = ltb (num * 10 + t * 2 ^ exponent) (n * 2 ^ exponent * 10)
+abbrev pub isAbove : (tenths : ℕ) → MaybeNumber → Exact → Bool
+isAbove t Number.Unset x = false
+isAbove t (Number.Set n) unset = false
+isAbove t (Number.Set n) (over num exponent k) = ltb (num * 10 + t * 2 ^ exponent) (n * 2 ^ exponent * 10)
 
 -- exactly so: num / 2^exponent, after k reductions
 abbrev isOver : (num exponent k : ℕ) → Exact → Bool
@@ -99,9 +101,9 @@ isOver num exponent k unset = false
 isOver num exponent k (over a e c) = eqb a num && eqb e exponent && eqb c k
 
 -- stored is n
-abbrev isAt : ℕ → Low → Bool
-isAt n none = false
-isAt n (at m) = eqb n m
+abbrev isAt : ℕ → MaybeNumber → Bool
+isAt n Number.Unset = false
+isAt n (Number.Set m) = eqb n m
 
 abbrev isUnset : Exact → Bool
 isUnset unset = true
@@ -115,7 +117,7 @@ abbrev reductions : Exact → ℕ
 reductions unset = 0
 reductions (over num exponent k) = k
 
-abbrev low : List Call → Low
+abbrev low : List Call → MaybeNumber
 low calls = inflightLow (run calls fresh)
 
 abbrev exact : List Call → Exact
@@ -183,8 +185,8 @@ driftExamples =
 -- what the theorems say of the loss episode's numbers, after k reductions: under k bytes, 1 / (1 - b) bytes, and 3.34
 abbrev pub FollowsAt : (k stored : ℕ) → Type 0
 FollowsAt k stored =
-    Follows 1 1 usualParts (at stored) (over (numerator k) (24 * k) k)
-    × Under 334 (at stored) (over (numerator k) (24 * k) k)
+    Follows 1 1 usualParts (Number.Set stored) (over (numerator k) (24 * k) k)
+    × Under 334 (Number.Set stored) (over (numerator k) (24 * k) k)
 
 pub record EpisodeFollows : Type 0 where
   pub first : FollowsAt 1 910

@@ -25,7 +25,8 @@ use Rattle.phases.proofs.phases as phases
 use Rattle.drift.specs.Calls as Calls
 use Rattle.drift.specs.Calls.{Call, Other, State}
 use Rattle.drift.specs.Exact.{Effect, unset, inflightEffect, bandwidthEffect, exactRun}
-use Rattle.drift.specs.Drift.{Low, inflightLow, bandwidthLow, Follows, Along, HasBeta, IsSmall, IsAny, IsBeta, usualBeta, usualParts, Under}
+use Rattle.units.specs.declared.maybe.MaybeNumber.{MaybeNumber}
+use Rattle.drift.specs.Drift.{inflightLow, bandwidthLow, Follows, Along, HasBeta, IsSmall, IsAny, IsBeta, usualBeta, usualParts, Under}
 
 -- P of some arguments and of a reply to them that the contract allows. That there is one for all arguments is what the
 -- checker proves of each function
@@ -164,7 +165,7 @@ Ran (c ∷ calls) s t =
     × Ran calls u t
 
 -- ---- the theorems of specs/Drift.antt, of the states that the public functions return
-abbrev pub CodeDrift : (u v : ℕ) → (Call → State → Effect) → (State → Low) → (Call → Type 0) → Type 0
+abbrev pub CodeDrift : (u v : ℕ) → (Call → State → Effect) → (State → MaybeNumber) → (Call → Type 0) → Type 0
 CodeDrift u v effect low P =
     (beta : Float) → IsBeta beta →
     let parts = partsOf (complement beta) in
@@ -183,7 +184,8 @@ abbrev pub CodeBandwidthDrift : Type 0
 CodeBandwidthDrift = CodeDrift 4097 8192 bandwidthEffect bandwidthLow IsAny
 
 -- at beta 0.3: under 3.34 bytes, and under 1.67 bits per second
-abbrev pub CodeUsualDrift : (hundredths : ℕ) → (Call → State → Effect) → (State → Low) → (Call → Type 0) → Type 0
+abbrev pub CodeUsualDrift : (hundredths : ℕ) → (Call → State → Effect) → (State → MaybeNumber) → (Call → Type 0)
+    → Type 0
 CodeUsualDrift h effect low P =
     (p : Params) (rtt : Duration) (time : Moment) (calls : List Call) (s t : State) →
     Along (HasBeta usualBeta) calls s →

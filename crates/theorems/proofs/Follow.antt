@@ -30,8 +30,10 @@ use Rattle.dispatch.specs.Outcome.{askOutcome, outcomeOf}
 use Rattle.drift.specs.Calls as C
 use Rattle.drift.specs.Calls.{Call, State, after, run, started}
 use Rattle.drift.specs.Exact.{Effect, Exact, unset, inflightEffect, bandwidthEffect, exactRun}
+use Rattle.units.specs.declared.maybe.MaybeNumber.{MaybeNumber}
+use Rattle.units.specs.declared.maybe.MaybeNumber.the-variants as Number
 use Rattle.drift.specs.Drift as D
-use Rattle.drift.specs.Drift.{Low, lowOf, inflightLow, bandwidthLow, Follows, Along, OfEvent, IsAny, IsBeta, usualBeta, usualParts, Under}
+use Rattle.drift.specs.Drift.{lowOf, inflightLow, bandwidthLow, Follows, Along, OfEvent, IsAny, IsBeta, usualBeta, usualParts, Under}
 use Rattle.drift.proofs.Inflight.{inflight-drift}
 use Rattle.drift.proofs.Bandwidth.{bandwidth-drift}
 use Rattle.drift.proofs.Usual.{usual-inflight-drift, usual-bandwidth-drift}
@@ -46,7 +48,7 @@ use Rattle.theorems.proofs.Reached.{Reached, Made, all-made, of-reached
 -- ---- the lower bounds in any bytes are those of the state that they encode
 inflight-in : (bytes : List ℕ) → inflightIn bytes ≡ inflightLow (stateFrom bytes)
 unfolding lowWord inflightLow stateFrom modelFrom
-inflight-in bytes = ap (λ (n : ℕ). cond (eqb n (2 ^ 64 - 1)) D.none (D.at n)) (sym (getD-wordsAt bytes 0 50 17 (omega arith)))
+inflight-in bytes = ap (λ (n : ℕ). cond (eqb n (2 ^ 64 - 1)) Number.Unset (Number.Set n)) (sym (getD-wordsAt bytes 0 50 17 (omega arith)))
 
 bandwidth-in : (bytes : List ℕ) → bandwidthIn bytes ≡ bandwidthLow (stateFrom bytes)
 unfolding bandwidthIn bandwidthLow stateFrom modelFrom
@@ -94,7 +96,7 @@ stored-small m = go (modelOk m)
     go false = omega arith
 
 -- ---- for any theorem of runs of calls, `Q` of the events in them
-module _ (effect : Call → State → Effect) (parts : ℕ) (P : List ℕ → Type 0) (Q : Params → CongestionEvent → CongestionEventSample → Type 0) (of-words : (w : List ℕ) → P w → Q (paramsFrom w) (eventFrom w) (sampleFrom w)) (low : State → Low) (Near : Low → Exact → Type 0)
+module _ (effect : Call → State → Effect) (parts : ℕ) (P : List ℕ → Type 0) (Q : Params → CongestionEvent → CongestionEventSample → Type 0) (of-words : (w : List ℕ) → P w → Q (paramsFrom w) (eventFrom w) (sampleFrom w)) (low : State → MaybeNumber) (Near : MaybeNumber → Exact → Type 0)
     (theorem : (p : Params) (rtt : Duration) (now : Moment) (y : Cycle) (calls : List Call) → Along (OfEvent Q) calls (started p rtt now y) → Near (low (run calls (started p rtt now y))) (exactRun effect parts calls (started p rtt now y) unset)) where
   made : (runs : List Run) (r : Run) → History (runs ++ (r ∷ [])) → Each (OfEvents P) (runs ++ (r ∷ [])) → Made effect parts (OfEvent Q) r (exactRuns effect parts runs unset)
   made runs r h e = all-made effect parts (OfEvent Q) runs r (h .order) (each-fair effect parts P Q of-words (runs ++ (r ∷ [])) (h .ran) (h .bytes) e)
@@ -102,17 +104,17 @@ module _ (effect : Call → State → Effect) (parts : ℕ) (P : List ℕ → Ty
   reached : (s : State) (x : Exact) → Reached effect parts (OfEvent Q) s x → Near (low s) x
   reached = of-reached effect parts (OfEvent Q) (λ s x. Near (low s) x) theorem
 
-  in-state : (find : List ℕ → Low) → ((bytes : List ℕ) → find bytes ≡ low (stateFrom bytes)) → InState P find effect parts Near
+  in-state : (find : List ℕ → MaybeNumber) → ((bytes : List ℕ) → find bytes ≡ low (stateFrom bytes)) → InState P find effect parts Near
   in-state find same runs r h e =
       let x = exactAfter effect parts r (exactRuns effect parts runs unset) in
-      subst (λ (l : Low). Near l x) (sym (same (r .left))) (reached (stateFrom (r .left)) x (made runs r h e .after))
+      subst (λ (l : MaybeNumber). Near l x) (sym (same (r .left))) (reached (stateFrom (r .left)) x (made runs r h e .after))
 
 -- the last of some runs
 each-last : (P : Run → Type 0) (runs : List Run) (r : Run) → Each P (runs ++ (r ∷ [])) → P r
 each-last P [] r h = h .0
 each-last P (q ∷ runs) r h = each-last P runs r (h .1)
 
-module _ (parts : ℕ) (P : List ℕ → Type 0) (Q : Params → CongestionEvent → CongestionEventSample → Type 0) (of-words : (w : List ℕ) → P w → Q (paramsFrom w) (eventFrom w) (sampleFrom w)) (Near : Low → Exact → Type 0)
+module _ (parts : ℕ) (P : List ℕ → Type 0) (Q : Params → CongestionEvent → CongestionEventSample → Type 0) (of-words : (w : List ℕ) → P w → Q (paramsFrom w) (eventFrom w) (sampleFrom w)) (Near : MaybeNumber → Exact → Type 0)
     (theorem : (p : Params) (rtt : Duration) (now : Moment) (y : Cycle) (calls : List Call) → Along (OfEvent Q) calls (started p rtt now y) → Near (inflightLow (run calls (started p rtt now y))) (exactRun inflightEffect parts calls (started p rtt now y) unset)) where
   -- the word that call 35 answers
   answered-low : (runs : List Run) (r : Run) (i : ℕ) → History (runs ++ (r ∷ [])) → Accepted 35 r i → lowWord (answerWord r i 1) ≡ inflightLow (before r i)
@@ -126,7 +128,7 @@ module _ (parts : ℕ) (P : List ℕ → Type 0) (Q : Params → CongestionEvent
       let small = stored-small (s .model) in
       let zero : storedNumber (s .model) ≡ 0 = sym (t .0) ∙ sym (reply-word r ran (a .done) i (a .made) (subst (λ (n : ℕ). n < 2 ^ 64) (sym (t .0)) small)) ∙ a .accepted in
       let value : outcomeOfCall r i .value ≡ s .model .lower .inflight = t .1 ∙ rw zero in
-      ap (λ (n : ℕ). cond (eqb n (2 ^ 64 - 1)) D.none (D.at n))
+      ap (λ (n : ℕ). cond (eqb n (2 ^ 64 - 1)) Number.Unset (Number.Set n))
       (value-word r ran (a .done) i (a .made) (subst (λ (n : ℕ). n < 2 ^ 64) (sym value) (form .bound .lowInflight)) ∙ value)
 
   asks : (n : ℕ) → n ≡ 35 → n ≡ 0 → ⊥
@@ -135,7 +137,7 @@ module _ (parts : ℕ) (P : List ℕ → Type 0) (Q : Params → CongestionEvent
   in-answers : InAnswers P inflightEffect parts Near
   in-answers runs r i h e a =
       let x = exactBefore inflightEffect parts r i (exactRuns inflightEffect parts runs unset) in
-      subst (λ (l : Low). Near l x) (sym (answered-low runs r i h a))
+      subst (λ (l : MaybeNumber). Near l x) (sym (answered-low runs r i h a))
       (reached inflightEffect parts P Q of-words inflightLow Near theorem (before r i) x
       (made inflightEffect parts P Q of-words inflightLow Near theorem runs r h e .middle (a .done) i (a .made) (asks _ (a .named))))
 

@@ -34,8 +34,9 @@ use Rattle.guovssalu.proofs.slope.guovssalu_raise_inflight_high_slope as slope
 use Rattle.drift.specs.Calls.{Call, State}
 use Rattle.drift.specs.Exact as X
 use Rattle.drift.specs.Exact.{Exact}
-use Rattle.drift.specs.Drift as D
-use Rattle.drift.specs.Drift.{Low, lowOf}
+use Rattle.units.specs.declared.maybe.MaybeNumber.{MaybeNumber}
+use Rattle.units.specs.declared.maybe.MaybeNumber.the-variants as Number
+use Rattle.drift.specs.Drift.{lowOf}
 use Rattle.theorems.specs.Steps.{stepsFrom, walk, exactWalk}
 
 -- ---- contracts. `Reads.Learnt` of a function is its contract as the checker reads it: of lifetimes κ, arguments a, a
@@ -255,14 +256,14 @@ exactRuns effect parts [] x = x
 exactRuns effect parts (r ∷ runs) x = exactRuns effect parts runs (exactAfter effect parts r x)
 
 -- ---- the lower bounds in bytes. A word: 2^64 - 1 is unset
-unfoldable pub lowWord : ℕ → Low
-lowWord n = cond (eqb n (2 ^ 64 - 1)) D.none (D.at n)
+unfoldable pub lowWord : ℕ → MaybeNumber
+lowWord n = cond (eqb n (2 ^ 64 - 1)) Number.Unset (Number.Set n)
 
 -- word 17 of a state; words 15 and 16
-abbrev pub inflightIn : List ℕ → Low
+abbrev pub inflightIn : List ℕ → MaybeNumber
 inflightIn bytes = lowWord (Bytes.wordAt bytes (8 * 17))
 
-unfoldable pub bandwidthIn : List ℕ → Low
+unfoldable pub bandwidthIn : List ℕ → MaybeNumber
 bandwidthIn bytes = lowOf (bandwidthOf (Bytes.wordAt bytes (8 * 15)) (Bytes.wordAt bytes (8 * 16)))
 
 -- ---- of an event's words: word 38 is read as beta; the window, word 23, and the inflight sample, word 10, are at most

@@ -49,7 +49,8 @@ use Rattle.dispatch.specs.OneCall.{answerWords}
 use Rattle.guovssalu.specs.Slope.{slopeRow, slopeOut}
 use Rattle.drift.specs.Calls.{Call, State}
 use Rattle.drift.specs.Exact.{Effect, Exact, unset, inflightEffect, bandwidthEffect}
-use Rattle.drift.specs.Drift.{Low, Follows, IsBeta, usualBeta, usualParts, Under}
+use Rattle.units.specs.declared.maybe.MaybeNumber.{MaybeNumber}
+use Rattle.drift.specs.Drift.{Follows, IsBeta, usualBeta, usualParts, Under}
 use Rattle.theorems.specs.Rows.{rowsOf}
 use Rattle.theorems.specs.Casts.{Casts}
 use Rattle.theorems.specs.Steps.{moment, Makes, Refused, Numbered, stepOf, outcomeIn}
@@ -57,28 +58,28 @@ use Rattle.theorems.specs.Runs.{Unasked, Run, Ran, FilterRun, Filtered, 
 
 -- What demand 3 says, of any runs, the last of which is r, that begin with a start (`History`), and in which every
 -- accepted event has words of which P holds: the number that `low` finds in the bytes that r left is near the exact one
-abbrev pub InState : (P : List ℕ → Type 0) (low : List ℕ → Low) (effect : Call → State → Effect) (parts : ℕ)
-    (Near : Low → Exact → Type 0) → Type 0
+abbrev pub InState : (P : List ℕ → Type 0) (low : List ℕ → MaybeNumber) (effect : Call → State → Effect) (parts : ℕ)
+    (Near : MaybeNumber → Exact → Type 0) → Type 0
 InState P low effect parts Near =
     (runs : List Run) (r : Run) → History (runs ++ (r ∷ [])) → Each (OfEvents P) (runs ++ (r ∷ [])) →
     Near (low (r .left)) (exactAfter effect parts r (exactRuns effect parts runs unset))
 
 -- and so is the answer to a call 35 of r, "inflight_lo", where i calls of r were made before it
 abbrev pub InAnswers : (P : List ℕ → Type 0) (effect : Call → State → Effect) (parts : ℕ)
-    (Near : Low → Exact → Type 0) → Type 0
+    (Near : MaybeNumber → Exact → Type 0) → Type 0
 InAnswers P effect parts Near =
     (runs : List Run) (r : Run) (i : ℕ) → History (runs ++ (r ∷ [])) → Each (OfEvents P) (runs ++ (r ∷ [])) →
     Accepted 35 r i →
     Near (lowWord (answerWord r i 1)) (exactBefore effect parts r i (exactRuns effect parts runs unset))
 
 -- inflight_lo, where P is: the event has this beta, and its window and its inflight sample are at most 2^24
-abbrev pub InflightNear : (beta : Float) (parts : ℕ) (Near : Low → Exact → Type 0) → Type 0
+abbrev pub InflightNear : (beta : Float) (parts : ℕ) (Near : MaybeNumber → Exact → Type 0) → Type 0
 InflightNear beta parts Near =
     InState (λ w. HasBetaWord beta w × HasSmallWords w) inflightIn inflightEffect parts Near
     × InAnswers (λ w. HasBetaWord beta w × HasSmallWords w) inflightEffect parts Near
 
 -- bandwidth_lo, where P is: the event has this beta
-abbrev pub BandwidthNear : (beta : Float) (parts : ℕ) (Near : Low → Exact → Type 0) → Type 0
+abbrev pub BandwidthNear : (beta : Float) (parts : ℕ) (Near : MaybeNumber → Exact → Type 0) → Type 0
 BandwidthNear beta parts Near = InState (HasBetaWord beta) bandwidthIn bandwidthEffect parts Near
 
 pub record Theorems : Type 0 where
@@ -166,5 +167,5 @@ pub record Theorems : Type 0 where
 -- document 01, the original and docs/LAYOUT.md: all files of specs/ to which `use` lines lead from here, with their
 -- remarks. A script of the gate counts their lines (tests/contracts.py):
 --   numbers 257, units 71, filters 240, words 129, state 657, layout 215, events 362, phases 208, changes 61, judge
---   199, arguments 191, reads 18, pairs 48, calls 204, laws 459, dispatch 210, guovssalu 148, drift 382, theorems
---   721: together 4780
+--   199, arguments 191, reads 18, pairs 48, calls 204, laws 459, dispatch 210, guovssalu 148, drift 379, theorems
+--   723: together 4779
