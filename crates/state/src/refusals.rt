@@ -1,7 +1,7 @@
 // Document 01's table of refusals: which rows of it hold for a call, and the reply that they give.
 ghost use mathlib.Core.Path.{_≡_};
 ghost use Rattle.units.specs.Reply.{number};
-ghost use Rattle.state.specs.Refusals.{lowest, orShort};
+ghost use Rattle.state.specs.Refusals.{lowest, orShort, rowOf};
 use units::Reply;
 
 // For one call, which of the table's rows hold.
@@ -33,19 +33,32 @@ impl Rows {
 pub fn refusal(rows: Rows) -> Reply
     ensures { λ r. ⌜ number r ≡ lowest rows ⌝ }
 {
-    if rows.stored {
+    row_of(
+        rows.stored,
+        rows.argument,
+        rows.earlier,
+        rows.lower,
+        rows.full,
+    )
+}
+
+// The same of rows one by one, from which the compiler makes shorter code than from a record.
+fn row_of(stored: bool, argument: bool, earlier: bool, lower: bool, full: bool) -> Reply
+    ensures { λ r. ⌜ number r ≡ rowOf stored argument earlier lower full ⌝ }
+{
+    if stored {
         return Reply::OutOfBounds;
     }
-    if rows.argument {
+    if argument {
         return Reply::BadArgument;
     }
-    if rows.earlier {
+    if earlier {
         return Reply::EarlierMoment;
     }
-    if rows.lower {
+    if lower {
         return Reply::LowerTotal;
     }
-    if rows.full {
+    if full {
         return Reply::FullCounter;
     }
     Reply::Done
