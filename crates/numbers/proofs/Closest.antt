@@ -41,8 +41,12 @@ module _ (a b : ℕ) where
   pub closest-tie : a % b * 2 ≡ b → closest a b ≡ a / b + a / b % 2
   closest-tie h = elim cases [ inl c ↦ omega arith | inr (inl c) ↦ c .1 | inr (inr c) ↦ omega arith ]
 
-  pub closest-above : b < a % b * 2 → closest a b ≡ a / b + 1
-  closest-above h = elim cases [ inl c ↦ omega arith | inr (inl c) ↦ omega arith | inr (inr c) ↦ c .1 ]
+  -- above a tie, or at one with an odd quotient, it is the next number up, and otherwise it is not
+  pub closest-up : b < a % b * 2 + a / b % 2 → closest a b ≡ a / b + 1
+  closest-up h = elim cases [ inl c ↦ omega arith | inr (inl c) ↦ omega arith | inr (inr c) ↦ c .1 ]
+
+  pub closest-down : a % b * 2 + a / b % 2 ≤ b → closest a b ≡ a / b
+  closest-down h = elim cases [ inl c ↦ c .1 | inr (inl c) ↦ omega arith | inr (inr c) ↦ omega arith ]
 
 -- where the quotient has at most p digits, the rounded one is at most 2 ^ p
 pub closest-le : (a b c : ℕ) → a / b < c → closest a b ≤ c

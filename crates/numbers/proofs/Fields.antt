@@ -1,12 +1,12 @@
 -- A float that is read from a bit pattern: its value, and what is left of it without its fraction, by its exponent's field and its digits. Assumes nothing.
 use mathlib.Core.Path.{_≡_, refl, sym, ap, _∙_}
-use mathlib.Core.Logic.{inl, inr}
-use mathlib.Core.Bool.{Bool, true, false, not, cond, true≢false}
+use mathlib.Core.Logic.{_⊎_, inl, inr}
+use mathlib.Core.Bool.{Bool, true, false, not, cond, _&&_, true≢false}
 use Prim.Native.Nat.{ℕ, zero, suc, _+_, _-_, _*_, _/_, _%_, _^_, _≤_, _<_, min}
-use native.Mathlib.Nat.{lt-of-lt-of-le, lt-of-le-of-lt, one-mul, mul-one, mul-assoc, add-zero, mul-le-mul-right, div-one, div-eq-of-lt, div-lt-iff-lt-mul, mul-div-cancel, mul-div-mul-right, mul-mod-left, mod-lt, mod-eq-of-lt, min-eq-left, min-eq-right}
+use native.Mathlib.Nat.{lt-of-lt-of-le, lt-of-le-of-lt, one-mul, mul-one, mul-assoc, div-one, div-eq-of-lt, div-lt-iff-lt-mul, mod-lt, mod-eq-of-lt, min-eq-left, min-eq-right}
 use native.Mathlib.Numerals.{sub-one}
 use native.Mathlib.Omega.{arith}
-use lib.Dec.{T, eqb, lit<}
+use lib.Dec.{T, leb, ltb, eqb, lit<}
 use lib.Arith.{le→nltb}
 use lib.Pow.{pow-add, pow-pos, pow-mono, shl-lt, shl-exact, shr-le, le-ones}
 use lib.Bits.{bitAnd, bitOr, and-mask, or-shifted-r}
@@ -16,7 +16,7 @@ use lib.Ieee.Compare.{nan-differs}
 use lib.Ieee.Fits.{down-pos}
 use lib.Ieee.Exact.{HasValue, odd-sign}
 use lib.Ieee.Nearest.{div-same}
-use borrow.Author.Tests.{lt-ltb, le-leb, lt-leb, ne-eqb}
+use borrow.Author.Tests.{leb-true, ltb-true, lt-ltb, le-leb, lt-leb, ne-eqb}
 use Rattle.numbers.proofs.Closest.{le-or-lt, halves}
 use Rattle.numbers.proofs.Rounding.{sizes, same-value}
 
@@ -101,6 +101,29 @@ nothing-above f b h = elim (le-or-lt (top f) b) [
   | inr t ↦ rw (nan-bits f b (rw (mod-eq-of-lt t) h)) tt
 ]
 
+-- ---- how the code tests the range of a pattern: from lo up to hi, and from there to end
+both : (a b : Bool) → (a && b) ≡ true → (a ≡ true) × (b ≡ true)
+both true b h = (refl, h)
+both false b h = absurd (true≢false (sym h))
+
+pub within : (lo hi b : ℕ) → (leb lo b && ltb b hi) ≡ true → (lo ≤ b) × (b < hi)
+within lo hi b h = let t = both (leb lo b) (ltb b hi) h in (leb-true lo b (t .0), ltb-true b hi (t .1))
+
+pub beyond : (hi end b : ℕ) → (leb hi b && leb b end) ≡ true → (hi ≤ b) × (b ≤ end)
+beyond hi end b h = let t = both (leb hi b) (leb b end) h in (leb-true hi b (t .0), leb-true b end (t .1))
+
+pub outside : (lo hi end b : ℕ) → (leb lo b && ltb b hi) ≡ false → (leb hi b && leb b end) ≡ false → (b < lo) ⊎ (end < b)
+outside lo hi end b p q = elim (le-or-lt lo b) [
+  | inr h ↦ inl h
+  | inl h ↦ elim (le-or-lt b end) [
+    | inr g ↦ inr g
+    | inl g ↦ elim (le-or-lt hi b) [
+      | inl k ↦ absurd (true≢false (rw (le-leb hi b k, le-leb b end g) at q))
+      | inr k ↦ absurd (true≢false (rw (le-leb lo b h, lt-ltb b hi k) at p))
+    ]
+  ]
+]
+
 -- ---- the value of a pattern
 -- the digits, with the leading one where the exponent's field is not 0
 abbrev lead : Format → ℕ → ℕ → ℕ
@@ -130,10 +153,6 @@ fields-top : (f : Format) (t : ℕ) → T (not (isNan (ofFields f false (ones f)
 unfolding ofFields isNan
 fields-top binary32 t n = infinite (eqb t 0) n
 fields-top binary64 t n = infinite (eqb t 0) n
-
--- ---- d * 2 ^ x / 2 ^ l is one shift
-shift-right : (d x s l : ℕ) → s + x ≡ l → d * 2 ^ x / 2 ^ l ≡ d / 2 ^ s
-shift-right d x s l e = rw (← e, pow-add) (mul-div-mul-right d (2 ^ s) (pow-pos x))
 
 abbrev pub field : Format → ℕ → ℕ
 field f b = b / hid f
@@ -186,12 +205,20 @@ module _ (f : Format) {b : ℕ} {v : Float} (B : b < top f) (is : ofBits f b ≡
       let less : count < 2 ^ low f = lt-of-lt-of-le count-lt (pow-mono (omega (arith, sizes f))) in
       cut-value 64 v count (2 ^ low f) (pow-pos (low f)) (count-value (omega arith)) ∙ rw (div-eq-of-lt less)
 
-  pub cut-right : emax f ≤ field f b → field f b ≤ suc (low f) → toUnsigned 64 v ≡ digits f b / 2 ^ (suc (low f) - field f b)
-  cut-right l h =
-      let s = suc (low f) - field f b in
-      cut-value 64 v (digits f b * 2 ^ (field f b - 1)) (2 ^ low f) (pow-pos (low f)) (normal (omega (arith, sizes f)) (omega (arith, sizes f)))
-      ∙ rw (shift-right (digits f b) (field f b - 1) s (low f) (omega (arith, sizes f)))
-      (min-eq-left (le-ones 64 (lt-of-le-of-lt (shr-le (digits f b) s) (lt-of-lt-of-le (digits-lt f b) (pow-mono (sizes f .1))))))
+  -- with the digits at the upper end of a word it is one shift
+  pub cut-once : emax f ≤ field f b → field f b ≤ emax f + 63 → toUnsigned 64 v ≡ digits f b * 2 ^ (64 - prec f) % 2 ^ 64 / 2 ^ (emax f + 63 - field f b)
+  cut-once l h =
+      let d = digits f b in
+      let x = field f b - 1 in
+      let t = 64 - prec f in
+      let s = emax f + 63 - field f b in
+      let room : prec f + t ≤ 64 = omega (arith, sizes f) in
+      let e : x + s ≡ t + low f = omega (arith, sizes f) in
+      let same : d * 2 ^ x / 2 ^ low f ≡ d * 2 ^ t / 2 ^ s =
+      div-same (d * 2 ^ x) (2 ^ low f) (d * 2 ^ t) (2 ^ s) (pow-pos (low f)) (pow-pos s) (rw (mul-assoc, mul-assoc, ← pow-add, ← pow-add, e)) in
+      cut-value 64 v (d * 2 ^ x) (2 ^ low f) (pow-pos (low f)) (normal (omega (arith, sizes f)) (omega (arith, sizes f)))
+      ∙ rw (same, shl-exact (prec f) t 64 (digits-lt f b) room)
+      (min-eq-left (le-ones 64 (lt-of-le-of-lt (shr-le (d * 2 ^ t) s) (lt-of-lt-of-le (shl-lt (prec f) t (digits-lt f b)) (pow-mono room)))))
 
   pub cut-left : low f < field f b → field f b ≤ emax f + 63 → toUnsigned 64 v ≡ digits f b * 2 ^ (field f b - suc (low f)) % 2 ^ 64
   cut-left l h =
@@ -211,18 +238,3 @@ module _ (f : Format) {b : ℕ} {v : Float} (B : b < top f) (is : ofBits f b ≡
         cut-value 64 v (digits f b * 2 ^ k) 1 (pow-pos 0) (whole (omega (arith, sizes f)) h)
         ∙ rw (div-one, digits-are f b) (min-eq-right (omega arith))
   ]
-
--- ---- 2 ^ k, for a k up to emax: its exponent's field is emax + k, and its digits are 0
-module _ (f : Format) (k : ℕ) (h : k ≤ emax f) where
-  abbrev pub power : ℕ
-  power = (emax f + k) * hid f
-
-  pub power-lt : power < top f
-  power-lt = omega (arith, mul-le-mul-right (hid f) h, pow-pos (prec f - 1))
-
-  pub power-value : HasValue (ofBits f power) false (2 ^ k) 1
-  power-value =
-      let x : field f power ≡ emax f + k = mul-div-cancel (emax f + k) (pow-pos (prec f - 1)) in
-      same-value (ofBits f power) false (digits f power * 2 ^ (field f power - 1)) (2 ^ low f) (2 ^ k) 1 (pow-pos (low f))
-      (simp (digits-are, x, mul-mod-left, add-zero, mul-one, ← pow-add) (ap (λ (z : ℕ). 2 ^ z) (omega (arith, sizes f))))
-      (normal f power-lt refl (omega (arith, x, sizes f)) (omega (arith, x, sizes f)))

@@ -1,6 +1,7 @@
 -- Laws of the conversions, for the proofs of this crate and of those above it.
 pub mod Closest
 pub mod Rounding
+pub mod Count
 pub mod Spare
 pub mod Fields
 pub mod Away

@@ -11,7 +11,7 @@ use lib.Dec.{T, leb, ltb, eqb, ltb→lt}
 use lib.Pow.{pow-add, pow-pos, pow-lt}
 use lib.Ieee.{Float, nan, inf, fin, Format, binary32, binary64, prec, emax, low, up, down, size, round, mul, ofInt, fits}
 use lib.Ieee.Digits.{size-lt, size-le}
-use lib.Ieee.Fits.{and-l, and-r, down-pos, ofInt-fits, mul-fits}
+use lib.Ieee.Fits.{and-l, and-r, down-pos, ofInt-fits}
 use lib.Ieee.Exact.{HasValue, round-exact}
 use lib.Ieee.Nearest.{closest, closest-same}
 use lib.Ieee.Order.{drop, kept}
@@ -129,13 +129,15 @@ ofInt-is f n = refl
 pub whole-value : (f : Format) (n : ℕ) → n ≤ 2 ^ prec f → HasValue (ofInt f (pos n)) false n 1
 whole-value f n h = rw ofInt-is (round-whole f false n h)
 
--- the digits that are kept, rounded, as a float, times 2 ^ k
-pub of-cut : (f : Format) (n k : ℕ) (y : Float) → Cut (prec f) n k → prec f + k ≤ emax f → HasValue y false (2 ^ k) 1
-    → mul f (ofInt f (pos (closest n (2 ^ k)))) y ≡ ofInt f (pos n)
-of-cut f n k y c g v =
-    let m = closest n (2 ^ k) in
-    let M : m ≤ 2 ^ prec f = closest-le n (2 ^ k) (2 ^ prec f) (c .0) in
-    let x = ofInt f (pos m) in
-    whole-unique f (mul f x y) (ofInt f (pos n)) false (m * 2 ^ k) (mul-fits f x y) (ofInt-fits f (pos n))
-    (rw (mul-value f x y m 1 (2 ^ k) 1 (pow-pos 0) (pow-pos 0) (whole-value f m M) v) (whole-kept f m k M g))
-    (rw (ofInt-is f n) (round-cut f n k c g))
+-- ---- a product with a power of two loses nothing, up to the format's end
+pub times-power : (f : Format) (x y : Float) (m i j : ℕ) → m ≤ 2 ^ prec f → prec f + (i + j) ≤ emax f
+    → HasValue x false (m * 2 ^ i) 1 → HasValue y false (2 ^ j) 1 → HasValue (mul f x y) false (m * 2 ^ (i + j)) 1
+times-power f x y m i j h g v w =
+    let e : m * 2 ^ i * 2 ^ j ≡ m * 2 ^ (i + j) = rw (pow-add, mul-assoc) in
+    rw (mul-value f x y (m * 2 ^ i) 1 (2 ^ j) 1 (pow-pos 0) (pow-pos 0) v w, e) (whole-kept f m (i + j) h g)
+
+-- ---- the digits that are kept, rounded, in their place are the number's float
+pub of-cut : (f : Format) (n k : ℕ) (x : Float) → Cut (prec f) n k → prec f + k ≤ emax f → T (fits f x)
+    → HasValue x false (closest n (2 ^ k) * 2 ^ k) 1 → x ≡ ofInt f (pos n)
+of-cut f n k x c g F v =
+    whole-unique f x (ofInt f (pos n)) false (closest n (2 ^ k) * 2 ^ k) F (ofInt-fits f (pos n)) v (rw (ofInt-is f n) (round-cut f n k c g))

@@ -13,26 +13,19 @@ pub fn to_u64(x: f32) -> u64
     pattern_to_u64(f32::to_bits(x))
 }
 
-// The same of a pattern. Those above an infinity's are a NaN's or have the sign.
+// The same of a pattern: from 1 up to 2^64 its digits at the upper end of a word, shifted down. From
+// there to an infinity's it is too large; those above are a NaN's or have the sign.
 pub fn pattern_to_u64(bits: u32) -> u64
     ensures { λ r. ⌜ r ≡ floatToInt 64 (ofBits binary32 bits) ⌝ }
 {
-    if bits > 0x7f80_0000 {
-        return 0;
+    if (0x3f80_0000 <= bits) & (bits < 0x5f80_0000) {
+        let digits: u64 = ((bits & 0x7f_ffff) | 0x80_0000) as u64;
+        return (digits << 40) >> (190 - (bits >> 23));
     }
-    let exponent: u32 = bits >> 23;
-    if exponent < 127 {
-        return 0;
-    }
-    if exponent > 190 {
+    if (0x5f80_0000 <= bits) & (bits <= 0x7f80_0000) {
         return 0xffff_ffff_ffff_ffff;
     }
-    let digits: u64 = ((bits & 0x7f_ffff) | 0x80_0000) as u64;
-    if exponent <= 150 {
-        digits >> (150 - exponent)
-    } else {
-        digits << (exponent - 150)
-    }
+    0
 }
 
 // x to the nearest whole number, a half away from zero; 0 for a NaN or a negative, 2^64 - 1 for
@@ -46,24 +39,20 @@ pub fn round_to_u64(x: f64) -> u64
     pattern_round_to_u64(f64::to_bits(x))
 }
 
-// The same of a pattern.
+// The same of a pattern: from 1/2 up to 2^64, from there to an infinity's, and the others.
 pub fn pattern_round_to_u64(bits: u64) -> u64
     ensures { λ r. ⌜ r ≡ floatToInt 64 (roundAway binary64 (ofBits binary64 bits)) ⌝ }
 {
-    if bits > 0x7ff0_0000_0000_0000 {
-        return 0;
+    if (0x3fe0_0000_0000_0000 <= bits) & (bits < 0x43f0_0000_0000_0000) {
+        let exponent: u64 = bits >> 52;
+        let digits: u64 = (bits & 0xf_ffff_ffff_ffff) | 0x10_0000_0000_0000;
+        if exponent < 1075 {
+            return (digits + (1 << (1074 - exponent))) >> (1075 - exponent);
+        }
+        return digits << (exponent - 1075);
     }
-    let exponent: u64 = bits >> 52;
-    if exponent < 1022 {
-        return 0;
-    }
-    if exponent > 1086 {
+    if (0x43f0_0000_0000_0000 <= bits) & (bits <= 0x7ff0_0000_0000_0000) {
         return 0xffff_ffff_ffff_ffff;
     }
-    let digits: u64 = (bits & 0xf_ffff_ffff_ffff) | 0x10_0000_0000_0000;
-    if exponent < 1075 {
-        (digits + (1 << (1074 - exponent))) >> (1075 - exponent)
-    } else {
-        digits << (exponent - 1075)
-    }
+    0
 }

@@ -1,33 +1,45 @@
--- `numbers::pattern_to_u64` meets its contract: each branch is a law of `proofs/Fields.antt`. Assumes nothing.
+-- `numbers::pattern_to_u64` meets its contract: each range of patterns is a law of `proofs/Fields.antt`. Assumes nothing.
 use borrow.Author.Needs.{needs}
-use mathlib.Core.Path.{refl, sym}
-use native.Mathlib.Nat.{le-of-lt}
+use mathlib.Core.Bool.{true, _&&_}
+use mathlib.Core.Path.{_≡_, refl, sym}
+use mathlib.Core.Logic.{inl, inr}
+use Prim.Native.Nat.{ℕ, _/_, _≤_, _<_}
 use native.Mathlib.Omega.{arith}
-use lib.Ieee.{binary32}
-use Rattle.numbers.proofs.Fields.{cut-nothing, nothing-above, below-top, plain-float, digits-lt, cut-small, cut-large, cut-right, cut-left}
+use lib.Dec.{leb, ltb}
+use lib.Ieee.{binary32, top}
+use Rattle.numbers.proofs.Fields.{within, beyond, outside, cut-nothing, nothing-above, below-top, plain-float, digits-lt, cut-small, cut-large, cut-once}
 use Rattle.numbers.proofs.float_to_int.pattern_to_u64.Statement.{statement}
 use Rattle.numbers.proofs.float_to_int.pattern_to_u64.Tie as tie
 
-returns : tie.Need-returns
-returns c = sym (cut-nothing 64 _ (nothing-above binary32 _ (c .if1 .taken)))
-
-returns-2 : tie.Need-returns-2
-returns-2 c = sym (cut-small binary32 (below-top binary32 (c .before .if1 .left)) refl (c .if2 .taken))
-
-returns-3 : tie.Need-returns-3
-returns-3 c = sym (cut-large binary32 (below-top binary32 (c .before .before .if1 .left)) refl (c .if3 .taken) (plain-float binary32 _ (c .before .before .if1 .left)))
+-- from 1 up to 2^64: the exponent's field, and no sign
+exponent : (b : ℕ) → (leb 0x3f80_0000 b && ltb b 0x5f80_0000) ≡ true → (127 ≤ b / 0x80_0000) × (b / 0x80_0000 ≤ 190) × (b < top binary32)
+exponent b h = let t = within 0x3f80_0000 0x5f80_0000 b h in omega (arith, t .0, t .1)
 
 cast-digits : tie.Need-cast-digits
-cast-digits c = omega (arith, digits-lt binary32 (c .before .before .before .args .bits))
+cast-digits c = omega (arith, digits-lt binary32 (c .before .args .bits))
 
-returns-4 : tie.Need-returns-4
-returns-4 c = sym (cut-right binary32 (below-top binary32 (c .before .before .before .if1 .left)) refl (c .before .before .if2 .left) (c .if4 .taken))
+sub-result : tie.Need-sub-result
+sub-result c = exponent (c .before .args .bits) (c .if1 .taken) .1
 
-returns-5 : tie.Need-returns-5
-returns-5 c = sym (cut-left binary32 (below-top binary32 (c .before .before .before .if1 .left)) refl (le-of-lt (c .if4 .left)) (c .before .if3 .left))
+shr-result : tie.Need-shr-result
+shr-result c = omega (arith, exponent (c .before .args .bits) (c .if1 .taken) .0)
+
+returns : tie.Need-returns
+returns c = let e = exponent (c .before .args .bits) (c .if1 .taken) in sym (cut-once binary32 (e .2) refl (e .0) (e .1))
+
+returns-2 : tie.Need-returns-2
+returns-2 c =
+    let b = c .before .before .args .bits in
+    let t = beyond 0x5f80_0000 0x7f80_0000 b (c .if2 .taken) in
+    sym (cut-large binary32 (below-top binary32 (t .1)) refl (omega (arith, t .0)) (plain-float binary32 b (t .1)))
+
+returns-3 : tie.Need-returns-3
+returns-3 c =
+    let b = c .before .before .args .bits in
+    elim (outside 0x3f80_0000 0x5f80_0000 0x7f80_0000 b (c .before .if1 .left) (c .if2 .left)) [
+      | inl h ↦ sym (cut-small binary32 (omega arith) refl (omega arith))
+      | inr h ↦ sym (cut-nothing 64 _ (nothing-above binary32 b h))
+    ]
 
 pub pattern-to-u64-spec : {M : Type 1} → statement M
-pattern-to-u64-spec =
-    tie.close
-    (tie.spec returns returns-2 returns-3 cast-digits
-    (λ c. search needs) (λ c. search needs) (λ c. search needs) (λ c. search needs) (λ c. search needs) returns-4 returns-5)
+pattern-to-u64-spec = tie.close (tie.spec cast-digits sub-result (λ c. search needs) shr-result returns returns-2 returns-3)
