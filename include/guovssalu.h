@@ -28,7 +28,7 @@ extern "C" {
 
 #define GUOVSSALU_VERSION_MAJOR 0
 #define GUOVSSALU_VERSION_MINOR 2
-#define GUOVSSALU_VERSION_PATCH 0
+#define GUOVSSALU_VERSION_PATCH 1
 
 /* The layout's number. It is raised when a call takes other arguments, or a word of a state, a call
  * or an answer gets another place or meaning: a state that was kept is for its own number alone. */

@@ -7,8 +7,10 @@ elif ! [ -d "$original/src/recovery" ] && ! [ -d "$original/quiche/src/recovery"
     missing="the original is not in $original"
 fi
 
-oracle=target/oracle/release/oracle
+# It is built in target/oracle, or in the folder, by its full path, that the variable ORACLE_TARGET names.
+built=${ORACLE_TARGET:-$PWD/target/oracle}
+oracle=$built/release/oracle
 build_oracle() {
-    ORIGINAL=$(cd "$original" && pwd) CARGO_TARGET_DIR=$PWD/target/oracle \
+    ORIGINAL=$(cd "$original" && pwd) CARGO_TARGET_DIR=$built \
         cargo build --release --quiet --manifest-path oracle/Cargo.toml
 }
