@@ -24,7 +24,7 @@ build_oracle
 total=0
 
 # Fresh frames from a seed, so many calls, answered by the original alone, are held to what `serve` writes on them:
-# `rt try` builds it without proof, since `rt ci` proves it after this. What counts are the ways of building it that are
+# `rt try` builds it without proof, since `rt ci` proves it. What counts are the ways of building it that are
 # named: `rt try` itself ends with 1 where the interpreter stops before so many calls are made.
 tried() {
     seed=$1 calls=$2

@@ -326,11 +326,18 @@ def word_in(text):
     return (int(found.group(1)) / WORD_BYTES, False) if found else None
 
 
-def used(text, named):
-    """The words that an expression uses, in order, by the names of what was read and as they are."""
+def used(text, words):
+    """The words that an expression uses, by the names of what was read and as they are."""
     mentioned = re.findall(r"\bfloat_of\(n\[\d+\]\)|\bn\[\d+\]|\b[a-z]\w*\b(?!\(|::)", text)
-    words = [named.get(name) or word_in(name) for name in mentioned]
-    return list(dict.fromkeys(word for word in words if word))
+    return [word for word in (words.get(name) or word_in(name) for name in mentioned) if word]
+
+
+def handed_on(text, call, words):
+    """The word of each argument with which a call is made, an argument that uses several by the last: those before it are
+    only tested."""
+    at = re.search(rf"\b{call}\(", text)
+    given = [used(part, words) for part in split(closed(text, at.end() - 1), ",")] if at else []
+    return [found[-1] for found in given if found]
 
 
 def check_given(table, where, name, stands, order=None):
@@ -342,28 +349,43 @@ def check_given(table, where, name, stands, order=None):
         yield f"{where}: {name}: words {said(stands)} are handed on there, and should be {said(due)}"
 
 
+def parameters(path, function):
+    """The names of a function's parameters, or nothing where there is no such function."""
+    text = code(path)
+    found = re.search(rf"\bfn {function}\(", text)
+    return [part.split(":")[0] for part in split(closed(text, found.end() - 1), ",")] if found else None
+
+
+def check_passed(path):
+    """What a choice passes on to a further choice of its file keeps its name."""
+    for found in re.finditer(r"\b_ => (\w+)\(([^()]*)\)", code(path)):
+        due, stands = parameters(path, found.group(1)), split(found.group(2), ",")
+        if due is not None and stands != due:
+            yield f"{line_of(path, found.group(0))}: {', '.join(stands)} is handed on to {found.group(1)}, and should be {', '.join(due)}"
+
+
 def check_arguments(table, handed, choosers, knowing):
     """Every call is given its arguments from their words."""
     seen = set()
     names = {int(row["number"]): row["name"] for row in table.rows("calls")}
     text = code(handed)
     for chooser, path in choosers.items():
-        at = re.search(rf"\b{chooser}\(", text)
-        takes = re.search(rf"\bfn {chooser}\(", code(path))
-        if not at or not takes:
+        at, takes = re.search(rf"\b{chooser}\(", text), parameters(path, chooser)
+        if not at or takes is None:
             yield f"{handed}: {chooser} of {path} stands in one of the two and not in both"
             continue
-        parameters = [part.split(":")[0] for part in split(closed(code(path), takes.end() - 1), ",")]
         given = [word_in(part) for part in split(closed(text, at.end() - 1), ",")]
-        named = {name: word for name, word in zip(parameters, given) if word and word[0]}
+        words = {name: word for name, word in zip(takes, given) if word and word[0]}
         for number, called in choices(path):
-            yield from check_given(table, line_of(path, called), names[number], used(called, named))
-            seen.add(names[number])
+            # a number of no call is said by check_choices
+            if number in names:
+                yield from check_given(table, line_of(path, called), names[number], handed_on(called, names[number], words))
+                seen.add(names[number])
+        yield from check_passed(path)
     for path, function, call, name, order in knowing:
-        body = functions(path)[function]
-        named = {found: word_in(value) for found, value in re.findall(r"\blet (\w+) = (.*);", body) if word_in(value)}
-        at = re.search(rf"\b{call}\(", body)
-        yield from check_given(table, f"{path}: {function}", name, used(closed(body, at.end() - 1), named) if at else [], order)
+        body = functions(path).get(function, "")
+        words = {found: word_in(value) for found, value in re.findall(r"\blet (\w+) = (.*);", body) if word_in(value)}
+        yield from check_given(table, f"{path}: {function}", name, handed_on(body, call, words), order)
         seen.add(name)
     for name in sorted({row["call"] for row in table.rows("arguments")} - seen):
         yield f"{handed}: nothing stands there or in the files beside it that hands on the arguments of {name}"

@@ -10,6 +10,7 @@ case: the port's side, then the original's. The loop around the calls, the same 
 import glob
 import os
 import re
+import shutil
 import subprocess
 import sys
 import tempfile
@@ -27,6 +28,8 @@ def totals(folder):
 
 
 def main(bench, words):
+    if not shutil.which("valgrind"):
+        raise SystemExit("instructions: there is no valgrind here")
     with tempfile.TemporaryDirectory() as folder:
         said = subprocess.run(
             ["valgrind", "--quiet", "--tool=callgrind", "--toggle-collect=counted", "--dump-after=counted",

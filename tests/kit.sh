@@ -1,7 +1,7 @@
 #!/bin/sh
-# Compares the kit with those that the file KIT names, one to a line, by which this was proved so far. Another logic fails, since
-# what is proved is proved by it; another build of the kit with one of their logics is only said. `rt version >>KIT` takes
-# one more.
+# Compares the kit with those that the file KIT names, one to a line, by which this was proved so far. Another logic
+# fails, since what is proved is proved by it; another build of the kit with one of their logics is only said.
+# `rt version >>KIT` takes one more.
 set -eu
 cd "$(dirname "$0")/.."
 found=$(rt version)

@@ -3,8 +3,7 @@
 use std::arch::asm;
 use std::arch::global_asm;
 
-// As the archive's functions are: of another object, and with nothing in it that could be compiled
-// into the caller.
+// As the archive's functions are: nothing of it can be compiled into the caller.
 global_asm!(".globl bench_empty", "bench_empty:", "mov rax, rdi", "ret");
 
 extern "C" {

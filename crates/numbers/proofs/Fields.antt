@@ -106,8 +106,8 @@ both : (a b : Bool) → (a && b) ≡ true → (a ≡ true) × (b ≡ true)
 both true b h = (refl, h)
 both false b h = absurd (true≢false (sym h))
 
-pub within : (lo hi b : ℕ) → (leb lo b && ltb b hi) ≡ true → (lo ≤ b) × (b < hi)
-within lo hi b h = let t = both (leb lo b) (ltb b hi) h in (leb-true lo b (t .0), ltb-true b hi (t .1))
+pub in-range : (lo hi b : ℕ) → (leb lo b && ltb b hi) ≡ true → (lo ≤ b) × (b < hi)
+in-range lo hi b h = let t = both (leb lo b) (ltb b hi) h in (leb-true lo b (t .0), ltb-true b hi (t .1))
 
 pub beyond : (hi end b : ℕ) → (leb hi b && leb b end) ≡ true → (hi ≤ b) × (b ≤ end)
 beyond hi end b h = let t = both (leb hi b) (leb b end) h in (leb-true hi b (t .0), leb-true b end (t .1))

@@ -1,5 +1,5 @@
--- What a float is made of, once the digits beyond the format's are counted (`of-spare`): those that are kept, rounded, times the place of the last of them, 2 ^ k, in two steps,
--- since a number that is cast to a float may not be larger than those that a float holds without a gap. Assumes nothing.
+-- What a float is made of, once the digits beyond the format's are counted (`of-spare`): those that are kept, rounded, times the place of the last of them, 2 ^ k. The place is
+-- taken in two steps, since a number beyond those that a float holds without a gap can't be cast. Assumes nothing.
 use mathlib.Core.Path.{_≡_, refl}
 use mathlib.Core.Bool.{false}
 use Prim.Native.Nat.{ℕ, _+_, _*_, _^_, _≤_, _<_}

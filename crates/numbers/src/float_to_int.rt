@@ -13,8 +13,8 @@ pub fn to_u64(x: f32) -> u64
     pattern_to_u64(f32::to_bits(x))
 }
 
-// The same of a pattern: from 1 up to 2^64 its digits at the upper end of a word, shifted down. From
-// there to an infinity's it is too large; those above are a NaN's or have the sign.
+// The same of a pattern. Below 1's it is 0, from 2^64's to an infinity's too large; those above are a
+// NaN's or have the sign.
 pub fn pattern_to_u64(bits: u32) -> u64
     ensures { λ r. ⌜ r ≡ floatToInt 64 (ofBits binary32 bits) ⌝ }
 {
@@ -39,7 +39,7 @@ pub fn round_to_u64(x: f64) -> u64
     pattern_round_to_u64(f64::to_bits(x))
 }
 
-// The same of a pattern: from 1/2 up to 2^64, from there to an infinity's, and the others.
+// The same of a pattern, likewise from 1/2's on.
 pub fn pattern_round_to_u64(bits: u64) -> u64
     ensures { λ r. ⌜ r ≡ floatToInt 64 (roundAway binary64 (ofBits binary64 bits)) ⌝ }
 {

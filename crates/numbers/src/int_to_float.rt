@@ -43,11 +43,12 @@ pub fn to_f32(n: u64) -> f32
     }
     let k: u64 = spare_digits(n, 24);
     let digits: u64 = round_shift(n, k);
-    let unit: u64 = (1 << k) >> 24;
-    (digits as f32) * (unit as f32) * 16777216.0
+    let place: u64 = (1 << k) >> 24;
+    (digits as f32) * (place as f32) * 16777216.0
 }
 
-// The same of a number of 48 digits: each half of 24 is a float as it is, and only the sum rounds.
+// The same of a number of at most 48 digits: each half of 24 is a float as it is, and only the sum
+// rounds.
 fn of_halves(n: u64) -> f32
     requires { ⌜ n < 0x1_0000_0000_0000 ⌝ }
     ensures { λ r. ⌜ r ≡ intToFloat binary32 n ⌝ }

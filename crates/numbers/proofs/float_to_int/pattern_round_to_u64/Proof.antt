@@ -8,7 +8,7 @@ use native.Mathlib.Omega.{arith}
 use lib.Dec.{leb, ltb}
 use lib.Ieee.{binary64, top}
 use lib.Ieee.Bits.{ofBits-fits}
-use Rattle.numbers.proofs.Fields.{within, beyond, outside, nothing-above, below-top, plain-float, digits-lt}
+use Rattle.numbers.proofs.Fields.{in-range, beyond, outside, nothing-above, below-top, plain-float, digits-lt}
 use Rattle.numbers.proofs.Away.{away-nothing, away-small, away-large, half-lt, away-right, away-left}
 use Rattle.numbers.proofs.float_to_int.pattern_round_to_u64.Statement.{statement}
 use Rattle.numbers.proofs.float_to_int.pattern_round_to_u64.Tie as tie
@@ -16,7 +16,7 @@ use Rattle.numbers.proofs.float_to_int.pattern_round_to_u64.Tie as tie
 -- from 1/2 up to 2^64: the exponent's field, and no sign
 exponent : (b : ℕ) → (leb 0x3fe0_0000_0000_0000 b && ltb b 0x43f0_0000_0000_0000) ≡ true
     → (1022 ≤ b / 0x10_0000_0000_0000) × (b / 0x10_0000_0000_0000 ≤ 1086) × (b < top binary64)
-exponent b h = let t = within 0x3fe0_0000_0000_0000 0x43f0_0000_0000_0000 b h in omega (arith, t .0, t .1)
+exponent b h = let t = in-range 0x3fe0_0000_0000_0000 0x43f0_0000_0000_0000 b h in omega (arith, t .0, t .1)
 
 shl-result : tie.Need-shl-result
 shl-result c = omega (arith, exponent (c .before .before .args .bits) (c .before .if1 .taken) .0)

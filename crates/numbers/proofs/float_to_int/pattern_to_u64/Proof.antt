@@ -7,13 +7,13 @@ use Prim.Native.Nat.{ℕ, _/_, _≤_, _<_}
 use native.Mathlib.Omega.{arith}
 use lib.Dec.{leb, ltb}
 use lib.Ieee.{binary32, top}
-use Rattle.numbers.proofs.Fields.{within, beyond, outside, cut-nothing, nothing-above, below-top, plain-float, digits-lt, cut-small, cut-large, cut-once}
+use Rattle.numbers.proofs.Fields.{in-range, beyond, outside, cut-nothing, nothing-above, below-top, plain-float, digits-lt, cut-small, cut-large, cut-once}
 use Rattle.numbers.proofs.float_to_int.pattern_to_u64.Statement.{statement}
 use Rattle.numbers.proofs.float_to_int.pattern_to_u64.Tie as tie
 
 -- from 1 up to 2^64: the exponent's field, and no sign
 exponent : (b : ℕ) → (leb 0x3f80_0000 b && ltb b 0x5f80_0000) ≡ true → (127 ≤ b / 0x80_0000) × (b / 0x80_0000 ≤ 190) × (b < top binary32)
-exponent b h = let t = within 0x3f80_0000 0x5f80_0000 b h in omega (arith, t .0, t .1)
+exponent b h = let t = in-range 0x3f80_0000 0x5f80_0000 b h in omega (arith, t .0, t .1)
 
 cast-digits : tie.Need-cast-digits
 cast-digits c = omega (arith, digits-lt binary32 (c .before .args .bits))

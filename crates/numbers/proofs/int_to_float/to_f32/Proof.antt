@@ -1,6 +1,6 @@
--- `numbers::to_f32` meets its contract: what the float holds is cast as it is; a number of 48 digits by its halves; otherwise the laws of `proofs/Spare.antt`. Assumes nothing.
+-- `numbers::to_f32` meets its contract: what the float holds is cast as it is; one of at most 48 digits by its halves; otherwise the laws of `proofs/Spare.antt`. Assumes nothing.
 use borrow.Author.Needs.{needs}
-use mathlib.Core.Path.{_≡_, refl, ap, _∙_}
+use mathlib.Core.Path.{_≡_, refl}
 use Prim.Native.Nat.{ℕ, _+_, _-_, _*_, _/_, _%_, _^_, _≤_}
 use native.Mathlib.Nat.{mul-div-cancel}
 use native.Mathlib.Omega.{arith}
@@ -17,8 +17,8 @@ module _ {n k : ℕ} (s : Spare 24 n k) (h : 2 ^ 48 ≤ n) where
   split : k - 24 + 24 ≡ k
   split = omega (arith, spare-more 24 24 s h)
 
-  unit : 1 * 2 ^ k % 2 ^ 64 / 2 ^ 24 ≡ 2 ^ (k - 24)
-  unit =
+  place : 1 * 2 ^ k % 2 ^ 64 / 2 ^ 24 ≡ 2 ^ (k - 24)
+  place =
       let e : 2 ^ k ≡ 2 ^ (k - 24) * 2 ^ 24 = rw (← pow-add, split) in
       rw (one-shifted k (omega (arith, s .few)), e) (mul-div-cancel (2 ^ (k - 24)) (pow-pos 24))
 
@@ -31,13 +31,13 @@ int-to-float-result-2 c = kept-in-float binary32 (c .before .before .spare-digit
 int-to-float-result-3 : tie.Need-int-to-float-result-3
 int-to-float-result-3 c =
     let s = c .before .before .before .spare-digits .ensures in
-    whole-in-float binary32 _ (rw (unit s (c .before .before .before .before .if2 .left)) (pow-mono {j = 24} (omega (arith, s .few))))
+    whole-in-float binary32 _ (rw (place s (c .before .before .before .before .if2 .left)) (pow-mono {j = 24} (omega (arith, s .few))))
 
 returns-3 : tie.Need-returns-3
 returns-3 c =
     let s = c .before .before .before .spare-digits .ensures in
     let h = c .before .before .before .before .if2 .left in
-    rw (unit s h) (of-spare binary32 s (c .before .before .round-shift .ensures) _ 24 _ (split s h) (omega (arith, s .few)) (rw two-to-24 (refl, refl)))
+    rw (place s h) (of-spare binary32 s (c .before .before .round-shift .ensures) _ 24 _ (split s h) (omega (arith, s .few)) (rw two-to-24 (refl, refl)))
 
 pub to-f32-spec : {M : Type 1} → statement M
 to-f32-spec =
