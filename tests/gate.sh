@@ -34,11 +34,9 @@ else
     comparison=$!
 fi
 
-# Crates of one level, and edits, are proved in batches, and the next batch when all of the last are done: with four in a
-# batch two cores wait less than with two.
 {
     status=0
-    RT_JOBS=${RT_JOBS:-4} rt ci || status=$?
+    rt ci || status=$?
     echo $status >"$work/status"
 } | tee "$work/said"
 
