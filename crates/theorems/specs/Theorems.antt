@@ -167,5 +167,5 @@ pub record Theorems : Type 0 where
 -- document 01, the original and docs/LAYOUT.md: all files of specs/ to which `use` lines lead from here, with their
 -- remarks. A script of the gate counts their lines (tests/contracts.py):
 --   numbers 257, units 71, filters 240, words 129, state 657, layout 215, events 362, phases 208, changes 61, judge
---   199, arguments 191, reads 18, pairs 48, calls 204, laws 459, dispatch 210, guovssalu 148, drift 379, theorems
+--   199, arguments 191, reads 18, pairs 48, calls 204, laws 459, drift 379, dispatch 210, guovssalu 148, theorems
 --   723: together 4779
