@@ -27,8 +27,8 @@ extern "C" {
 /* ---- The version. The file VERSION has it. */
 
 #define GUOVSSALU_VERSION_MAJOR 0
-#define GUOVSSALU_VERSION_MINOR 2
-#define GUOVSSALU_VERSION_PATCH 1
+#define GUOVSSALU_VERSION_MINOR 3
+#define GUOVSSALU_VERSION_PATCH 0
 
 /* The layout's number. It is raised when a call takes other arguments, or a word of a state, a call
  * or an answer gets another place or meaning: a state that was kept is for its own number alone. */
@@ -85,13 +85,23 @@ uint64_t guovssalu_to_bytes_per_period(uint64_t bandwidth, uint64_t nanos);
 uint64_t guovssalu_raise_inflight_high_slope(uint64_t rounds, uint64_t window, uint8_t *out,
                                              size_t out_len);
 
-/* ---- The windowed filter. */
+/* ---- The windowed filter.
+ *
+ * The words that a run wrote for its pair i, of pairs 0, 1, ..:
+ *
+ *     uint64_t after[GUOVSSALU_SAMPLES_WORDS];
+ *     memcpy(after, out + i * GUOVSSALU_SAMPLES_BYTES, sizeof after);
+ *
+ * after[GUOVSSALU_SAMPLES_BEST] is then the best sample, and after[GUOVSSALU_SAMPLES_REASON] says why
+ * it moved or stayed: GUOVSSALU_REASON_PROMOTED_ONCE, say, where the one before it was too old. */
 
 /* Runs an empty filter of the given window over pairs of words, a time and a sample,
- * GUOVSSALU_PAIR_BYTES to a pair. For each pair it writes three words, GUOVSSALU_SAMPLES_BYTES: the
- * best, the second best and the third best sample after that pair. Bytes past the answer keep what
- * they held. Replies 2 for a part of a pair, 3 if a pair's time is earlier than one of the three
- * times that the filter holds then, 7 for an output too short for the pairs. */
+ * GUOVSSALU_PAIR_BYTES to a pair. For each pair it writes four words, GUOVSSALU_SAMPLES_BYTES: the
+ * best, the second best and the third best sample after that pair, and in the word
+ * GUOVSSALU_SAMPLES_REASON why they moved. That is the step of the update that acted last, by its
+ * number: GUOVSSALU_REASON_ALL_REPLACED to GUOVSSALU_REASON_UNCHANGED. Bytes past the answer keep
+ * what they held. Replies 2 for a part of a pair, 3 if a pair's time is earlier than one of the three
+ * times that the filter holds then, 7 for an output of under GUOVSSALU_SAMPLES_BYTES a pair. */
 uint64_t guovssalu_filter_run(uint64_t window, const uint8_t *src, size_t src_len, uint8_t *out,
                               size_t out_len);
 
@@ -121,8 +131,8 @@ enum {
     GUOVSSALU_ANSWER_BYTES = 144,
     GUOVSSALU_PAIR_WORDS = 2,
     GUOVSSALU_PAIR_BYTES = 16,
-    GUOVSSALU_SAMPLES_WORDS = 3,
-    GUOVSSALU_SAMPLES_BYTES = 24,
+    GUOVSSALU_SAMPLES_WORDS = 4,
+    GUOVSSALU_SAMPLES_BYTES = 32,
     GUOVSSALU_SLOPE_WORDS = 2,
     GUOVSSALU_SLOPE_BYTES = 16,
     GUOVSSALU_MOST_ACKED = 3
@@ -349,8 +359,21 @@ enum {
     GUOVSSALU_SAMPLES_BEST = 0,          /* number */
     GUOVSSALU_SAMPLES_SECOND = 1,        /* number */
     GUOVSSALU_SAMPLES_THIRD = 2,         /* number */
+    GUOVSSALU_SAMPLES_REASON = 3,        /* reason */
     GUOVSSALU_SLOPE_PROBE_UP_ROUNDS = 0, /* number */
     GUOVSSALU_SLOPE_PROBE_UP_BYTES = 1   /* bytes */
+};
+
+/* Why the filter's estimates moved, its word GUOVSSALU_SAMPLES_REASON: the step that acted last. */
+enum {
+    GUOVSSALU_REASON_ALL_REPLACED = 0,    /* step 1: empty, a sample above the best, or a third older than the window */
+    GUOVSSALU_REASON_SECOND_RAISED = 1,   /* step 2: the sample is above the second, and no later step acted */
+    GUOVSSALU_REASON_THIRD_RAISED = 2,    /* step 2: the sample is above the third, and no later step acted */
+    GUOVSSALU_REASON_PROMOTED_ONCE = 3,   /* step 3: the best was older than the window, and the second took its place */
+    GUOVSSALU_REASON_PROMOTED_TWICE = 4,  /* step 3: so was the second, and the third took the place */
+    GUOVSSALU_REASON_QUARTER_REFRESH = 5, /* step 4: the second equalled the best, and was older than a quarter of the window */
+    GUOVSSALU_REASON_HALF_REFRESH = 6,    /* step 5: the third equalled the second, and was older than half of the window */
+    GUOVSSALU_REASON_UNCHANGED = 7        /* no step acted: the filter is as it was */
 };
 /* -- end -- */
 

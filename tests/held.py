@@ -1,5 +1,5 @@
 """Holds the Rattle source and its definitions to docs/calls.txt: the numbers of calls, the places and forms of words,
-the sizes, the replies. tests/table.py calls `faults`; the lists below say where to look.
+the sizes, the replies, the reasons. tests/table.py calls `faults`; the lists below say where to look.
 
 Each check takes paths and gives lines: file, what stands there, what should. Of the words it is reading that is held:
 that what was written is read back as it was is proved (crates/dispatch/specs/RoundTrip.antt). Of the calls' arguments it is
@@ -91,11 +91,14 @@ SIZED = [f"crates/{crate}/{folder}/*" for crate in ("words", "layout", "argument
 # Where a number above every word and every call, and below 1000, is a size, or one of these: bits of a word, values of a
 # byte, and what is the program `serve`'s own (oracle/README.md, "The frames").
 COUNTED = SIZED + ["crates/serve/src/*"]
-OTHERS = {64, 256} | {98, 99, 100, 165, 360, 528}
+OTHERS = {64, 256} | {98, 99, 100, 165, 272, 528}
 # Worked examples, and a count of lines.
 NOT_COUNTED = ["crates/guovssalu/specs/Examples.antt", "crates/theorems/specs/Examples.antt", "crates/theorems/specs/Theorems.antt"]
-# The replies' numbers.
-REPLIES = ["crates/units/src/reply.rt", "crates/units/specs/Reply.antt"]
+# Where the numbers of a section's names stand: `Reply::Done => 0` in the source, `number Done = 0` in definitions.
+NUMBERED = [
+    ("replies", "Reply", "number", ["crates/units/src/reply.rt", "crates/units/specs/Reply.antt"]),
+    ("reasons", "Reason", "reasonNumber", ["crates/filters/src/windowed_filter.rt", "crates/filters/specs/Reason.antt"]),
+]
 
 
 # ---- reading
@@ -431,10 +434,11 @@ def check_numbers(table, paths, others):
                     yield f"{path}:{number}: {value} stands there, and is no size, word or call of {PATH}"
 
 
-def check_replies(table, paths):
-    due = {row["name"]: int(row["number"]) for row in table.rows("replies")}
+def check_numbered(table, section, kind, function, paths):
+    due = {row["name"]: int(row["number"]) for row in table.rows(section)}
     for path in paths:
-        stands = {name: int(number) for name, number in re.findall(r"(?:Reply::(?=\w+ =>)|^number )(\w+) =>? (\d+)", code(path), re.M)}
+        pairs = re.findall(rf"(?:{kind}::(?=\w+ =>)|^{function} )(\w+) =>? (\d+)", code(path), re.M)
+        stands = {name: int(number) for name, number in pairs}
         for name in sorted(set(due) | set(stands)):
             if due.get(name) != stands.get(name):
                 yield f"{path}: {name} is {stands.get(name)} there, and should be {due.get(name)}"
@@ -454,7 +458,8 @@ def named():
     yield from (path for paths in ROWS.values() for path in paths)
     yield from (path for path, *_ in READERS + FORMS + KNOWING)
     yield from [HANDED, *CHOOSERS.values()]
-    yield from NOT_COUNTED + REPLIES
+    yield from NOT_COUNTED
+    yield from (path for *_, paths in NUMBERED for path in paths)
 
 
 def faults(table):
@@ -472,5 +477,6 @@ def faults(table):
     out += check_arguments(table, HANDED, CHOOSERS, KNOWING)
     out += check_phrases(table, PHRASES, files(SIZED))
     out += check_numbers(table, [path for path in files(COUNTED) if path not in NOT_COUNTED], OTHERS)
-    out += check_replies(table, REPLIES)
+    for numbered in NUMBERED:
+        out += check_numbered(table, *numbered)
     return out

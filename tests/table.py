@@ -121,10 +121,12 @@ def page_run():
 
 
 def page_kinds():
-    phases = ", ".join(f"{row['number']} {row['name']}" for row in TABLE.rows("phases"))
+    named = lambda section: ", ".join(f"{row['number']} {row['name']}" for row in TABLE.rows(section))
     rows = []
     for row in TABLE.rows("kinds"):
-        written = row["written"].replace("PHASES", phases).replace("UNSET", f"{TABLE.value.UNSET} (2^64 - 1)")
+        written = row["written"].replace("UNSET", f"{TABLE.value.UNSET} (2^64 - 1)")
+        for section in ("phases", "reasons"):
+            written = written.replace(section.upper(), named(section))
         rows.append((row["kind"], row["words"], written, row["malformed"]))
     return grid(["kind", "words", "written", "malformed"], rows)
 
@@ -202,6 +204,33 @@ def page_answer():
     return table + ["", *grid(["calls", f"word {value} of the answer"], kinds + [("the others", "0")])]
 
 
+def page_filter():
+    pair, samples, kind = SIZE["PAIR_BYTES"], SIZE["SAMPLES_BYTES"], ["word", "what", "kind"]
+    replies = [
+        (TABLE.reply.DONE, "the pairs were gone through"),
+        (TABLE.reply.BAD_ARGUMENT, f"the pairs are no whole number of {pair} bytes"),
+        (TABLE.reply.EARLIER_MOMENT, "a pair's time is earlier than one of the three times that the filter holds then"),
+        (TABLE.reply.SHORT_OUTPUT, f"the output has under {samples} bytes a pair"),
+    ]
+    return [
+        f"A pair, {pair} bytes:",
+        "",
+        *grid(kind, fields("pair")),
+        "",
+        f"What is written for it, {samples} bytes: the samples that the filter then holds, and why they moved.",
+        "",
+        *grid(kind, fields("samples")),
+        "",
+        "The replies:",
+        "",
+        *grid(["reply", "where"], replies),
+    ]
+
+
+def page_reasons():
+    return grid(["reason", "name", "what acted last"], [(row["number"], row["name"], row["what"]) for row in TABLE.rows("reasons")])
+
+
 def page_replies():
     return grid(["reply", "name", "where"], [(row["number"], row["name"], row["what"]) for row in TABLE.rows("replies")])
 
@@ -218,6 +247,8 @@ PAGES = {
     "event": page_event,
     "params": page_params,
     "answer": page_answer,
+    "filter run": page_filter,
+    "reasons": page_reasons,
     "replies": page_replies,
 }
 
@@ -277,6 +308,7 @@ def header_sizes():
 def header_calls():
     rows = (("CALL_" + constant(row["name"]), row["number"], said_of(row)) for row in TABLE.rows("calls"))
     phases = (("PHASE_" + constant(row["name"]), row["number"], None) for row in TABLE.rows("phases"))
+    reasons = (("REASON_" + constant(row["name"]), row["number"], row["what"]) for row in TABLE.rows("reasons"))
     arguments = []
     for call, names, _ in TABLE.argument.items():
         arguments += [(f"ARG_{call.upper()}_{name}", number, kind) for name, number, kind in names.items()]
@@ -301,6 +333,8 @@ def header_calls():
         *enum(["/* What the state's word GUOVSSALU_STATE_PHASE is. */"], phases),
         "",
         *enum(["/* Words of a pair of the filter run, of its answer to a pair, and of the slope's output. */"], apart),
+        "",
+        *enum(["/* Why the filter's estimates moved, its word GUOVSSALU_SAMPLES_REASON: the step that acted last. */"], reasons),
     ]
 
 
@@ -422,6 +456,7 @@ def rust_text():
         rust_words("slope", "The slope's output.", TABLE.slope),
         rust_numbers("reply", "The replies: an answer's first word, and what an exported call replies.", TABLE.reply, "Reply"),
         rust_numbers("phase", "What the state's word `state::PHASE` is.", TABLE.phase, "Phase"),
+        rust_numbers("reason", "Why the filter's estimates moved: what `samples::REASON` is.", TABLE.reason, "Reason"),
     ]
     return "\n\n".join("\n".join(part) for part in parts) + "\n"
 

@@ -66,7 +66,7 @@ class Table:
     def __init__(self, text):
         self.sections = sections(text)
         self.kinds = {row["kind"]: int(row["words"]) for row in self.sections["kinds"]}
-        self.call, self.reply, self.phase = (self.numbered(name) for name in ("calls", "replies", "phases"))
+        self.call, self.reply, self.phase, self.reason = (self.numbered(name) for name in ("calls", "replies", "phases", "reasons"))
         self.value = Names()
         for row in self.sections["values"]:
             self.value.add(row["name"], int(row["value"]))

@@ -22,10 +22,10 @@ use std::hint::black_box;
 use std::time::Instant;
 
 use guovssalu::Duration;
+use guovssalu::Estimates;
 use guovssalu::Params;
 use guovssalu_sys::table::ANSWER_BYTES;
 use guovssalu_sys::table::CALL_BYTES;
-use guovssalu_sys::table::SAMPLES_BYTES;
 use inputs::Numbers;
 use inputs::Step;
 use inputs::Trace;
@@ -183,19 +183,24 @@ fn each<T: PartialEq>(name: &str, port: impl Fn(usize) -> T, original: impl Fn(u
     );
 }
 
-/// A long run of the windowed filter, in one call.
+/// A long run of the windowed filter, in one call. The port writes four words for a pair, the original,
+/// which says no reason, the three samples.
 fn filter() {
     const WINDOW: u64 = 30;
     let pairs = inputs::pairs(PAIRS);
-    let mut port = vec![0; SAMPLES_BYTES * PAIRS];
-    let mut original = port.clone();
+    let mut port = vec![0; Estimates::BYTES * PAIRS];
+    let mut original = vec![0; original::SAMPLES_BYTES * PAIRS];
     compare(
         "filter update, one run",
         PAIRS,
         || guovssalu::filter_run(WINDOW, &pairs, &mut port).unwrap(),
         || original::filter_run(WINDOW, &pairs, &mut original),
     );
-    assert!(port == original, "The filters differ.");
+    let of_original = original.chunks_exact(original::SAMPLES_BYTES);
+    for (port, original) in port.chunks_exact(Estimates::BYTES).zip(of_original) {
+        assert!(port[..original.len()] == *original, "The filters differ.");
+        assert!(Estimates::from_bytes(port).is_ok(), "This is no reason.");
+    }
 }
 
 /// A trace in one run over bytes.

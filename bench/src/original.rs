@@ -1,5 +1,6 @@
 //! The original's side. It reads the bytes that the port reads and writes the bytes that the port
-//! writes; its parameters it has from the start.
+//! writes, but for the filter's reason, of which it says nothing; its parameters it has from the
+//! start.
 
 use std::time::Duration;
 
@@ -15,7 +16,6 @@ use guovssalu_sys::table::EVENT_IN_CALL;
 use guovssalu_sys::table::EVENT_WORDS;
 use guovssalu_sys::table::NUMBER_IN_CALL;
 use guovssalu_sys::table::PAIR_BYTES;
-use guovssalu_sys::table::SAMPLES_BYTES;
 use guovssalu_sys::table::STATE_WORDS;
 use guovssalu_sys::table::WORD_BYTES;
 
@@ -67,6 +67,9 @@ pub mod numbers {
         bandwidth.to_bytes_per_period(Duration::from_nanos(nanos))
     }
 }
+
+/// Bytes of the three samples that it writes for a pair, one after the other.
+pub const SAMPLES_BYTES: usize = 3 * WORD_BYTES;
 
 #[inline(never)]
 pub fn filter_run(window: u64, pairs: &[u8], out: &mut [u8]) {

@@ -8,6 +8,9 @@ use std::ptr;
 use std::slice;
 
 use guovssalu_sys::table::call as calls;
+use guovssalu_sys::table::reason;
+use guovssalu_sys::table::samples;
+use guovssalu_sys::table::PAIR_BYTES;
 use guovssalu_sys::table::SLOPE_BYTES;
 use guovssalu_sys::table::WORD_BYTES;
 
@@ -15,12 +18,15 @@ use crate::after;
 use crate::cases::random;
 use crate::cases::sweep;
 use crate::filter;
+use crate::filter::Samples;
+use crate::foreign::FilterRun;
 use crate::foreign::Port;
 use crate::foreign::Run;
 use crate::pages::page;
 use crate::reckon;
 use crate::slope;
 use crate::table;
+use crate::table::Rows;
 use crate::tally::Export;
 use crate::tally::Fault;
 use crate::tally::Tally;
@@ -103,16 +109,77 @@ unsafe extern "C" fn raise_inflight_high_slope(
     due
 }
 
-unsafe extern "C" fn filter_run(
-    window: u64,
-    src: *const u8,
-    src_len: usize,
-    out: *mut u8,
-    out_len: usize,
-) -> u64 {
-    let (rows, written) = filter::due(window, lent((src as *mut u8, src_len)), out_len);
+/// An exported filter run, for each number of a kind if it is for several: what is done with the
+/// window and the two ranges, and the reply.
+macro_rules! exported_filter {
+    ($name:ident $(<$kind:ident>)?, |$window:ident, $src:ident, $out:ident| $reply:expr) => {
+        unsafe extern "C" fn $name $(<const $kind: usize>)? (
+            window: u64,
+            src: *const u8,
+            src_len: usize,
+            out: *mut u8,
+            out_len: usize,
+        ) -> u64 {
+            let ($window, $src, $out) = (window, (src as *mut u8, src_len), (out, out_len));
+            $reply
+        }
+    };
+}
+
+exported_filter!(filter_run, |window, src, out| {
+    filter_by(|update| update.due, window, lent(src), lent(out))
+});
+
+/// An update of a filter run: what was written before it, the new sample, and what is due.
+struct Update {
+    before: Option<Samples>,
+    sample: u64,
+    due: Samples,
+}
+
+impl Update {
+    /// The reason that is due.
+    fn reason(&self) -> u64 {
+        self.due[samples::REASON]
+    }
+
+    /// The name of step 2 where it acts, whatever acts after it.
+    fn raised(&self) -> Option<u64> {
+        let before = self.before?;
+        if self.reason() == reason::ALL_REPLACED {
+            None
+        } else if self.sample > before[samples::SECOND] {
+            Some(reason::SECOND_RAISED)
+        } else if self.sample > before[samples::THIRD] {
+            Some(reason::THIRD_RAISED)
+        } else {
+            None
+        }
+    }
+}
+
+/// A filter run that writes for each update what a function makes of it.
+fn filter_by(one: impl Fn(&Update) -> Samples, window: u64, src: &[u8], out: &mut [u8]) -> u64 {
+    let (rows, due) = filter::due(window, src, out.len());
+    let mut before = None;
+    let mut written = Vec::new();
+    for (pair, due) in src.chunks_exact(PAIR_BYTES).zip(due) {
+        let [_, sample] = words::words(pair);
+        written.extend(one(&Update {
+            before,
+            sample,
+            due,
+        }));
+        before = Some(due);
+    }
+    write_if_done(&rows, &written, out)
+}
+
+/// Writes the words of a filter run that no row refuses, and replies.
+fn write_if_done(rows: &Rows, written: &[u64], out: &mut [u8]) -> u64 {
     if rows.due() == 0 {
-        lent((out, out_len))[..written.len()].copy_from_slice(&written);
+        let written = words::bytes(written);
+        out[..written.len()].copy_from_slice(&written);
     }
     rows.due()
 }
@@ -312,17 +379,11 @@ run_with!(reads_after_state, |reply, state, _c, _a| {
 /// pairs and the output.
 macro_rules! filter_with {
     ($name:ident, |$reply:ident, $length:ident, $out:ident| $more:expr) => {
-        unsafe extern "C" fn $name(
-            window: u64,
-            src: *const u8,
-            src_len: usize,
-            out: *mut u8,
-            out_len: usize,
-        ) -> u64 {
-            let $reply = filter_run(window, src, src_len, out, out_len);
-            let ($length, $out) = (src_len, (out, out_len));
+        exported_filter!($name, |window, src, $out| {
+            let $reply = filter_run(window, src.0, src.1, $out.0, $out.1);
+            let $length = src.1;
             $more
-        }
+        });
     };
 }
 
@@ -340,6 +401,85 @@ filter_with!(filter_takes_all, |reply, _l, _o| if reply == 3 {
 filter_with!(filter_writes_after, |reply, _l, out| {
     flip_after(out);
     reply
+});
+
+/// The right filter run, but for the reason that is written with each update's samples.
+macro_rules! filter_says {
+    ($name:ident $(<$kind:ident>)?, |$update:ident| $reason:expr) => {
+        exported_filter!($name $(<$kind>)?, |window, src, out| {
+            let one = |$update: &Update| {
+                let mut written = $update.due;
+                written[samples::REASON] = $reason;
+                written
+            };
+            filter_by(one, window, lent(src), lent(out))
+        });
+    };
+}
+
+filter_says!(reason_off, |update| update.reason() ^ 1);
+filter_says!(replaced_where_samples_are_new, |update| {
+    if update.due[..samples::REASON] == [update.sample; 3] {
+        reason::ALL_REPLACED
+    } else {
+        update.reason()
+    }
+});
+// All three are the new sample at its time after step 1, and where these steps act, too.
+filter_says!(replaced_where_all_are_new, |update| {
+    match (update.raised(), update.reason()) {
+        (Some(reason::SECOND_RAISED), reason::PROMOTED_ONCE) => reason::ALL_REPLACED,
+        (Some(reason::THIRD_RAISED), reason::PROMOTED_TWICE) => reason::ALL_REPLACED,
+        (_, due) => due,
+    }
+});
+filter_says!(unchanged_where_samples_are, |update| match update.before {
+    Some(before) if before[..samples::REASON] == update.due[..samples::REASON] => reason::UNCHANGED,
+    _ => update.reason(),
+});
+filter_says!(once_for_twice, |update| match update.reason() {
+    reason::PROMOTED_TWICE => reason::PROMOTED_ONCE,
+    due => due,
+});
+filter_says!(quarter_and_half_swapped, |update| match update.reason() {
+    reason::QUARTER_REFRESH => reason::HALF_REFRESH,
+    reason::HALF_REFRESH => reason::QUARTER_REFRESH,
+    due => due,
+});
+
+/// The steps that can both act: step 2, and a later one.
+const BOTH: [(u64, u64); 4] = [
+    (reason::SECOND_RAISED, reason::PROMOTED_ONCE),
+    (reason::THIRD_RAISED, reason::PROMOTED_ONCE),
+    (reason::THIRD_RAISED, reason::PROMOTED_TWICE),
+    (reason::THIRD_RAISED, reason::QUARTER_REFRESH),
+];
+
+filter_says!(earlier_step_named<STEPS>, |update| {
+    let (earlier, later) = BOTH[STEPS];
+    if (update.raised(), update.reason()) == (Some(earlier), later) {
+        earlier
+    } else {
+        update.reason()
+    }
+});
+
+exported_filter!(reason_before_samples, |window, src, out| {
+    let one = |update: &Update| {
+        let mut written = update.due;
+        written.rotate_right(1);
+        written
+    };
+    filter_by(one, window, lent(src), lent(out))
+});
+exported_filter!(three_words_a_pair, |window, src, out| {
+    let (rows, due) = filter::due(window, lent(src), usize::MAX);
+    let written: Vec<u64> = due
+        .iter()
+        .flat_map(|samples| samples[..samples::REASON].to_vec())
+        .collect();
+    let rows = rows.with(7, out.1 < src.1 / PAIR_BYTES * 24);
+    write_if_done(&rows, &written, lent(out))
 });
 
 unsafe extern "C" fn slope_off(rounds: u64, window: u64, out: *mut u8, out_len: usize) -> u64 {
@@ -391,6 +531,17 @@ pub fn assert_noticed(fault: Fault, runs: &[(&str, Run)]) {
     }
 }
 
+/// Fails for a filter run whose fault the checks don't notice.
+fn assert_filter_noticed(fault: Fault, runs: &[(&str, FilterRun)]) {
+    for &(name, filter_run) in runs {
+        let port = Port {
+            filter_run,
+            ..RIGHT
+        };
+        assert!(notices(port, fault), "{}", name);
+    }
+}
+
 #[test]
 fn the_right_port_is_found_right() {
     let mut trial = Trial::new(&RIGHT, SEED);
@@ -416,6 +567,14 @@ fn every_reply_is_asked_for() {
 }
 
 #[test]
+fn every_reason_is_asked_for() {
+    let tally = found(RIGHT);
+    for reason in reason::ALL_REPLACED..=reason::UNCHANGED {
+        assert!(tally.due(reason) > 50, "{}", reason);
+    }
+}
+
+#[test]
 fn wrong_replies_are_noticed() {
     assert_noticed(
         Fault::Reply,
@@ -424,11 +583,13 @@ fn wrong_replies_are_noticed() {
             ("of a call", never_refuses_calls),
         ],
     );
-    let port = Port {
-        filter_run: filter_takes_all,
-        ..RIGHT
-    };
-    assert!(notices(port, Fault::Reply));
+    assert_filter_noticed(
+        Fault::Reply,
+        &[
+            ("of a filter run", filter_takes_all as FilterRun),
+            ("with 24 bytes a pair", three_words_a_pair),
+        ],
+    );
     let port = Port {
         raise_inflight_high_slope: slope_off,
         ..RIGHT
@@ -453,11 +614,10 @@ fn touched_bytes_are_noticed() {
             ("after the answers", writes_after_answers),
         ],
     );
-    let port = Port {
-        filter_run: filter_writes_after,
-        ..RIGHT
-    };
-    assert!(notices(port, Fault::Touched));
+    assert_filter_noticed(
+        Fault::Touched,
+        &[("after the samples", filter_writes_after as FilterRun)],
+    );
     let port = Port {
         raise_inflight_high_slope: slope_before,
         ..RIGHT
@@ -477,11 +637,43 @@ fn wrong_answers_and_states_are_noticed() {
             ("run and single calls", long_runs_differ),
         ],
     );
-    let port = Port {
-        filter_run: filter_off,
-        ..RIGHT
-    };
-    assert!(notices(port, Fault::Content));
+    assert_filter_noticed(Fault::Content, &[("samples", filter_off as FilterRun)]);
+}
+
+#[test]
+fn wrong_reasons_are_noticed() {
+    assert_filter_noticed(
+        Fault::Content,
+        &[
+            ("off by a bit", reason_off as FilterRun),
+            ("replaced, by samples", replaced_where_samples_are_new),
+            ("replaced, by estimates", replaced_where_all_are_new),
+            ("unchanged, by samples", unchanged_where_samples_are),
+            ("once for twice", once_for_twice),
+            ("quarter and half swapped", quarter_and_half_swapped),
+            ("before the samples", reason_before_samples),
+            ("24 bytes a pair", three_words_a_pair),
+        ],
+    );
+}
+
+#[test]
+fn an_earlier_step_named_is_noticed() {
+    for (name, filter_run) in [
+        (
+            "second raised, then once",
+            earlier_step_named::<0> as FilterRun,
+        ),
+        ("third raised, then once", earlier_step_named::<1>),
+        ("third raised, then twice", earlier_step_named::<2>),
+        ("third raised, then quarter", earlier_step_named::<3>),
+    ] {
+        let port = Port {
+            filter_run,
+            ..RIGHT
+        };
+        assert!(found(port).count(Fault::Content) > 20, "{}", name);
+    }
 }
 
 #[test]

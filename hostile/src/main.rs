@@ -1,6 +1,6 @@
 //! Gives the exported calls hostile input: random bytes, numbers at, past and far past their
 //! bounds, lengths that are off, several refusals at once. What is due is known beforehand, from a
-//! reading of document 01 and the original that is independent of the port (`table`, `after`,
+//! reading of documents 01 and 02 and the original that is independent of the port (`table`, `after`,
 //! `next`, `filter`, `slope`), and every lent range is guarded (`lent`).
 
 mod after;

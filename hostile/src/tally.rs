@@ -41,6 +41,18 @@ const NAMES: [&str; 11] = [
     "guovssalu_to_bytes_per_period",
 ];
 
+/// The reasons of the filter run, by their numbers.
+const REASONS: [&str; 8] = [
+    "all replaced",
+    "second raised",
+    "third raised",
+    "promoted once",
+    "promoted twice",
+    "quarter refresh",
+    "half refresh",
+    "unchanged",
+];
+
 /// What can be wrong.
 #[derive(Clone, Copy, PartialEq, Debug)]
 pub enum Fault {
@@ -57,6 +69,7 @@ pub enum Fault {
 pub struct Tally {
     calls: [u64; 11],
     replies: [[u64; 9]; 11],
+    reasons: [u64; 8],
     overlaps: u64,
     malformed: u64,
     no_calls: u64,
@@ -86,6 +99,11 @@ impl Tally {
                 format!("rows {:?}, given {}\n{}", rows, given, about())
             });
         }
+    }
+
+    /// Counts a reason that was due in a filter run.
+    pub fn reasoned(&mut self, reason: u64) {
+        self.reasons[reason as usize] += 1;
     }
 
     /// Counts a call by what its words are.
@@ -130,6 +148,12 @@ impl Tally {
         self.replies[export as usize][reply]
     }
 
+    /// How often this reason was due.
+    #[cfg(test)]
+    pub fn due(&self, reason: u64) -> u64 {
+        self.reasons[reason as usize]
+    }
+
     /// The report; its last line has the verdict.
     pub fn report(&self) -> String {
         let [reply, content, touched] = self.faults;
@@ -139,10 +163,12 @@ impl Tally {
             .map(|told| format!("\n{}\n", told))
             .collect();
         format!(
-            "{}\n{} calls with two or more refusals at once\n{} calls with a malformed word, {} with \
-             a number of no call\n{} lent ranges, {} guard bytes compared\n{} wrong replies, {} \
-             wrong answers or states, {} bytes touched\n{}{} calls, {} wrong\n",
+            "{}\nfilter reasons due: {}\n{} calls with two or more refusals at once\n{} calls with a \
+             malformed word, {} with a number of no call\n{} lent ranges, {} guard bytes \
+             compared\n{} wrong replies, {} wrong answers or states, {} bytes touched\n{}{} calls, \
+             {} wrong\n",
             self.table(),
+            self.named_reasons(),
             self.overlaps,
             self.malformed,
             self.no_calls,
@@ -155,6 +181,15 @@ impl Tally {
             self.made(),
             self.wrongs()
         )
+    }
+
+    /// How often each reason was due, by name.
+    fn named_reasons(&self) -> String {
+        let counts = REASONS.iter().zip(&self.reasons);
+        let named: Vec<String> = counts
+            .map(|(name, count)| format!("{} {}", count, name))
+            .collect();
+        named.join(", ")
     }
 
     /// The calls and replies, a line for each exported call.

@@ -197,7 +197,14 @@ fn conclude(comparison: Comparison, difference: Option<Difference>) -> bool {
     let calls = comparison.calls();
     let [accepted, refused @ ..] = comparison.replies;
     eprintln!("{accepted} accepted; refused with 1 to 7: {refused:?}");
+    let tally = &comparison.world.tally;
+    if !tally.is_empty() {
+        for (what, count) in tally.told() {
+            eprintln!("{count} x {what}");
+        }
+    }
     let Some(difference) = difference else {
+        tally.hold();
         println!("{calls} calls, 0 differences");
         return true;
     };

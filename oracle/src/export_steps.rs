@@ -7,7 +7,6 @@ use guovssalu_sys::table::SLOPE_BYTES;
 use guovssalu_sys::table::WORD_BYTES;
 
 use crate::filter_steps;
-use crate::filter_steps::WINDOWS;
 use crate::frame::MEMORY;
 use crate::frame::MOST_PAIRS;
 use crate::replies::BYTES;
@@ -73,8 +72,8 @@ impl ExportSteps {
     }
 
     fn filter_run(&mut self) -> Step {
-        let window = self.random.pick(&WINDOWS);
-        let mut words = self.pairs(window);
+        let (window, aimed) = filter_steps::begin(&mut self.random);
+        let mut words = self.pairs(window, aimed);
         let random = &mut self.random;
         let mut length = (WORD_BYTES * words.len()) as u64;
         if random.one_in(6) {
@@ -97,21 +96,25 @@ impl ExportSteps {
     }
 
     /// Pairs of a time and a sample, at the ages and samples where the filter
-    /// turns; in some runs a time falls.
-    fn pairs(&mut self, window: u64) -> Vec<u64> {
+    /// turns; in most runs as many as the memory has room for, in some a time
+    /// falls.
+    fn pairs(&mut self, window: u64, aimed: bool) -> Vec<u64> {
         let random = &mut self.random;
         let falls = random.one_in(5);
-        let count = random.below(MOST_PAIRS / PAIR + 1);
+        let most = MOST_PAIRS / PAIR;
+        let count = match random.one_in(4) {
+            true => random.below(most + 1),
+            false => most - 1,
+        };
         let mut filter = [0; 8];
         windowed::operate(&mut filter, 0, window, 0);
         let mut words = Vec::new();
         for _ in 0..count {
-            let time = match falls && random.one_in(6) {
-                true => filter_steps::earlier(random, &filter),
-                false => filter_steps::time(random, &filter),
-            };
-            let sample = filter_steps::sample(random, &filter);
-            windowed::operate(&mut filter, 2, sample, time);
+            let (sample, mut time) = filter_steps::update(random, &filter, aimed);
+            if falls && random.one_in(6) {
+                time = filter_steps::earlier(random, &filter);
+            }
+            windowed::update(&mut filter, sample, time);
             words.extend([time, sample]);
         }
         words

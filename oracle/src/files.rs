@@ -112,6 +112,10 @@ impl Files {
         for (reply, count) in &self.replies {
             eprintln!("frames: {count:4} x reply {reply}");
         }
+        for (what, count) in self.world.tally.told() {
+            eprintln!("frames: {count:4} x {what}");
+        }
+        self.world.tally.hold();
         let (asked, answered) = (self.requests.len(), self.answers.len());
         eprintln!(
             "frames: {} calls, {asked} and {answered} bytes",

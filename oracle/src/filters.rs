@@ -3,188 +3,115 @@
 
 use std::collections::BTreeMap;
 
+use guovssalu_sys::table::reason;
+
+use crate::filter_steps;
 use crate::list::List;
+use crate::reasons::Tally;
 use crate::recovery::gcongestion::MaxBandwidth;
 use crate::recovery::gcongestion::MinRtt;
 use crate::recovery::gcongestion::Rounds;
-use crate::recovery::gcongestion::WindowedFilter;
 use crate::values::Random;
+use crate::windowed;
+use crate::windowed::Filter;
+use crate::windowed::Foreseen;
 
-type Estimates = Option<[(u64, u64); 3]>;
+/// How often at least each reason, and each pair of steps that both act, occurs
+/// in the list of the windowed filter.
+const LEAST_REASONS: u64 = 20;
+const LEAST_PAIRS: u64 = 5;
+
+/// The worked runs of document 02: the window, and time, sample and reason of
+/// each update.
+const WORKED: [(u64, &[(u64, u64, u64)]); 5] = [
+    (4, &[(0, 0, 0), (0, 1, 0), (2, 0, 5), (5, 1, 3)]),
+    (4, &[(0, 1, 0), (2, 1, 5), (5, 0, 3), (7, 1, 4)]),
+    (8, &[(0, 3, 0), (3, 2, 5), (8, 0, 6), (9, 1, 3)]),
+    (4, &[(0, 1, 0), (2, 1, 5), (5, 0, 3), (5, 1, 5)]),
+    (
+        8,
+        &[
+            (0, 5, 0),
+            (2, 5, 7),
+            (3, 5, 5),
+            (5, 3, 7),
+            (8, 4, 5),
+            (9, 2, 3),
+            (12, 6, 0),
+        ],
+    ),
+];
 
 /// A run of the windowed filter, and what its steps went through.
 struct Windowed {
     list: List,
-    window: u64,
-    filter: WindowedFilter<u64, usize, usize>,
+    filter: Filter,
     /// The time of the last step.
     last: u64,
-    counts: BTreeMap<&'static str, u32>,
+    counts: BTreeMap<&'static str, u64>,
+    tally: Tally,
 }
 
 impl Windowed {
-    fn held(&self) -> Estimates {
-        let held = self.filter.held()?;
-        Some(held.map(|(sample, time)| (sample, time as u64)))
-    }
-
-    fn add(&mut self, op: u64, x: u64, y: u64) {
-        let held = self.held();
-        let [best, second, third] = held.unwrap_or_default();
-        let mut line = vec![op, x, y, held.is_some() as u64];
-        for (sample, time) in [best, second, third] {
-            line.extend([sample, time]);
-        }
+    fn add(&mut self, op: u64, x: u64, y: u64, reason: u64) {
+        let line = [&[op, x, y], &self.filter[1..], &[reason]].concat();
         self.list.add(&line);
     }
 
+    fn operate(&mut self, op: u64, x: u64, y: u64) {
+        windowed::operate(&mut self.filter, op, x, y);
+        self.add(op, x, y, 0);
+    }
+
     fn start(&mut self, window: u64) {
-        self.window = window;
-        self.filter = WindowedFilter::new(window as usize);
         self.last = 0;
-        self.add(0, window, 0);
+        self.operate(0, window, 0);
     }
 
     fn reset(&mut self, sample: u64, time: u64) {
-        self.filter.reset(sample, time as usize);
         self.last = time;
-        self.add(1, sample, time);
-    }
-
-    fn update(&mut self, sample: u64, time: u64) {
-        let before = self.held();
-        let (marks, after) = self.foresee(before, sample, time);
-        for mark in marks {
-            *self.counts.entry(mark).or_default() += 1;
-        }
-
-        self.filter.update(sample, time as usize);
-        assert_eq!(self.held(), Some(after), "not as document 01 has it");
-        self.last = time;
-        self.add(2, sample, time);
+        self.operate(1, sample, time);
     }
 
     fn clear(&mut self) {
-        self.filter.clear();
-        self.add(3, 0, 0);
+        self.operate(3, 0, 0);
     }
 
-    /// The steps of document 01 that an update goes through, the ages that
-    /// stand at a limit or one past it, and the estimates after it.
-    fn foresee(
-        &self,
-        before: Estimates,
-        sample: u64,
-        time: u64,
-    ) -> (Vec<&'static str>, [(u64, u64); 3]) {
-        let window = self.window;
-        let new = (sample, time);
-        let Some([mut best, mut second, mut third]) = before else {
-            return (vec!["1: empty"], [new; 3]);
-        };
-        let age = |estimate: (u64, u64)| time - estimate.1;
-        let at = |age: u64, limit: u64, [at, past]: [&'static str; 2]| {
-            if age == limit {
-                Some(at)
-            } else if limit.checked_add(1) == Some(age) {
-                Some(past)
-            } else {
-                None
-            }
-        };
+    /// Makes an update; its reason.
+    fn update(&mut self, sample: u64, time: u64) -> u64 {
+        for mark in self.foresee(sample, time).marks {
+            *self.counts.entry(mark).or_default() += 1;
+        }
+        let updated = windowed::update(&mut self.filter, sample, time);
+        let updated = updated.expect("the list has no update that is refused");
+        self.tally.add([&updated]);
+        self.tally.hold();
+        self.last = time;
+        self.add(2, sample, time, updated.reason);
+        updated.reason
+    }
 
-        let mut marks = Vec::new();
-        if time < self.last {
-            marks.push("time falls");
+    /// Foresees an update; a mark if its time falls.
+    fn foresee(&self, sample: u64, time: u64) -> Foreseen {
+        let mut foreseen = windowed::foresee(&self.filter, sample, time);
+        if self.is_full() && time < self.last {
+            foreseen.marks.push("time falls");
         }
-        if sample > best.0 {
-            marks.push("1: above the best");
-            return (marks, [new; 3]);
-        }
-        marks.extend(at(
-            age(third),
-            window,
-            ["third's age = window", "third's age = window + 1"],
-        ));
-        if age(third) > window {
-            marks.push("1: third too old");
-            return (marks, [new; 3]);
-        }
+        foreseen
+    }
 
-        if sample == best.0 {
-            marks.push("sample = best");
-        }
-        if sample == second.0 {
-            marks.push("sample = second");
-        }
-        if sample == third.0 {
-            marks.push("sample = third");
-        }
-        if sample > second.0 {
-            marks.push("2: above the second");
-            (second, third) = (new, new);
-        } else if sample > third.0 {
-            marks.push("2: above the third");
-            third = new;
-        } else {
-            marks.push("2: above none");
-        }
-
-        marks.extend(at(
-            age(best),
-            window,
-            ["best's age = window", "best's age = window + 1"],
-        ));
-        if age(best) > window {
-            (best, second, third) = (second, third, new);
-            marks.extend(at(
-                age(best),
-                window,
-                ["next best's age = window", "next best's age = window + 1"],
-            ));
-            if age(best) > window {
-                marks.push("3: shifted twice");
-                (best, second) = (second, third);
-            } else {
-                marks.push("3: shifted once");
-            }
-            return (marks, [best, second, third]);
-        }
-
-        if second.0 == best.0 {
-            marks.extend(at(
-                age(second),
-                window / 4,
-                ["second's age = window/4", "second's age = window/4 + 1"],
-            ));
-            if age(second) > window / 4 {
-                marks.push("4: second and third");
-                return (marks, [best, new, new]);
-            }
-        }
-        if third.0 == second.0 {
-            marks.extend(at(
-                age(third),
-                window / 2,
-                ["third's age = window/2", "third's age = window/2 + 1"],
-            ));
-            if age(third) > window / 2 {
-                marks.push("5: third");
-                return (marks, [best, second, new]);
-            }
-        }
-        marks.push("none of 3 to 5");
-        (marks, [best, second, third])
+    fn is_full(&self) -> bool {
+        self.filter[1] == 1
     }
 }
 
 /// A sample and a time for an update, at a limit if luck has it; nothing if
 /// the time would be past 64 bits or earlier than a stored one.
-fn attempt(run: &Windowed, held: &[(u64, u64); 3], random: &mut Random) -> Option<(u64, u64)> {
-    let window = run.window;
-    let latest = held.iter().map(|estimate| estimate.1).max().unwrap();
+fn attempt(run: &Windowed, random: &mut Random) -> Option<(u64, u64)> {
+    let [window, _, best, first, second, next, third, newest] = run.filter;
+    let (samples, times) = ([best, second, third], [first, next, newest]);
 
-    let from = random.pick(held).1;
+    let from = random.pick(&times);
     let wait = match random.below(8) {
         0 => 0,
         1 => window,
@@ -196,61 +123,45 @@ fn attempt(run: &Windowed, held: &[(u64, u64); 3], random: &mut Random) -> Optio
         _ => run.last.saturating_sub(from).saturating_sub(1),
     };
     let time = from.checked_add(wait)?.checked_add(random.below(2))?;
-    if time < latest {
+    if times.iter().any(|&stored| time < stored) {
         return None;
     }
 
-    let near = random.pick(held).0;
+    let near = random.pick(&samples);
     let sample = match random.below(10) {
         0..=3 => near,
         4 => near.saturating_add(1),
         5 => near.saturating_sub(1),
-        6 => random.below(held[0].0.saturating_add(1)),
-        7 => random.below(held[2].0.saturating_add(1)),
+        6 => random.below(best.saturating_add(1)),
+        7 => random.below(third.saturating_add(1)),
         8 => random.below(1000),
         _ => 0,
     };
     Some((sample, time))
 }
 
-/// A step on the way to step 5, which luck alone seldom finds: a second that
-/// is as good as the best is let grow old, by a lower sample; then a third
-/// that is as good as the second.
-fn toward_step_5(
-    run: &Windowed,
-    held: &[(u64, u64); 3],
-    random: &mut Random,
-) -> Option<(u64, u64)> {
-    let &[best, second, third] = held;
-    let (sample, time) = if second.0 == best.0 {
-        let less = best.0.checked_sub(1 + random.below(3))?;
-        (less, second.1.checked_add(run.window / 4 + 1)?)
-    } else if third.0 == second.0 {
-        let wait = run.window / 2 + random.below(2);
-        let sample = third.0.saturating_sub(random.below(2));
-        (sample, third.1.checked_add(wait)?)
-    } else {
-        return None;
-    };
-    let latest = second.1.max(third.1).max(best.1);
-    (time >= latest && time - best.1 <= run.window).then_some((sample, time))
-}
-
 pub fn windowed_filter() -> List {
     let mut random = Random::new(9);
     let mut run = Windowed {
         list: List::new("windowed_filter.txt"),
-        window: 0,
-        filter: WindowedFilter::new(0),
+        filter: [0; 8],
         last: 0,
         counts: BTreeMap::new(),
+        tally: Tally::default(),
     };
 
-    // The marked example, both ways, and times that fall.
-    for time in [2, 3] {
+    // The marked example, both ways, the worked runs, and times that fall.
+    for (time, reason) in [(2, reason::UNCHANGED), (3, reason::QUARTER_REFRESH)] {
         run.start(8);
         run.reset(5, 0);
-        run.update(5, time);
+        assert_eq!(run.update(5, time), reason, "the reason at {time}");
+    }
+    for (window, updates) in WORKED {
+        run.start(window);
+        for &(time, sample, reason) in updates {
+            let read = run.update(sample, time);
+            assert_eq!(read, reason, "window {window}: {sample} at {time}");
+        }
     }
     run.start(8);
     run.update(5, 0);
@@ -273,22 +184,22 @@ pub fn windowed_filter() -> List {
         (0, 50),
         (1, 70),
         (2, 85),
-        (3, 85),
+        (3, 110),
         (4, 100),
-        (7, 100),
-        (8, 110),
-        (100, 130),
-        (1 << 62, 80),
+        (7, 140),
+        (8, 150),
+        (100, 170),
+        (1 << 62, 100),
     ] {
-        let mut seen: BTreeMap<Vec<&str>, u32> = BTreeMap::new();
+        let mut seen: BTreeMap<Vec<&str>, u64> = BTreeMap::new();
         run.start(window);
         for _ in 0..steps {
-            let Some(held) = run.held() else {
+            if !run.is_full() {
                 let sample = 500 + random.below(500);
                 let time = run.last.saturating_add(random.below(10));
                 run.update(sample, time);
                 continue;
-            };
+            }
             if random.one_in(40) {
                 run.clear();
                 continue;
@@ -300,30 +211,31 @@ pub fn windowed_filter() -> List {
             }
 
             if random.one_in(2) {
-                let aimed = toward_step_5(&run, &held, &mut random);
-                if let Some((sample, time)) = aimed {
+                let rare = filter_steps::rare(&mut random, &run.filter);
+                if let Some((sample, time)) = rare {
                     run.update(sample, time);
                     continue;
                 }
             }
 
             // Of some attempts, the one whose way as a whole was gone least
-            // often or, by turns, the one with the rarest single mark.
-            let mut chosen: Option<(u32, Vec<&str>, u64, u64)> = None;
-            let whole = random.one_in(2);
+            // often, the one with the rarest single mark or, in half of the
+            // cases, the one whose steps acted least often.
+            let mut chosen: Option<(u64, Vec<&str>, u64, u64)> = None;
+            let manner = random.below(4);
             for _ in 0..40 {
-                let Some((sample, time)) = attempt(&run, &held, &mut random) else {
+                let Some((sample, time)) = attempt(&run, &mut random) else {
                     continue;
                 };
-                let (marks, _) = run.foresee(Some(held), sample, time);
-                let often = if whole {
-                    seen.get(&marks).copied().unwrap_or(0)
-                } else {
-                    let count = |mark| run.counts.get(mark).copied();
-                    marks.iter().map(|m| count(m).unwrap_or(0)).min().unwrap()
+                let foreseen = run.foresee(sample, time);
+                let count = |mark| run.counts.get(mark).copied().unwrap_or(0);
+                let often = match manner {
+                    0 => seen.get(&foreseen.marks).copied().unwrap_or(0),
+                    1 => foreseen.marks.iter().map(count).min().unwrap(),
+                    _ => run.tally.acted(&foreseen),
                 };
                 if chosen.as_ref().is_none_or(|(least, ..)| often < *least) {
-                    chosen = Some((often, marks, sample, time));
+                    chosen = Some((often, foreseen.marks, sample, time));
                 }
             }
             let (_, marks, sample, time) = chosen.unwrap();
@@ -335,6 +247,10 @@ pub fn windowed_filter() -> List {
     for (mark, count) in &run.counts {
         eprintln!("windowed_filter: {count:4} x {mark}");
     }
+    for (what, count) in run.tally.told() {
+        eprintln!("windowed_filter: {count:4} x {what}");
+    }
+    run.tally.demand(LEAST_REASONS, LEAST_PAIRS);
     run.list
 }
 

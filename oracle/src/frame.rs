@@ -42,11 +42,11 @@ pub const PUT: u64 = 99;
 /// The most numbers that one call puts, after its number and their count.
 pub const MOST_PUT: usize = (CALL - 2) / 2;
 
-/// The most bytes of pairs that a run of a filter is given, after its number
-/// and three arguments, and the bytes of the memory of which a part is lent to
-/// an exported call: all of an answer but the reply and the number beside it.
-pub const MOST_PAIRS: u64 = (table::WORD_BYTES * (CALL - 4)) as u64;
+/// The bytes of the memory of which a part is lent to an exported call, all of
+/// an answer but the reply and the number beside it, and the most bytes of pairs
+/// that a run of a filter is given: one pair more than it has room for.
 pub const MEMORY: usize = table::WORD_BYTES * (ANSWER - table::EVENT_IN_ANSWER);
+pub const MOST_PAIRS: u64 = (table::PAIR_BYTES * (MEMORY / table::SAMPLES_BYTES + 1)) as u64;
 
 /// A call: its number, its arguments, the record and the parameters.
 pub type CallWords = [u64; CALL];

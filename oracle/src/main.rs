@@ -16,6 +16,7 @@ mod model;
 mod number_steps;
 mod numbers;
 mod port;
+mod reasons;
 mod replies;
 mod run;
 mod scalars;
@@ -65,10 +66,13 @@ Name one folder, into which the lists are written, or one of these:
   calls FILE               the same, on the calls of a file
   serve                    is the original as a port";
 
-/// The seed of the kept frames' chosen calls, and how many there are of each
-/// kind.
+/// The seed of the kept frames' chosen calls, how many there are of each kind,
+/// and how often at least each reason, and each pair of steps that both act,
+/// occurs.
 const KEPT_SEED: u64 = 1;
 const KEPT_CALLS: u64 = 100;
+const KEPT_REASONS: u64 = 20;
+const KEPT_PAIRS: u64 = 1;
 
 fn main() {
     let arguments: Vec<String> = env::args().skip(1).collect();
@@ -141,7 +145,7 @@ fn fail(sentence: &str) -> ! {
     process::exit(2);
 }
 
-/// The frames that are kept: every call and every reply.
+/// The frames that are kept: every call, every reply and every reason.
 fn kept() -> Files {
     let mut files = Files::new(false);
     sequences::add(&mut files);
@@ -155,6 +159,7 @@ fn kept() -> Files {
     for call in text::asked() {
         assert!(files.calls.contains_key(&call), "no call {call}");
     }
+    files.world.tally.demand(KEPT_REASONS, KEPT_PAIRS);
     files
 }
 

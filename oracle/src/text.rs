@@ -90,6 +90,7 @@ pub fn asked() -> impl Iterator<Item = u64> {
 pub fn word(step: &Step, word: usize) -> String {
     match (step, word) {
         (_, REPLY_IN_ANSWER) => "reply".to_string(),
+        (Step::Filter { .. }, VALUE_IN_ANSWER) => "reason".to_string(),
         (_, VALUE_IN_ANSWER) => "answer".to_string(),
         (Step::Filter { .. }, EVENT_IN_ANSWER..10) => FILTER[word - EVENT_IN_ANSWER].to_string(),
         (

@@ -1,6 +1,7 @@
 //! The original with its state, and its answers in the words of a frame. What
 //! the table of document 01 refuses isn't asked of it.
 
+use guovssalu_sys::table::reason;
 use guovssalu_sys::table::reply;
 use guovssalu_sys::table::ANSWER_WORDS;
 use guovssalu_sys::table::ARGUMENTS_IN_CALL;
@@ -35,6 +36,7 @@ use crate::model::Record;
 use crate::model::Start;
 use crate::model::State;
 use crate::model::FIELDS;
+use crate::reasons::Tally;
 use crate::recovery::gcongestion::Host;
 use crate::replies;
 use crate::scalars;
@@ -82,6 +84,8 @@ pub struct World {
     /// The last start, refused or not: it holds the parameters.
     pub start: Start,
     pub filter: Filter,
+    /// The accepted updates of filters so far; of runs, those that were done.
+    pub tally: Tally,
 }
 
 impl World {
@@ -93,6 +97,7 @@ impl World {
             state: [0; FIELDS],
             start: usual,
             filter: [0; 8],
+            tally: Tally::default(),
         };
         world.host.put(&world.state, &usual);
         world
@@ -162,10 +167,18 @@ impl World {
             Step::Call(call) => self.call(call),
             Step::Words(words) => self.refused(words),
             Step::Put(_) => unreachable!("numbers are put apart"),
+            Step::Filter { op: 2, x, y } => {
+                let updated = windowed::update(&mut self.filter, *x, *y);
+                self.tally.add(&updated);
+                let (reply, reason) = match updated {
+                    Some(updated) => (0, updated.reason),
+                    None => (reply::EARLIER_MOMENT, reason::UNCHANGED),
+                };
+                self.answer(reply, reason, &self.filter)
+            }
             Step::Filter { op, x, y } => {
-                let reply = windowed::operate(&mut self.filter, *op, *x, *y);
-                let filter = self.filter;
-                self.answer(reply, 0, &filter)
+                windowed::operate(&mut self.filter, *op, *x, *y);
+                self.answer(0, 0, &self.filter)
             }
             Step::Numbers {
                 function,
@@ -185,8 +198,9 @@ impl World {
                 words,
             } => {
                 let pairs = &frame::bytes(words)[..*length as usize];
-                let (reply, samples) = windowed::run(*window, pairs, *lent as usize);
-                memory(reply, &samples)
+                let (reply, words, updates) = windowed::run(*window, pairs, *lent as usize);
+                self.tally.add(&updates);
+                memory(reply, &words)
             }
             Step::Slope {
                 rounds,

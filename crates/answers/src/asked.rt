@@ -8,7 +8,6 @@ use units::Bandwidth;
 use units::Duration;
 use units::MaybeNumber;
 use units::Moment;
-use units::Reply;
 use words::float_bits::f32_bits;
 use words::float_bits::f32_of;
 use words::float_bits::f64_bits;
@@ -78,22 +77,24 @@ fn windowed(filter: WindowedFilter, n: &[u64; 16]) -> Compared {
     let next = match op {
         0 => WindowedFilter::new(n[1]),
         1 => filter.reset(n[1], n[2]),
-        2 => updated(filter, n[1], n[2]),
+        2 => return updated(filter, n),
         _ => filter.clear(),
     };
     Compared {
         asked: Asked::Windowed(next),
-        same: holds(next, n),
+        same: (n[10] == 0) & holds(next, n),
     }
 }
 
-// The filter after an update; an empty one where it is refused, which no line expects.
-fn updated(filter: WindowedFilter, sample: u64, time: u64) -> WindowedFilter {
-    let answer = filter.update(sample, time);
+// An update, with its reason. No line expects a refusal.
+fn updated(filter: WindowedFilter, n: &[u64; 16]) -> Compared {
+    let answer = filter.update(n[1], n[2]);
     let reply = answer.reply;
-    match reply {
-        Reply::Done => answer.filter,
-        _ => filter.clear(),
+    let next = answer.filter;
+    let reason = answer.reason;
+    Compared {
+        asked: Asked::Windowed(next),
+        same: reply.is_done() & (reason.number() == n[10]) & holds(next, n),
     }
 }
 

@@ -22,7 +22,7 @@ pub struct Line {
     pub next: usize,
 }
 
-// The line that starts at a place of the text. The longest has 10 numbers.
+// The line that starts at a place of the text. The longest has 11 numbers.
 pub fn read_line(text: &[u8], at: usize) -> Line {
     let mut numbers = [0u64; 16];
     let mut last: usize = 0;

@@ -2,6 +2,9 @@
 use mathlib.Core.Path.{_≡_, sym, _∙_}
 use Rattle.numbers.specs.OneReply.{OneReply}
 use Rattle.units.proofs.reply.Number.{number-injective}
+use Rattle.filters.specs.declared.windowed_filter.Estimates.{Estimates}
+use Rattle.filters.specs.declared.windowed_filter.Reason.{Reason}
+use Rattle.filters.specs.declared.windowed_filter.Stepped.{Stepped}
 use Rattle.filters.specs.declared.windowed_filter.Updated.{Updated}
 use Rattle.units.specs.declared.reply.Reply.{Reply}
 use Rattle.filters.specs.declared.windowed_filter.WindowedFilter.{WindowedFilter}
@@ -11,12 +14,19 @@ use mathlib.Core.Bool.{Bool}
 use Rattle.filters.proofs.max_bandwidth_filter.MaxBandwidthFilter as max-bandwidth-filter-maxbandwidthfilter
 use Rattle.filters.proofs.min_rtt_filter.MinRttFilter as min-rtt-filter-minrttfilter
 use Rattle.filters.proofs.round_trip_counter.RoundTripCounter as round-trip-counter-roundtripcounter
+use Rattle.filters.proofs.windowed_filter.Held as windowed-filter-held
+use Rattle.filters.proofs.windowed_filter.Reason as windowed-filter-reason
 use Rattle.filters.proofs.windowed_filter.WindowedFilter as windowed-filter-windowedfilter
 
 pub updated :
-    {a a′ : Reply} {b b′ : WindowedFilter} → a ≡ a′ → b ≡ b′ →
-    _≡_ {A = Updated} (record { reply = a; filter = b }) (record { reply = a′; filter = b′ })
-updated p q = cc
+    {a a′ : Reply} {b b′ : WindowedFilter} {c c′ : Reason} → a ≡ a′ → b ≡ b′ → c ≡ c′ →
+    _≡_ {A = Updated} (record { reply = a; filter = b; reason = c }) (record { reply = a′; filter = b′; reason = c′ })
+updated p q r = cc
+
+pub stepped :
+    {a a′ : Estimates} {b b′ : Reason} → a ≡ a′ → b ≡ b′ →
+    _≡_ {A = Stepped} (record { estimates = a; reason = b }) (record { estimates = a′; reason = b′ })
+stepped p q = cc
 
 pub acked :
     {a a′ : Reply} {b b′ : RoundTripCounter} {c c′ : Bool} → a ≡ a′ → b ≡ b′ → c ≡ c′ →
@@ -81,4 +91,10 @@ pub one-windowed-filter-windowedfilter-get-third-best : OneReply windowed-filter
 one-windowed-filter-windowedfilter-get-third-best κ a x y s t p q = p ∙ sym q
 
 pub one-windowed-filter-windowedfilter-update : OneReply windowed-filter-windowedfilter.update.Reads.Learnt
-one-windowed-filter-windowedfilter-update κ a x y s t p q = updated (number-injective _ _ (p .0 ∙ sym (q .0))) (p .1 ∙ sym (q .1))
+one-windowed-filter-windowedfilter-update κ a x y s t p q = updated (number-injective _ _ (p .0 ∙ sym (q .0))) (p .1 .0 ∙ sym (q .1 .0)) (p .1 .1 ∙ sym (q .1 .1))
+
+pub one-windowed-filter-held-updated : OneReply windowed-filter-held.updated.Reads.Learnt
+one-windowed-filter-held-updated κ a x y s t p q = stepped (p .0 ∙ sym (q .0)) (p .1 ∙ sym (q .1))
+
+pub one-windowed-filter-reason-number : OneReply windowed-filter-reason.number.Reads.Learnt
+one-windowed-filter-reason-number κ a x y s t p q = p ∙ sym q

@@ -1,15 +1,17 @@
 -- document 01, "Marked examples": 9, about the windowed filter, and 10, about the max bandwidth filter. All twelve, in
--- one list with one proof, are in crates/laws/specs/Examples.antt.
+-- one list with one proof, are in crates/laws/specs/Examples.antt. After them, why a windowed filter's estimates moved.
 use Prim.Native.Nat.{ℕ}
 use mathlib.Core.Bool.{Bool, true, false, _&&_}
-use mathlib.Core.List.{List, [], _∷_}
+use mathlib.Core.List.{List, [], _∷_, _++_}
 use lib.Dec.{eqb}
 use Rattle.filters.specs.declared.max_bandwidth_filter.MaxBandwidthFilter.{MaxBandwidthFilter}
 use Rattle.filters.specs.declared.windowed_filter.Held.{Held}
 use Rattle.filters.specs.declared.windowed_filter.Held.the-variants.{Unset, Set}
+use Rattle.filters.specs.declared.windowed_filter.Sample.{Sample}
 use Rattle.filters.specs.declared.windowed_filter.WindowedFilter.{WindowedFilter}
 use Rattle.filters.specs.MaxBandwidthFilter.{maxAdvance}
-use Rattle.filters.specs.WindowedFilter.{windowedNew, windowedReset, windowedNumber, windowedUpdate}
+use Rattle.filters.specs.Reason.{reasonNumber, raisedReason, laterReason, windowedReason}
+use Rattle.filters.specs.WindowedFilter.{sampleAt, windowedNew, windowedReset, windowedNumber, windowedUpdate}
 
 abbrev same : List ℕ → List ℕ → Bool
 same [] [] = true
@@ -50,4 +52,50 @@ filterExamples =
     -- 10. Advance on (9, 0) leaves (9, 0); on (9, 4) gives (4, 0)
     ∷ same (slots (maxAdvance (filter 9 0))) (9 ∷ 0 ∷ [])
     ∷ same (slots (maxAdvance (filter 9 4))) (4 ∷ 0 ∷ [])
+    ∷ []
+
+-- ---- why the estimates moved: document 02, request f
+-- the filter after samples, and the numbers of their reasons
+abbrev fed : WindowedFilter → List Sample → WindowedFilter
+fed f [] = f
+fed f (x ∷ l) = fed (windowedUpdate f (x .sample) (x .time)) l
+
+abbrev reasons : WindowedFilter → List Sample → List ℕ
+reasons f [] = []
+reasons f (x ∷ l) =
+    reasonNumber (windowedReason f (x .sample) (x .time)) ∷ reasons (windowedUpdate f (x .sample) (x .time)) l
+
+-- what step 2 and the later steps name, each by itself
+abbrev acts : Held → Sample → ℕ → List ℕ
+acts Unset new w = []
+acts (Set e) new w = reasonNumber (raisedReason e new) ∷ reasonNumber (laterReason e new w) ∷ []
+
+-- three samples and a fourth, from an empty filter: their reasons; at the fourth, what each step names; what is held
+abbrev fourth : (w : ℕ) (a b c new : Sample) → List ℕ
+fourth w a b c new =
+    reasons (windowedNew w) (a ∷ b ∷ c ∷ new ∷ []) ++ acts (fed (windowedNew w) (a ∷ b ∷ c ∷ []) .held) new w
+
+abbrev after : (w : ℕ) (a b c new : Sample) → List ℕ
+after w a b c new = held (fed (windowedNew w) (a ∷ b ∷ c ∷ new ∷ []) .held)
+
+unfoldable pub reasonExamples : List Bool
+reasonExamples =
+    -- marked example 9: at 2 unchanged, at 3 a quarter refresh
+    eqb (reasonNumber (windowedReason start 5 2)) 7
+    ∷ eqb (reasonNumber (windowedReason start 5 3)) 5
+    -- a refused update: 9 would be a new best, but its time is before 3
+    ∷ eqb (reasonNumber (windowedReason (windowedReset (windowedNew 8) 5 3) 9 2)) 7
+    -- step 2 alone: the second raised, 1, and after a half refresh, 6, the third, 2
+    ∷ same (fourth 8 (sampleAt 5 0) (sampleAt 3 3) (sampleAt 2 4) (sampleAt 4 4)) (0 ∷ 5 ∷ 7 ∷ 1 ∷ 1 ∷ 7 ∷ [])
+    ∷ same (fourth 8 (sampleAt 5 0) (sampleAt 3 3) (sampleAt 1 8) (sampleAt 2 8)) (0 ∷ 5 ∷ 6 ∷ 2 ∷ 2 ∷ 7 ∷ [])
+    -- the second raised, 1, then promoted once, 3: that is the reason, though all three are the new sample
+    ∷ same (fourth 4 (sampleAt 0 0) (sampleAt 1 0) (sampleAt 0 2) (sampleAt 1 5)) (0 ∷ 0 ∷ 5 ∷ 3 ∷ 1 ∷ 3 ∷ [])
+    ∷ same (after 4 (sampleAt 0 0) (sampleAt 1 0) (sampleAt 0 2) (sampleAt 1 5)) (1 ∷ 5 ∷ 1 ∷ 5 ∷ 1 ∷ 5 ∷ [])
+    -- the third raised, 2, then promoted once, 3
+    ∷ same (fourth 8 (sampleAt 3 0) (sampleAt 2 3) (sampleAt 0 8) (sampleAt 1 9)) (0 ∷ 5 ∷ 6 ∷ 3 ∷ 2 ∷ 3 ∷ [])
+    -- the third raised, 2, then promoted twice, 4: again all three are the new sample
+    ∷ same (fourth 4 (sampleAt 1 0) (sampleAt 1 2) (sampleAt 0 5) (sampleAt 1 7)) (0 ∷ 5 ∷ 3 ∷ 4 ∷ 2 ∷ 4 ∷ [])
+    ∷ same (after 4 (sampleAt 1 0) (sampleAt 1 2) (sampleAt 0 5) (sampleAt 1 7)) (1 ∷ 7 ∷ 1 ∷ 7 ∷ 1 ∷ 7 ∷ [])
+    -- the third raised, 2, then a quarter refresh, 5
+    ∷ same (fourth 4 (sampleAt 1 0) (sampleAt 1 2) (sampleAt 0 5) (sampleAt 1 5)) (0 ∷ 5 ∷ 3 ∷ 5 ∷ 2 ∷ 5 ∷ [])
     ∷ []

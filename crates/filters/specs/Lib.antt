@@ -2,5 +2,6 @@
 pub mod Examples
 pub mod MaxBandwidthFilter
 pub mod MinRttFilter
+pub mod Reason
 pub mod RoundTripCounter
 pub mod WindowedFilter

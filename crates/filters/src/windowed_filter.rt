@@ -3,6 +3,8 @@ use units::MaybeNumber;
 use units::Reply;
 ghost use mathlib.Core.Path.{_≡_};
 ghost use Rattle.units.specs.Reply.{number};
+ghost use Rattle.filters.specs.declared.windowed_filter.Reason.the-variants.{AllReplaced};
+ghost use Rattle.filters.specs.Reason.{reasonNumber, raisedReason, shiftedReason, renewedReason, agedReason, reasonOf, windowedReason};
 ghost use Rattle.filters.specs.WindowedFilter.{allThree, isOlder, lingers, isAfter, isReplaced, raised, shifted, renewed, aged, updated, windowedNew, windowedReset, bestOf, secondOf, thirdOf, windowedNumber, windowedUpdate};
 
 pub struct Sample {
@@ -26,9 +28,46 @@ pub struct WindowedFilter {
     pub held: Held,
 }
 
+// What an update did to the estimates: the step of document 01 that acted last.
+pub enum Reason {
+    AllReplaced,
+    SecondRaised,
+    ThirdRaised,
+    PromotedOnce,
+    PromotedTwice,
+    QuarterRefresh,
+    HalfRefresh,
+    Unchanged,
+}
+
 pub struct Updated {
     pub reply: Reply,
     pub filter: WindowedFilter,
+    pub reason: Reason,
+}
+
+// The estimates that some of the steps leave, and the one of them that acted last.
+pub struct Stepped {
+    pub estimates: Estimates,
+    pub reason: Reason,
+}
+
+impl Reason {
+    // The reason's number, as the exported filter run writes it.
+    pub fn number(self) -> u64
+        ensures { λ r. ⌜ r ≡ reasonNumber self ⌝ }
+    {
+        match self {
+            Reason::AllReplaced => 0,
+            Reason::SecondRaised => 1,
+            Reason::ThirdRaised => 2,
+            Reason::PromotedOnce => 3,
+            Reason::PromotedTwice => 4,
+            Reason::QuarterRefresh => 5,
+            Reason::HalfRefresh => 6,
+            Reason::Unchanged => 7,
+        }
+    }
 }
 
 impl WindowedFilter {
@@ -93,26 +132,32 @@ impl WindowedFilter {
         }
     }
 
-    // The filter after a sample, or the refusal of a time before a stored one.
+    // The filter after a sample and why it moved, or the refusal of a time before a stored one.
     pub fn update(self, sample: u64, time: u64) -> Updated
         ensures reply { λ r. ⌜ number (r .reply) ≡ windowedNumber self time ⌝ }
         ensures filter { λ r. ⌜ r .filter ≡ windowedUpdate self sample time ⌝ }
+        ensures reason { λ r. ⌜ r .reason ≡ windowedReason self sample time ⌝ }
     {
         let held = self.held;
         if held.is_after(time) {
             return Updated {
                 reply: Reply::EarlierMoment,
                 filter: self,
+                reason: Reason::Unchanged,
             };
         }
         let new = Sample { sample, time };
+        let stepped = held.updated(new, self.window);
+        let estimates = stepped.estimates;
+        let reason = stepped.reason;
         let filter = WindowedFilter {
             window: self.window,
-            held: Held::Set(held.updated(new, self.window)),
+            held: Held::Set(estimates),
         };
         Updated {
             reply: Reply::Done,
             filter,
+            reason,
         }
     }
 }
@@ -129,14 +174,15 @@ impl Held {
     }
 
     // Step 1, and where it does not apply, the steps after it.
-    fn updated(self, new: Sample, window: u64) -> Estimates
-        ensures { λ r. ⌜ r ≡ updated self new window ⌝ }
+    pub fn updated(self, new: Sample, window: u64) -> Stepped
+        ensures estimates { λ r. ⌜ r .estimates ≡ updated self new window ⌝ }
+        ensures reason { λ r. ⌜ r .reason ≡ reasonOf self new window ⌝ }
     {
         let Held::Set(e) = self else {
-            return Estimates::all(new);
+            return Stepped::replaced(new);
         };
         if e.is_replaced(new, window) {
-            Estimates::all(new)
+            Stepped::replaced(new)
         } else {
             e.raised(new).aged(new, window)
         }
@@ -164,33 +210,58 @@ impl Estimates {
     }
 
     // Step 2: the new sample takes the place of what it exceeds.
-    fn raised(self, new: Sample) -> Estimates
-        ensures { λ r. ⌜ r ≡ raised self new ⌝ }
+    fn raised(self, new: Sample) -> Stepped
+        ensures estimates { λ r. ⌜ r .estimates ≡ raised self new ⌝ }
+        ensures reason { λ r. ⌜ r .reason ≡ raisedReason self new ⌝ }
     {
         let best = self.best;
         let second = self.second;
         if second.sample < new.sample {
-            Estimates {
-                best,
-                second: new,
-                third: new,
+            Stepped {
+                estimates: Estimates {
+                    best,
+                    second: new,
+                    third: new,
+                },
+                reason: Reason::SecondRaised,
             }
         } else if self.third.sample < new.sample {
-            Estimates {
-                best,
-                second,
-                third: new,
+            Stepped {
+                estimates: Estimates {
+                    best,
+                    second,
+                    third: new,
+                },
+                reason: Reason::ThirdRaised,
             }
         } else {
-            self
+            Stepped {
+                estimates: self,
+                reason: Reason::Unchanged,
+            }
+        }
+    }
+}
+
+impl Stepped {
+    // Step 1 acted: all three are the new sample.
+    fn replaced(new: Sample) -> Stepped
+        ensures estimates { λ r. ⌜ r .estimates ≡ allThree new ⌝ }
+        ensures reason { λ r. ⌜ r .reason ≡ AllReplaced ⌝ }
+    {
+        Stepped {
+            estimates: Estimates::all(new),
+            reason: Reason::AllReplaced,
         }
     }
 
-    // Steps 3 to 5: the first that applies is the last.
-    fn aged(self, new: Sample, window: u64) -> Estimates
-        ensures { λ r. ⌜ r ≡ aged self new window ⌝ }
+    // Steps 3 to 5 after step 2: the first that applies is the last, and gives its name.
+    fn aged(self, new: Sample, window: u64) -> Stepped
+        ensures estimates { λ r. ⌜ r .estimates ≡ aged (self .estimates) new window ⌝ }
+        ensures reason { λ r. ⌜ r .reason ≡ agedReason (self .estimates) new window (self .reason) ⌝ }
     {
-        let best = self.best;
+        let e = self.estimates;
+        let best = e.best;
         if best.is_older(window, new.time) {
             self.shifted(new, window)
         } else {
@@ -199,44 +270,60 @@ impl Estimates {
     }
 
     // Step 3: the estimates move up once, and the upper two again where the new best is too old.
-    fn shifted(self, new: Sample, window: u64) -> Estimates
-        ensures { λ r. ⌜ r ≡ shifted self new window ⌝ }
+    fn shifted(self, new: Sample, window: u64) -> Stepped
+        ensures estimates { λ r. ⌜ r .estimates ≡ shifted (self .estimates) new window ⌝ }
+        ensures reason { λ r. ⌜ r .reason ≡ shiftedReason (self .estimates) new window ⌝ }
     {
-        let second = self.second;
-        let third = self.third;
+        let e = self.estimates;
+        let second = e.second;
+        let third = e.third;
         if second.is_older(window, new.time) {
-            Estimates {
-                best: third,
-                second: new,
-                third: new,
+            Stepped {
+                estimates: Estimates {
+                    best: third,
+                    second: new,
+                    third: new,
+                },
+                reason: Reason::PromotedTwice,
             }
         } else {
-            Estimates {
-                best: second,
-                second: third,
-                third: new,
+            Stepped {
+                estimates: Estimates {
+                    best: second,
+                    second: third,
+                    third: new,
+                },
+                reason: Reason::PromotedOnce,
             }
         }
     }
 
     // Steps 4 and 5: an estimate that has long repeated the better one gives way to the new sample.
-    fn renewed(self, new: Sample, window: u64) -> Estimates
-        ensures { λ r. ⌜ r ≡ renewed self new window ⌝ }
+    fn renewed(self, new: Sample, window: u64) -> Stepped
+        ensures estimates { λ r. ⌜ r .estimates ≡ renewed (self .estimates) new window ⌝ }
+        ensures reason { λ r. ⌜ r .reason ≡ renewedReason (self .estimates) new window (self .reason) ⌝ }
     {
-        let best = self.best;
-        let second = self.second;
-        let third = self.third;
+        let e = self.estimates;
+        let best = e.best;
+        let second = e.second;
+        let third = e.third;
         if second.lingers(best, window / 4, new.time) {
-            Estimates {
-                best,
-                second: new,
-                third: new,
+            Stepped {
+                estimates: Estimates {
+                    best,
+                    second: new,
+                    third: new,
+                },
+                reason: Reason::QuarterRefresh,
             }
         } else if third.lingers(second, window / 2, new.time) {
-            Estimates {
-                best,
-                second,
-                third: new,
+            Stepped {
+                estimates: Estimates {
+                    best,
+                    second,
+                    third: new,
+                },
+                reason: Reason::HalfRefresh,
             }
         } else {
             self

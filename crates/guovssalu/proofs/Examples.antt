@@ -2,6 +2,7 @@
 use mathlib.Core.Bool.{true}
 use mathlib.Core.Path.{_≡_, refl}
 use Rattle.numbers.specs.Examples.{all}
+use Rattle.filters.specs.Reason.{raisedReason, shiftedReason, renewedReason, agedReason, windowedReason}
 use Rattle.filters.specs.WindowedFilter.{isReplaced, raised, shifted, lingers, renewed, aged, windowedNumber, windowedUpdate}
 use Rattle.filters.specs.RoundTripCounter.{roundsSent}
 use Rattle.state.specs.Answers.{settled}
@@ -21,7 +22,7 @@ use Rattle.arguments.specs.Params.{paramsFrom}
 use Rattle.dispatch.specs.OneCall.{answerWords}
 use Rattle.dispatch.specs.Outcome.{startOutcome, sendOutcome, outcomeOf}
 use Rattle.guovssalu.specs.Examples.{exportExamples, startExamples}
-use Rattle.pairs.specs.Pairs.{afterPair, refuses, samples, samplesOf, runRow}
+use Rattle.pairs.specs.Pairs.{afterPair, refuses, samples, pairWords, runWords, runRow}
 use Rattle.guovssalu.specs.FilterRun.{runOut}
 use Rattle.layout.specs.StateWords.{sameWords, isState}
 use Rattle.guovssalu.specs.ModelRun.{encodesNone, outcomeAt, answersTo, leftBy, answersFrom, wordsLeft, modelRow, answersOut, stateOut}
@@ -29,7 +30,7 @@ use Rattle.guovssalu.specs.Reply.{answered}
 use Rattle.guovssalu.specs.Slope.{slopeRow, slopeWords, slopeOut}
 
 pub export-examples : all exportExamples ≡ true
-unfolding all exportExamples isReplaced raised shifted lingers renewed aged windowedNumber windowedUpdate numberAt lowBytes allBytes afterPair refuses samples samplesOf runRow runOut rowOf orShort answered slopeRow slopeWords slopeOut modelRow encodesNone isState sameWords wordsAt modelFrom modelWords cycleFrom cycleWords leftBy wordsLeft answersTo answersFrom stateOut answersOut toBits ofBits
+unfolding all exportExamples isReplaced raised shifted lingers renewed aged windowedNumber windowedUpdate raisedReason shiftedReason renewedReason agedReason windowedReason numberAt lowBytes allBytes afterPair refuses samples pairWords runWords runRow runOut rowOf orShort answered slopeRow slopeWords slopeOut modelRow encodesNone isState sameWords wordsAt modelFrom modelWords cycleFrom cycleWords leftBy wordsLeft answersTo answersFrom stateOut answersOut toBits ofBits
 export-examples = refl
 
 pub start-examples : all startExamples ≡ true

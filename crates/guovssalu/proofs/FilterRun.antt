@@ -10,11 +10,11 @@ use Rattle.state.proofs.Rows.{none}
 use Rattle.pairs.specs.Pairs.{pairs, refuses, runRow}
 use Rattle.guovssalu.proofs.Rows.{done-room, done-first}
 
--- done, no pair is refused, and there is room for three words a pair
+-- done, no pair is refused, and there is room for four words a pair
 pub run-done :
     (window : ℕ) (src : List ℕ) (room : ℕ) → eqb (runRow window src room) 0 ≡ true →
-    (refuses (windowedNew window) src 0 (pairs src) ≡ false) × (24 * pairs src ≤ room)
+    (refuses (windowedNew window) src 0 (pairs src) ≡ false) × (32 * pairs src ≤ room)
 unfolding runRow
 run-done window src room h =
-    let short = ltb room (24 * pairs src) in
-    (none _ _ _ _ _ (done-first _ short h) .in-order, ltb-false room (24 * pairs src) (done-room _ short h))
+    let short = ltb room (32 * pairs src) in
+    (none _ _ _ _ _ (done-first _ short h) .in-order, ltb-false room (32 * pairs src) (done-room _ short h))

@@ -25,6 +25,10 @@ writes out words = same out (allBytes words ++ room 1)
 abbrev pub rising : List ℕ
 rising = allBytes (0 ∷ 5 ∷ 2 ∷ 5 ∷ 3 ∷ 4 ∷ [])
 
+-- the rows of docs/LAYOUT.md
+abbrev pub seven : List ℕ
+seven = allBytes (0 ∷ 5 ∷ 2 ∷ 5 ∷ 3 ∷ 5 ∷ 5 ∷ 3 ∷ 8 ∷ 4 ∷ 9 ∷ 2 ∷ 12 ∷ 6 ∷ [])
+
 abbrev pub falling : List ℕ
 falling = allBytes (0 ∷ 5 ∷ 2 ∷ 1 ∷ 1 ∷ 1 ∷ [])
 
@@ -41,22 +45,33 @@ call number = allBytes (number ∷ zeros 48)
 
 unfoldable pub exportExamples : List Bool
 exportExamples =
-    -- three samples after each pair: at 3 the second and the third have become the new sample
-    eqb (runRow 8 rising 73) 0
-    ∷ writes (runOut 8 rising (room 73)) (5 ∷ 5 ∷ 5 ∷ 5 ∷ 5 ∷ 5 ∷ 5 ∷ 4 ∷ 4 ∷ [])
+    -- three samples after each pair, and the reason: at 3 the second and the third have become the new sample, 5
+    eqb (runRow 8 rising 97) 0
+    ∷ writes (runOut 8 rising (room 97)) (5 ∷ 5 ∷ 5 ∷ 0 ∷ 5 ∷ 5 ∷ 5 ∷ 7 ∷ 5 ∷ 4 ∷ 4 ∷ 5 ∷ [])
+    -- seven pairs: all replaced, unchanged, quarter refresh, unchanged, quarter refresh, promoted once, all replaced
+    ∷ eqb (runRow 8 seven 225) 0
+    ∷ writes (runOut 8 seven (room 225))
+    ((5 ∷ 5 ∷ 5 ∷ 0 ∷ [])
+    ++ (5 ∷ 5 ∷ 5 ∷ 7 ∷ [])
+    ++ (5 ∷ 5 ∷ 5 ∷ 5 ∷ [])
+    ++ (5 ∷ 5 ∷ 5 ∷ 7 ∷ [])
+    ++ (5 ∷ 4 ∷ 4 ∷ 5 ∷ [])
+    ++ (4 ∷ 4 ∷ 2 ∷ 3 ∷ [])
+    ++ (6 ∷ 6 ∷ 6 ∷ 0 ∷ []))
     -- no pair: done, and nothing written
     ∷ eqb (runRow 8 [] 0) 0
     ∷ same (runOut 8 [] (room 1)) (room 1)
     -- times may fall, if not below one that the filter holds
-    ∷ eqb (runRow 8 falling 72) 0
+    ∷ eqb (runRow 8 falling 96) 0
     -- a byte is missing, and the output is short
     ∷ eqb (runRow 8 (take 47 rising) 0) 2
     -- a pair is refused, and the output is short
     ∷ eqb (runRow 8 refused 0) 3
-    ∷ same (runOut 8 refused (room 48)) (room 48)
-    -- the output is a byte short
-    ∷ eqb (runRow 8 rising 71) 7
-    ∷ same (runOut 8 rising (room 71)) (room 71)
+    ∷ same (runOut 8 refused (room 64)) (room 64)
+    -- the output is a byte short, or has room for the samples alone
+    ∷ eqb (runRow 8 rising 95) 7
+    ∷ same (runOut 8 rising (room 95)) (room 95)
+    ∷ eqb (runRow 8 rising 72) 7
     -- the slope: the next rounds, and probe_up_bytes
     ∷ writes (slopeOut 0 26_000 (room 17)) (1 ∷ 26_000 ∷ [])
     ∷ writes (slopeOut 1 26_000 (room 17)) (2 ∷ 13_000 ∷ [])

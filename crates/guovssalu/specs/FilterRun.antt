@@ -4,8 +4,8 @@ use mathlib.Core.List.{List}
 use lib.ListN.{length}
 use Rattle.filters.specs.WindowedFilter.{windowedNew}
 use Rattle.guovssalu.specs.Reply.{answered}
-use Rattle.pairs.specs.Pairs.{pairs, samplesOf, runRow}
+use Rattle.pairs.specs.Pairs.{pairs, runWords, runRow}
 
 unfoldable pub runOut : (window : ℕ) (src out : List ℕ) → List ℕ
 runOut window src out =
-    answered (runRow window src (length out)) (samplesOf (windowedNew window) src 0 (pairs src)) out
+    answered (runRow window src (length out)) (runWords (windowedNew window) src 0 (pairs src)) out

@@ -1,4 +1,5 @@
--- document 01's twelve marked examples hold of the definitions: one list of facts, one proof, which antt computes.
+-- document 01's twelve marked examples hold of the definitions: one list of facts, one proof, which antt computes. So do
+-- the worked reasons of a windowed filter.
 use mathlib.Core.Bool.{true}
 use mathlib.Core.Path.{_≡_, refl}
 use lib.Ieee as Ieee
@@ -6,8 +7,9 @@ use Rattle.numbers.specs.FloatToInt.{roundAway}
 use Rattle.numbers.specs.Scaling.{scaled, scaledF64}
 use Rattle.numbers.specs.Examples.{all, conversions}
 use Rattle.units.specs.Bandwidth.{timesF32}
-use Rattle.filters.specs.Examples.{filterExamples}
+use Rattle.filters.specs.Examples.{filterExamples, reasonExamples}
 use Rattle.filters.specs.MaxBandwidthFilter.{maxGet, maxAdvance}
+use Rattle.filters.specs.Reason.{raisedReason, shiftedReason, renewedReason, agedReason, windowedReason}
 use Rattle.filters.specs.WindowedFilter.{isReplaced, raised, shifted, lingers, renewed, aged, windowedReset, windowedNumber, windowedUpdate}
 use Rattle.state.specs.Answers.{settled}
 use Rattle.state.specs.Bounds.{within}
@@ -27,3 +29,7 @@ use Rattle.laws.specs.Examples.{markedExamples}
 pub marked-examples : all markedExamples ≡ true
 unfolding all markedExamples conversions filterExamples eventExamples slopeExamples growthExamples scaled scaledF64 roundAway timesF32 Ieee.round Ieee.ofBits Ieee.sub Ieee.mul Ieee.ofInt Ieee.toUnsigned Ieee.eq maxGet maxAdvance windowedReset isReplaced raised shifted lingers renewed aged windowedNumber windowedUpdate settled within paramsOk roundOk modelTests rowOf modelNew startNumber startModel lowerAfter lowerReduced eventTests hasGrown countsFlat growthFull judgedNumber slopeRaised Ieee.le
 marked-examples = refl
+
+pub reason-examples : all reasonExamples ≡ true
+unfolding all reasonExamples windowedReset isReplaced raised shifted lingers renewed aged windowedUpdate raisedReason shiftedReason renewedReason agedReason windowedReason
+reason-examples = refl

@@ -5,4 +5,5 @@ pub mod Tested
 pub mod Phases
 pub mod Contracts
 pub mod Replies
+pub mod Reasons
 pub mod Examples

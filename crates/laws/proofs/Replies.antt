@@ -7,6 +7,8 @@ use denote.Ref.{now}
 use Rattle.units.specs.declared.reply.Reply.{Reply}
 use Rattle.units.specs.Reply.{number}
 use Rattle.filters.specs.RoundTripCounter.{endsRound, roundsFull, roundsNumber, roundsEnded, roundsAcked}
+use Rattle.filters.specs.declared.windowed_filter.Reason.the-variants.{Unchanged}
+use Rattle.filters.specs.Reason.{windowedReason}
 use Rattle.filters.specs.WindowedFilter.{isAfter, windowedNumber, windowedUpdate}
 use Rattle.state.specs.Answers.{settled}
 use Rattle.state.specs.declared.refusals.Rows.{Rows}
@@ -170,9 +172,11 @@ ended true false = refl
 ended false most = refl
 
 filters : EveryFilter
-unfolding rowOf windowedNumber windowedUpdate roundsNumber roundsFull roundsEnded roundsAcked
+unfolding rowOf windowedNumber windowedUpdate windowedReason roundsNumber roundsFull roundsEnded roundsAcked
 filters = record {
-  windowedUpdates = λ f sample time κ x s p. answered _ (p .0) (p .1 ∙ stays (isAfter (f .held) time) _ f);
+  windowedUpdates = λ f sample time κ x s p.
+      let refused = isAfter (f .held) time in
+      answered-both _ (p .0) (p .1 .0 ∙ stays refused _ f) (p .1 .1 ∙ stays refused _ Unchanged);
   roundsAck = λ κ a x s p.
       let ends = endsRound (a .0 .end) (now (a .1 .0)) in
       let most = isFullCounter (a .0 .count) in

@@ -23,9 +23,12 @@ use Rattle.units.specs.declared.reply.Reply.{Reply}
 use Rattle.filters.specs.declared.round_trip_counter.RoundTripCounter.{RoundTripCounter}
 use Rattle.units.specs.declared.time.Duration.{Duration}
 use Rattle.units.specs.declared.time.Moment.{Moment}
+use Rattle.filters.specs.declared.windowed_filter.Reason.{Reason}
+use Rattle.filters.specs.declared.windowed_filter.Reason.the-variants.{Unchanged}
 use Rattle.filters.specs.declared.windowed_filter.WindowedFilter.{WindowedFilter}
 use Rattle.filters.specs.MaxBandwidthFilter.{maxGet}
 use Rattle.units.specs.Reply.{number}
+use Rattle.filters.specs.Reason.{windowedReason}
 use Rattle.filters.specs.RoundTripCounter.{endsRound, roundsAcked, roundsEnded}
 use Rattle.filters.specs.WindowedFilter.{isAfter, windowedUpdate}
 use Rattle.state.specs.declared.network_model.NetworkModel.{NetworkModel}
@@ -265,8 +268,8 @@ pub record EveryPhase : Type 0 where
 pub record EveryFilter : Type 0 where
   pub windowedUpdates : (f : WindowedFilter) (sample time : ℕ) →
       Every windowed.update.Reads.Learnt (λ κ. (f, (sample, (time, tt))))
-      (λ x. Answered (x .reply) (earlier (isAfter (f .held) time) noRows) (x .filter)
-      (windowedUpdate f sample time) f)
+      (λ x. Answered {A = WindowedFilter × Reason} (x .reply) (earlier (isAfter (f .held) time) noRows)
+      (x .filter, x .reason) (windowedUpdate f sample time, windowedReason f sample time) (f, Unchanged))
   pub roundsAck :
       EveryLent rounds.on_packets_acked.Reads.Learnt
       (λ κ a x.

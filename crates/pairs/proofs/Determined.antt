@@ -11,7 +11,7 @@ use Rattle.pairs.proofs.pairs as pairs
 pub one-run-reply : OneReply pairs.run_reply.Reads.Learnt
 one-run-reply κ a x y s t p q = number-injective _ _ (p ∙ sym q)
 
-pub one-pass :
-    (κ : Lfts 2) (a : Dens κ pairs.pass.Kinds.ps) (x y : resT pairs.pass.Kinds.r κ .Denot) (s t : AtExit (endedOf 2 pairs.pass.Kinds.ps pairs.pass.Kinds.r) κ) →
-    pairs.pass.Reads.Learnt κ a x s → pairs.pass.Reads.Learnt κ a y t → (x ≡ y) × (now (s .1 .1 .0) ≡ now (t .1 .1 .0))
-one-pass κ a x y s t p q = (p .0 ∙ sym (q .0), p .1 ∙ sym (q .1))
+pub one-write-run :
+    (κ : Lfts 2) (a : Dens κ pairs.write_run.Kinds.ps) (x y : resT pairs.write_run.Kinds.r κ .Denot) (s t : AtExit (endedOf 2 pairs.write_run.Kinds.ps pairs.write_run.Kinds.r) κ) →
+    pairs.write_run.Reads.Learnt κ a x s → pairs.write_run.Reads.Learnt κ a y t → now (s .1 .1 .0) ≡ now (t .1 .1 .0)
+one-write-run κ a x y s t p q = p ∙ sym q

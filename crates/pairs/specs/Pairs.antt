@@ -1,5 +1,7 @@
 -- The exported filter run: document 01, "Order of porting, and what changes shape": "a filter run over little-endian
--- u64 pairs (time, sample) that writes three samples per pair, u64 each. It starts empty."
+-- u64 pairs (time, sample) that writes three samples per pair, u64 each. It starts empty." And document 02, request f:
+-- "the exported filter run writes it" (the reason) "as a fourth u64 after the three samples, numbered 0 to 7 in this
+-- order, and gives 7 under 32 bytes a pair".
 use Prim.Native.Nat.{ℕ, zero, suc, _+_, _*_, _/_, _%_}
 use mathlib.Core.Bool.{Bool, false, not, _||_}
 use mathlib.Core.List.{List, [], _∷_, _++_}
@@ -8,6 +10,7 @@ use lib.Dec.{ltb, eqb}
 use Rattle.units.specs.declared.maybe.MaybeNumber.{MaybeNumber}
 use Rattle.units.specs.declared.maybe.MaybeNumber.the-variants as Number
 use Rattle.filters.specs.declared.windowed_filter.WindowedFilter.{WindowedFilter}
+use Rattle.filters.specs.Reason.{reasonNumber, windowedReason}
 use Rattle.filters.specs.WindowedFilter.{windowedNew, windowedNumber, windowedUpdate, bestOf, secondOf, thirdOf}
 use Rattle.state.specs.Refusals.{noRows, argument, earlier, lowest, orShort}
 use Rattle.words.specs.Words.{wordAt}
@@ -34,15 +37,21 @@ sampleIn (Number.Set sample) = sample
 unfoldable pub samples : WindowedFilter → List ℕ
 samples f = sampleIn (bestOf (f .held)) ∷ sampleIn (secondOf (f .held)) ∷ sampleIn (thirdOf (f .held)) ∷ []
 
--- those that n pairs leave, from an index on
-unfoldable pub samplesOf : WindowedFilter → List ℕ → ℕ → ℕ → List ℕ
-samplesOf f src at zero = []
-samplesOf f src at (suc n) = samples (afterPair f src at) ++ samplesOf (afterPair f src at) src (at + 16) n
+-- what the pair at an index has written: the samples after it, and its reason's number "as a fourth u64"
+unfoldable pub pairWords : WindowedFilter → List ℕ → ℕ → List ℕ
+pairWords f src at =
+    samples (afterPair f src at)
+    ++ (reasonNumber (windowedReason f (wordAt src (at + 8)) (wordAt src at)) ∷ [])
 
--- "Bytes not in whole sixteens give 2; a pair that the update would refuse, 3 for the whole run; an output under 24
--- bytes a pair, 7"
+-- what n pairs have written, from an index on
+unfoldable pub runWords : WindowedFilter → List ℕ → ℕ → ℕ → List ℕ
+runWords f src at zero = []
+runWords f src at (suc n) = pairWords f src at ++ runWords (afterPair f src at) src (at + 16) n
+
+-- "Bytes not in whole sixteens give 2; a pair that the update would refuse, 3 for the whole run"; "and gives 7 under 32
+-- bytes a pair"
 unfoldable pub runRow : (window : ℕ) (src : List ℕ) (room : ℕ) → ℕ
 runRow window src room =
     let uneven = not (eqb (length src % 16) 0) in
     let refused = refuses (windowedNew window) src 0 (pairs src) in
-    orShort (lowest (argument uneven (earlier refused noRows))) (ltb room (24 * pairs src))
+    orShort (lowest (argument uneven (earlier refused noRows))) (ltb room (32 * pairs src))

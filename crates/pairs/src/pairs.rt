@@ -1,19 +1,21 @@
 // The windowed filter, run over pairs of a time and a sample in bytes.
-ghost use mathlib.Core.Bool.{true, false};
+ghost use mathlib.Core.Bool.{false};
 ghost use mathlib.Core.Path.{_≡_};
 ghost use Prim.Native.Nat.{_+_, _*_, _≤_};
 ghost use lib.ListN.{length};
+ghost use lib.Seq.{sets};
 ghost use Rattle.units.specs.Reply.{number};
-ghost use Rattle.filters.specs.WindowedFilter.{windowedNew, windowedNumber};
-ghost use Rattle.words.specs.Words.{wordAt};
-ghost use Rattle.pairs.specs.Pairs.{pairs, afterPair, refuses, sampleIn, samples, samplesOf, runRow};
-ghost use Rattle.pairs.specs.Inner.{timesFall, setsWhere};
+ghost use Rattle.filters.specs.WindowedFilter.{windowedNew};
+ghost use Rattle.words.specs.Words.{allBytes};
+ghost use Rattle.pairs.specs.Pairs.{pairs, refuses, runWords, runRow};
+ghost use Rattle.pairs.specs.Inner.{timesFall, pairAt, steppedWords};
 use filters::WindowedFilter;
-use filters::windowed_filter::Updated;
+use filters::windowed_filter::Held;
+use filters::windowed_filter::Sample;
+use filters::windowed_filter::Stepped;
 use state::refusals::Rows;
 use state::refusals::or_short;
 use state::refusals::refusal;
-use units::MaybeNumber;
 use units::Reply;
 use words::get_word;
 use words::put_words;
@@ -28,7 +30,7 @@ pub fn run_reply(window: u64, src: &[u8], room: usize) -> Reply
         earlier: is_refused(window, src),
         ..Rows::NONE
     });
-    or_short(reply, room < 24 * (src.len() / 16))
+    or_short(reply, room < 32 * (src.len() / 16))
 }
 
 // Whether the update refuses a pair. Where no time falls, it refuses none.
@@ -38,8 +40,7 @@ fn is_refused(window: u64, src: &[u8]) -> bool
     if !times_fall(src) {
         return false;
     }
-    let mut unwritten = [0u8; 0];
-    pass(window, src, &mut unwritten, false)
+    meets_refusal(window, src)
 }
 
 // Whether a time is earlier than the one before it.
@@ -60,66 +61,63 @@ fn times_fall(src: &[u8]) -> bool
     false
 }
 
-// Whether the update refuses a pair. Where told to, which is where it refuses none, writes the
-// samples that each pair leaves.
-pub fn pass(window: u64, src: &[u8], out: &mut [u8], writes: bool) -> bool
-    requires { ⌜ (writes ≡ true → (refuses (windowedNew window) (now src) 0 (pairs (now src)) ≡ false) × (24 * pairs (now src) ≤ length (now out))) ⌝ }
-    ensures reply { λ r. ⌜ r ≡ refuses (windowedNew window) (now (src .entry)) 0 (pairs (now (src .entry))) ⌝ }
-    ensures written { λ _. ⌜ now (out .exit) ≡ setsWhere writes (now (out .entry)) 0 (samplesOf (windowedNew window) (now (src .entry)) 0 (pairs (now (src .entry)))) ⌝ }
+// Whether the update refuses a pair, by updates from the first pair on.
+fn meets_refusal(window: u64, src: &[u8]) -> bool
+    ensures { λ r. ⌜ r ≡ refuses (windowedNew window) (now (src .entry)) 0 (pairs (now (src .entry))) ⌝ }
 {
     let count = src.len() / 16;
     let mut filter = WindowedFilter::new(window);
     let mut i = 0;
     while i < count {
-        let updated = after_pair(filter, src, 16 * i);
+        let pair = pair_at(src, 16 * i);
+        let updated = filter.update(pair.sample, pair.time);
         let update = updated.reply;
         if !update.is_done() {
             return true;
         }
         filter = updated.filter;
-        put_samples(out, 24 * i, filter, writes);
         i += 1;
     }
     false
 }
 
-// Writes a filter's samples at an index, where told to.
-fn put_samples(out: &mut [u8], at: usize, filter: WindowedFilter, writes: bool)
-    requires { ⌜ (writes ≡ true → at + 24 ≤ length (now out)) ⌝ }
-    ensures { λ _. ⌜ now (out .exit) ≡ setsWhere writes (now (out .entry)) at (samples filter) ⌝ }
+// Writes the samples that each pair leaves, and why they moved. No pair is refused.
+pub fn write_run(window: u64, src: &[u8], out: &mut [u8])
+    requires { ⌜ (refuses (windowedNew window) (now src) 0 (pairs (now src)) ≡ false) × (32 * pairs (now src) ≤ length (now out)) ⌝ }
+    ensures { λ _. ⌜ now (out .exit) ≡ sets (now (out .entry)) 0 (allBytes (runWords (windowedNew window) (now (src .entry)) 0 (pairs (now (src .entry))))) ⌝ }
 {
-    if writes {
-        put_words(out, at, &samples_of(filter));
+    let count = src.len() / 16;
+    let mut held = Held::Unset;
+    let mut i = 0;
+    while i < count {
+        let stepped = held.updated(pair_at(src, 16 * i), window);
+        put_words(out, 32 * i, &words_of(stepped));
+        let estimates = stepped.estimates;
+        held = Held::Set(estimates);
+        i += 1;
     }
 }
 
-// The update by the pair at an index.
-fn after_pair(filter: WindowedFilter, src: &[u8], at: usize) -> Updated
+// The pair at an index: a time, then a sample.
+fn pair_at(src: &[u8], at: usize) -> Sample
     requires { ⌜ at + 16 ≤ length (now src) ⌝ }
-    ensures reply { λ r. ⌜ number (r .reply) ≡ windowedNumber filter (wordAt (now (src .entry)) at) ⌝ }
-    ensures filter { λ r. ⌜ r .filter ≡ afterPair filter (now (src .entry)) at ⌝ }
+    ensures { λ r. ⌜ r ≡ pairAt (now (src .entry)) at ⌝ }
 {
     let time = get_word(src, at);
     let sample = get_word(src, at + 8);
-    filter.update(sample, time)
+    Sample { sample, time }
 }
 
-// The three samples that a filter holds.
-fn samples_of(filter: WindowedFilter) -> [u64; 3]
-    ensures { λ r. ⌜ r ≡ samples filter ⌝ }
+// The three samples, and the reason's number.
+fn words_of(stepped: Stepped) -> [u64; 4]
+    ensures { λ r. ⌜ r ≡ steppedWords stepped ⌝ }
 {
-    let best = sample_in(filter.get_best());
-    let second = sample_in(filter.get_second_best());
-    let third = sample_in(filter.get_third_best());
-    [best, second, third]
-}
-
-// An estimate's sample; an empty filter has none.
-fn sample_in(estimate: MaybeNumber) -> u64
-    ensures { λ r. ⌜ r ≡ sampleIn estimate ⌝ }
-{
-    match estimate {
-        MaybeNumber::Unset => 0,
-        MaybeNumber::Set(sample) => sample,
-    }
+    let e = stepped.estimates;
+    let reason = stepped.reason;
+    [
+        e.best.sample,
+        e.second.sample,
+        e.third.sample,
+        reason.number(),
+    ]
 }

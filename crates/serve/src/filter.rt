@@ -6,35 +6,39 @@ use filters::windowed_filter::Estimates;
 use filters::windowed_filter::Held;
 use filters::windowed_filter::Sample;
 use filters::windowed_filter::Updated;
-use units::Reply;
 use words::get_words;
 use words::put_words;
 
-// Words 1 to 3 of the call are the operation and its two numbers, 4 to 11 the filter. The answer is the reply, 0, and
-// the filter after it.
+// Words 1 to 3 of the call are the operation and its two numbers, 4 to 11 the filter. The answer is the reply, of an
+// update the reason and else 0, and the filter after it.
 pub fn answer(call: &[u8], out: &mut [u8])
     requires { ⌜ (length (now call) ≡ 392) × (length (now out) ≡ 544) ⌝ }
 {
     let mut n = [0u64; 12];
     get_words(call, 0, &mut n);
-    let updated = operated(filter_of(&n), n[1], n[2], n[3]);
-    put_words(out, 0, &answer_words(updated));
+    put_words(out, 0, &operated(filter_of(&n), n[1], n[2], n[3]));
 }
 
-fn operated(filter: WindowedFilter, op: u64, x: u64, y: u64) -> Updated {
+fn operated(filter: WindowedFilter, op: u64, x: u64, y: u64) -> [u64; 18] {
     match op {
         0 => done(WindowedFilter::new(x)),
         1 => done(filter.reset(x, y)),
-        2 => filter.update(x, y),
+        2 => updated(filter.update(x, y)),
         _ => done(filter.clear()),
     }
 }
 
-fn done(filter: WindowedFilter) -> Updated {
-    Updated {
-        reply: Reply::Done,
-        filter,
-    }
+// The words of a filter that an operation without a reason leaves.
+fn done(filter: WindowedFilter) -> [u64; 18] {
+    answer_words(0, 0, filter)
+}
+
+// The words of an update.
+fn updated(updated: Updated) -> [u64; 18] {
+    let reply = updated.reply;
+    let reason = updated.reason;
+    let filter = updated.filter;
+    answer_words(reply.row(), reason.number(), filter)
 }
 
 fn filter_of(n: &[u64; 12]) -> WindowedFilter {
@@ -54,12 +58,11 @@ fn sample(sample: u64, time: u64) -> Sample {
     Sample { sample, time }
 }
 
-fn answer_words(updated: Updated) -> [u64; 18] {
-    let reply = updated.reply;
-    let filter = updated.filter;
+fn answer_words(reply: u64, reason: u64, filter: WindowedFilter) -> [u64; 18] {
     let held = filter.held;
     let mut words = [0u64; 18];
-    words[0] = reply.row();
+    words[0] = reply;
+    words[1] = reason;
     words[2] = filter.window;
     match held {
         Held::Unset => words,

@@ -14,7 +14,7 @@ pub fn filter_run(call: &[u8], answer: &mut [u8])
     requires { ⌜ (length (now call) ≡ 392) × (length (now answer) ≡ 544) ⌝ }
 {
     let window = get_word(call, 8);
-    let pairs_end = 32 + at_most(get_word(call, 16), 360);
+    let pairs_end = 32 + at_most(get_word(call, 16), 272);
     let lent_end = 16 + at_most(get_word(call, 24), 528);
     mark(answer);
     let reply = guovssalu_filter_run(window, &call[32..pairs_end], &mut answer[16..lent_end]);

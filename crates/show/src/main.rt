@@ -6,6 +6,7 @@ mod table;
 use episode::episode;
 use filters::WindowedFilter;
 use filters::windowed_filter::Held;
+use filters::windowed_filter::Reason;
 use filters::windowed_filter::Sample;
 use table::column;
 use table::text;
@@ -62,7 +63,22 @@ fn estimates(filter: WindowedFilter) {
     }
 }
 
-// One update, with the reply and what the filter then holds.
+// Why the estimates moved.
+fn reason(why: Reason) {
+    match why {
+        Reason::AllReplaced => text(b"  all replaced"),
+        Reason::SecondRaised => text(b"  second raised"),
+        Reason::ThirdRaised => text(b"  third raised"),
+        Reason::PromotedOnce => text(b"  promoted once"),
+        Reason::PromotedTwice => text(b"  promoted twice"),
+        Reason::QuarterRefresh => text(b"  quarter refresh"),
+        Reason::HalfRefresh => text(b"  half refresh"),
+        Reason::Unchanged => text(b"  unchanged"),
+    }
+    ;
+}
+
+// One update, with the reply, what the filter then holds, and why it moved.
 fn update(filter: WindowedFilter, sample: u64, time: u64) -> WindowedFilter {
     column(time, 6);
     column(sample, 9);
@@ -74,16 +90,18 @@ fn update(filter: WindowedFilter, sample: u64, time: u64) -> WindowedFilter {
     }
     ;
     let next = updated.filter;
+    let why = updated.reason;
     estimates(next);
+    reason(why);
     text(b"\n");
     next
 }
 
 fn windowed() {
     text(
-        b"\nA windowed filter with a window of 8: each sample, the reply, and the three estimates after it\n\n",
+        b"\nA windowed filter with a window of 8: each sample, the reply, the three estimates after it, and why\n\n",
     );
-    text(b"  time   sample  reply               best         second          third\n");
+    text(b"  time   sample  reply               best         second          third  reason\n");
     let a = update(WindowedFilter::new(8), 5, 0);
     let b = update(a, 5, 2);
     let c = update(b, 5, 3);
@@ -91,7 +109,16 @@ fn windowed() {
     let e = update(d, 4, 8);
     let f = update(e, 2, 9);
     let g = update(f, 9, 7);
-    update(g, 6, 12);
+    longer(update(g, 6, 12));
+}
+
+// Five more, so that each reason is seen.
+fn longer(filter: WindowedFilter) {
+    let a = update(filter, 5, 15);
+    let b = update(a, 2, 20);
+    let c = update(b, 3, 20);
+    let d = update(c, 1, 24);
+    update(d, 2, 25);
 }
 
 // Ends where a call of the episode is refused.

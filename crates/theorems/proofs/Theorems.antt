@@ -7,8 +7,9 @@ use lib.Dec.{leb}
 use borrow.Author.Tests.{leb-true}
 use Rattle.state.specs.Bounds.{momentOk}
 use Rattle.state.proofs.Rows.{and-left, and-right}
-use Rattle.laws.proofs.Examples.{marked-examples}
+use Rattle.laws.proofs.Examples.{marked-examples, reason-examples}
 use Rattle.laws.proofs.Contracts.{every-call}
+use Rattle.laws.proofs.Reasons.{reasons}
 use Rattle.laws.proofs.Replies.{every-reply}
 use Rattle.words.specs.Word.{flagFits}
 use Rattle.dispatch.proofs.RoundTrip.{round-trip}
@@ -78,6 +79,8 @@ theorems =
       steps = every-outcome;
       numbers = every-number;
       examples = marked-examples;
+      reasons = reasons;
+      reason-examples = reason-examples;
       inflight = follow.inflight;
       bandwidth = follow.bandwidth;
       usual-inflight = follow.usual-inflight;

@@ -89,7 +89,7 @@ Ran r =
     × (now (e .0) ≡ r .left)
     × (now (e .1 .1 .0) ≡ r .written))
 
--- `guovssalu_filter_run`: a window, the bytes of the pairs, the bytes lent for the samples
+-- `guovssalu_filter_run`: a window, the bytes of the pairs, the bytes lent for the samples and the reasons
 pub record FilterRun : Type 0 where
   pub window : ℕ
   pub pairs : List ℕ
@@ -166,13 +166,13 @@ RunRow r =
     2 (not (eqb (length (r .state)) 400) || not (eqb (length (r .calls) % 392) 0))
     (ltb (length (r .answers)) (144 * count r))
 
--- 2: a pair has 16 bytes; 3: "a pair that the update would refuse"; 7: three samples have 24 bytes
+-- 2: a pair has 16 bytes; 3: "a pair that the update would refuse"; 7: three samples and the reason have 32 bytes
 abbrev pub FilterRow : FilterRun → Type 0
 FilterRow r =
     FirstRow (r .reply)
     2 (not (eqb (length (r .pairs) % 16) 0))
     3 (refuses (windowedNew (r .window)) (r .pairs) 0 (pairs (r .pairs)))
-    (ltb (length (r .output)) (24 * pairs (r .pairs)))
+    (ltb (length (r .output)) (32 * pairs (r .pairs)))
 
 -- 1: "rounds over 30 give 1"; 2: a window above 2^40; 7: two words have 16 bytes
 abbrev pub SlopeRow : SlopeRun → Type 0

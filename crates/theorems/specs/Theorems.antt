@@ -32,9 +32,11 @@ use lib.Ieee.Exact.{HasValue}
 use lib.ListN.{length}
 use Rattle.numbers.specs.Scaling.{complement, partsOf}
 use Rattle.numbers.specs.Examples.{all}
+use Rattle.filters.specs.Examples.{reasonExamples}
 use Rattle.laws.specs.Examples.{markedExamples}
 use Rattle.state.specs.Bounds.{momentOk}
 use Rattle.laws.specs.Laws.{EveryCall}
+use Rattle.laws.specs.Reasons.{Reasons}
 use Rattle.laws.specs.Replies.{Exactly, EveryReply}
 use Rattle.words.specs.Words.{allBytes}
 use Rattle.dispatch.specs.RoundTrip.{RoundTrip}
@@ -145,6 +147,10 @@ pub record Theorems : Type 0 where
   pub numbers : (w : List ℕ) → Numbered (stepOf w) (word w 0)
   -- Document 01's twelve marked examples hold of the definitions
   pub examples : all markedExamples ≡ true
+  -- Why a windowed filter's estimates moved (document 02, request f): "unchanged" exactly when the update left the
+  -- filter as it was; of step 2 and a later step the later is named; and only four such pairs can meet, each worked out
+  pub reasons : Reasons
+  pub reason-examples : all reasonExamples ≡ true
   --
   -- ==== Demand 3. For every f32 beta from 1/1024 to 1023/1024, the float b = 1 - beta is exactly parts / 2^24, and
   -- inflight_lo is unset exactly where the exact value is; where it is set, after k reductions, it differs from it by
@@ -166,6 +172,6 @@ pub record Theorems : Type 0 where
 -- compiles what was proved. The page docs/LAYOUT.md. And the definitions that this page is made of, written from
 -- document 01, the original and docs/LAYOUT.md: all files of specs/ to which `use` lines lead from here, with their
 -- remarks. A script of the gate counts their lines (tests/contracts.py):
---   numbers 257, units 71, filters 240, words 129, state 657, layout 215, events 362, phases 208, changes 61, judge
---   199, arguments 191, reads 18, pairs 48, calls 204, laws 459, drift 379, dispatch 210, guovssalu 148, theorems
---   723: together 4779
+--   numbers 257, units 71, filters 348, words 129, state 657, layout 215, events 362, phases 208, changes 61, judge
+--   199, arguments 191, reads 18, pairs 57, calls 204, laws 504, drift 379, dispatch 210, guovssalu 148, theorems
+--   729: together 4947

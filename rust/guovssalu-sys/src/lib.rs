@@ -63,10 +63,12 @@ extern "C" {
     ) -> u64;
 
     /// Runs an empty filter of the given window over pairs of words, a time and a sample,
-    /// [`table::PAIR_BYTES`] to a pair. For each pair it writes three words, [`table::SAMPLES_BYTES`]: the
-    /// best, the second best and the third best sample after that pair. Bytes past the answer keep what
-    /// they held. Replies 2 for a part of a pair, 3 if a pair's time is earlier than one of the three
-    /// times that the filter holds then, 7 for an output too short for the pairs.
+    /// [`table::PAIR_BYTES`] to a pair. For each pair it writes four words, [`table::SAMPLES_BYTES`]: the
+    /// best, the second best and the third best sample after that pair, and in the word
+    /// [`table::samples::REASON`] why they moved. That is the step of the update that acted last, by its
+    /// number: [`table::reason::ALL_REPLACED`] to [`table::reason::UNCHANGED`]. Bytes past the answer keep
+    /// what they held. Replies 2 for a part of a pair, 3 if a pair's time is earlier than one of the three
+    /// times that the filter holds then, 7 for an output of under [`table::SAMPLES_BYTES`] a pair.
     pub fn guovssalu_filter_run(
         window: u64,
         src: *const u8,

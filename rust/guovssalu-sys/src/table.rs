@@ -43,9 +43,9 @@ pub const PAIR_WORDS: usize = 2;
 /// Bytes of a pair of the filter run.
 pub const PAIR_BYTES: usize = 16;
 /// Words of the filter run's answer to a pair.
-pub const SAMPLES_WORDS: usize = 3;
+pub const SAMPLES_WORDS: usize = 4;
 /// Bytes of the filter run's answer to a pair.
-pub const SAMPLES_BYTES: usize = 24;
+pub const SAMPLES_BYTES: usize = 32;
 /// Words of the slope's output.
 pub const SLOPE_WORDS: usize = 2;
 /// Bytes of the slope's output.
@@ -846,6 +846,9 @@ pub mod samples {
 
     /// Word 2: number.
     pub const THIRD: usize = 2;
+
+    /// Word 3: reason.
+    pub const REASON: usize = 3;
 }
 
 /// The slope's output.
@@ -900,4 +903,31 @@ pub mod phase {
 
     /// Phase 4.
     pub const REFILL: u64 = 4;
+}
+
+/// Why the filter's estimates moved: what `samples::REASON` is.
+pub mod reason {
+    /// Reason 0.
+    pub const ALL_REPLACED: u64 = 0;
+
+    /// Reason 1.
+    pub const SECOND_RAISED: u64 = 1;
+
+    /// Reason 2.
+    pub const THIRD_RAISED: u64 = 2;
+
+    /// Reason 3.
+    pub const PROMOTED_ONCE: u64 = 3;
+
+    /// Reason 4.
+    pub const PROMOTED_TWICE: u64 = 4;
+
+    /// Reason 5.
+    pub const QUARTER_REFRESH: u64 = 5;
+
+    /// Reason 6.
+    pub const HALF_REFRESH: u64 = 6;
+
+    /// Reason 7.
+    pub const UNCHANGED: u64 = 7;
 }

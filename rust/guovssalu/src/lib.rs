@@ -7,6 +7,9 @@
 //! moment 0.) The clock is the caller's: a [`Moment`] is a number of nanoseconds after a base moment
 //! of its choice. Nothing allocates and nothing is kept between calls.
 //!
+//! Beside the model stand the functions on numbers, and the windowed filter: a [`filter_run`] says
+//! after each sample what its [`Estimates`] are and why they moved, a [`Reason`].
+//!
 //! What is proved is what the archive does with the bytes it is lent. This crate, which writes and
 //! reads those bytes, is tested. The numbers of calls, the places of words and the sizes are in
 //! [`table`], for those who write the bytes of a [`run`] themselves.
@@ -51,6 +54,7 @@ mod bandwidth;
 mod call;
 mod cycle;
 mod event;
+mod filter;
 mod foreign;
 mod model;
 mod numbers;
@@ -68,11 +72,13 @@ pub use cycle::Phase;
 pub use event::CongestionEvent;
 pub use event::Sample;
 pub use event::SendTimeState;
+pub use filter::filter_run;
+pub use filter::Estimates;
+pub use filter::Reason;
 pub use guovssalu_sys::table;
 pub use model::NetworkModel;
 pub use numbers::f32_to_u64;
 pub use numbers::f64_round_to_u64;
-pub use numbers::filter_run;
 pub use numbers::raise_inflight_high_slope;
 pub use numbers::scale;
 pub use numbers::u64_to_f32;

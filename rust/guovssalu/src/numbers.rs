@@ -42,16 +42,3 @@ pub fn raise_inflight_high_slope(rounds: u64, window: u64) -> Result<(u64, u64),
     let word = |at: usize| words::get(&out, at);
     Ok((word(slope::PROBE_UP_ROUNDS), word(slope::PROBE_UP_BYTES)))
 }
-
-/// Runs an empty windowed filter over pairs of a time and a sample: words of 64 bits, the lowest byte
-/// first, [`table::PAIR_BYTES`] to a pair. For each pair it writes the best, the second and the third
-/// sample after it, [`table::SAMPLES_BYTES`]. What the output has beyond them keeps its bytes.
-///
-/// # Errors
-///
-/// `BadArgument` for a part of a pair, `EarlierMoment` where a pair's time is earlier than one that
-/// the filter holds then, `ShortOutput` for an output too short for the pairs. Then no byte is
-/// written.
-pub fn filter_run(window: u64, pairs: &[u8], out: &mut [u8]) -> Result<(), Refusal> {
-    Refusal::of(foreign::filter_run(window, pairs, out))
-}

@@ -1,11 +1,12 @@
 //! The functions on numbers and the filter, against the original's answers.
 
+use std::collections::BTreeSet;
 use std::fs;
 use std::path::Path;
 
-use guovssalu::table::PAIR_BYTES;
 use guovssalu::Bandwidth;
 use guovssalu::Duration;
+use guovssalu::Estimates;
 
 /// The lines of a kept list (oracle/README.md), each as its numbers.
 fn list(name: &str) -> Vec<Vec<u64>> {
@@ -81,12 +82,12 @@ fn bandwidths() {
     });
 }
 
-/// The updates since the filter was last empty, and the three samples after each.
+/// The updates since the filter was last empty, and after each the three samples and the reason.
 #[derive(Default)]
 struct Run {
     window: u64,
     pairs: Vec<u8>,
-    samples: Vec<u8>,
+    rows: Vec<[u64; 4]>,
 }
 
 impl Run {
@@ -98,20 +99,27 @@ impl Run {
     }
 
     fn check(&self) -> usize {
-        let mut out = vec![0; self.samples.len()];
+        let mut out = vec![0; Estimates::BYTES * self.rows.len()];
         guovssalu::filter_run(self.window, &self.pairs, &mut out).unwrap();
-        assert!(out == self.samples, "window {}", self.window);
-        self.pairs.len() / PAIR_BYTES
+        let row = |bytes: &[u8]| {
+            let after = Estimates::from_bytes(bytes).unwrap();
+            [after.best, after.second, after.third, after.reason.number()]
+        };
+        let rows: Vec<_> = out.chunks_exact(Estimates::BYTES).map(row).collect();
+        assert_eq!(rows, self.rows, "window {}", self.window);
+        rows.len()
     }
 }
 
-/// A line of the list is a new filter, a reset (which is an update of an empty filter), an update or
-/// a clear.
+/// A line of the list is a new filter, a reset (which is an update of an empty filter, and has its
+/// reason, 0), an update or a clear. An update's reason, which the original doesn't say, is its line's
+/// last number.
 #[test]
 fn windowed_filter() {
     let list = list("windowed_filter.txt");
     let mut run = Run::default();
     let mut updates = 0;
+    let mut reasons = BTreeSet::new();
     for line in &list {
         let (op, x, y) = (line[0], line[1], line[2]);
         if op != 2 {
@@ -121,12 +129,12 @@ fn windowed_filter() {
         if op == 1 || op == 2 {
             run.pairs.extend(y.to_le_bytes());
             run.pairs.extend(x.to_le_bytes());
-            for at in [4, 6, 8] {
-                run.samples.extend(line[at].to_le_bytes());
-            }
+            run.rows.push([4, 6, 8, 10].map(|at| line[at]));
+            reasons.insert(line[10]);
         }
     }
     updates += run.check();
     let fed = |line: &&Vec<u64>| line[0] == 1 || line[0] == 2;
     assert_eq!(updates, list.iter().filter(fed).count());
+    assert!(reasons.into_iter().eq(0..8));
 }

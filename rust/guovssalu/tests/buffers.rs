@@ -398,9 +398,11 @@ fn a_filter_run_stays_within_its_bytes() {
         assert_eq!(filter_run(8, lent.content(), out.content()), Ok(()));
         assert!(lent.checked() == src);
         let out = out.checked();
-        let samples: Vec<u64> = (0..9).map(|at| word(out, at)).collect();
-        assert_eq!(samples, [5, 5, 5, 5, 5, 5, 5, 4, 4]);
-        assert!(out[3 * SAMPLES_BYTES..].iter().all(|&byte| byte == 0x77));
+        let words: Vec<u64> = (0..12).map(|at| word(out, at)).collect();
+        // All replaced, unchanged, quarter refresh.
+        assert_eq!(words, [5, 5, 5, 0, 5, 5, 5, 7, 5, 4, 4, 5]);
+        let beyond = &out[3 * SAMPLES_BYTES..];
+        assert!(beyond.len() == spare && beyond.iter().all(|&byte| byte == 0x77));
     }
 }
 
@@ -426,6 +428,32 @@ fn a_filter_run_refuses_and_writes_nothing() {
     refused(&src[..2 * PAIR_BYTES - 1], 0, Refusal::BadArgument);
     refused(&src, 0, Refusal::EarlierMoment);
     assert_eq!(filter_run(8, &[], &mut []), Ok(()));
+}
+
+/// Every length under 32 bytes a pair, as the 24 that three samples take, is too short.
+#[test]
+fn a_filter_run_needs_room_for_the_reasons() {
+    let src = pairs(&[(0, 5), (2, 5), (3, 4)]);
+    for count in 1..=3 {
+        let src = &src[..PAIR_BYTES * count];
+        for room in 0..=32 * count + 1 {
+            let mut out = Guarded::new(&vec![0x77; room]);
+            let reply = filter_run(8, src, out.content());
+            let out = out.checked();
+            if room < 32 * count {
+                assert_eq!(reply, Err(Refusal::ShortOutput), "{} bytes", room);
+                assert!(out.iter().all(|&byte| byte == 0x77));
+            } else {
+                assert_eq!(reply, Ok(()), "{} bytes", room);
+                assert_eq!(word(out, 4 * count - 1), [0, 7, 5][count - 1]);
+            }
+        }
+    }
+    // By hand, at the length that was enough before there were reasons.
+    let mut out = Guarded::new(&[0x77; 3 * 24]);
+    let reply = filter_run(8, &src, out.content());
+    assert_eq!(reply, Err(Refusal::ShortOutput));
+    assert!(out.checked() == [0x77; 3 * 24]);
 }
 
 #[test]

@@ -118,12 +118,13 @@ fn kept(name: &str) -> Vec<u64> {
 
 impl Case {
     /// The same call with expectations that are wrong in one number: the reply, the answer (of an
-    /// exported call, a word of its output), and unless it is a refused start, which leaves no state
-    /// to the caller of a method, a word of the state.
+    /// exported call, words of its output; the filter's first sample and first reason are among
+    /// them), and unless it is a refused start, which leaves no state to the caller of a method, a
+    /// word of the state.
     fn changed(&self) -> Vec<Case> {
         let (number, reply) = (self.call[0], self.answer[0]);
         let mut places = match (number, reply) {
-            (FILTER_RUN, _) => vec![0, 2, ANSWER - 1],
+            (FILTER_RUN, _) => vec![0, 2, 5, ANSWER - 1],
             (SLOPE, 0) => vec![0, 2, 3],
             (SLOPE, 7) => vec![],
             (SLOPE, _) => vec![0],

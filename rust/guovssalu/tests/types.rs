@@ -1,11 +1,13 @@
-//! The crate's own types: times, bandwidths, refusals.
+//! The crate's own types: times, bandwidths, refusals, reasons, estimates.
 
 use std::convert::TryFrom;
 use std::time;
 
 use guovssalu::Bandwidth;
 use guovssalu::Duration;
+use guovssalu::Estimates;
 use guovssalu::Moment;
+use guovssalu::Reason;
 use guovssalu::Refusal;
 
 #[test]
@@ -73,5 +75,61 @@ fn refusals_have_the_numbers_of_the_table() {
     for (number, refusal) in (1..).zip(all) {
         assert_eq!(refusal.number(), number);
         assert!(!refusal.to_string().is_empty());
+    }
+}
+
+/// The numbers are written by hand, so that a table with others is noticed.
+#[test]
+fn reasons_have_their_numbers_and_words() {
+    let all = [
+        (Reason::AllReplaced, "all replaced"),
+        (Reason::SecondRaised, "second raised"),
+        (Reason::ThirdRaised, "third raised"),
+        (Reason::PromotedOnce, "promoted once"),
+        (Reason::PromotedTwice, "promoted twice"),
+        (Reason::QuarterRefresh, "quarter refresh"),
+        (Reason::HalfRefresh, "half refresh"),
+        (Reason::Unchanged, "unchanged"),
+    ];
+    for (number, (reason, words)) in (0..8).zip(all) {
+        assert_eq!(reason.number(), number);
+        assert_eq!(Reason::try_from(number), Ok(reason));
+        assert_eq!(reason.to_string(), words);
+    }
+    for number in [8, 9, 255, 256, 1 << 32, (1 << 32) + 7, u64::MAX] {
+        assert_eq!(Reason::try_from(number), Err(Refusal::OutOfBounds));
+    }
+}
+
+fn bytes(words: &[u64]) -> Vec<u8> {
+    words.iter().flat_map(|word| word.to_le_bytes()).collect()
+}
+
+#[test]
+fn estimates_of_bytes() {
+    let given = bytes(&[u64::MAX, 1 << 40, 3, 6]);
+    let estimates = Estimates {
+        best: u64::MAX,
+        second: 1 << 40,
+        third: 3,
+        reason: Reason::HalfRefresh,
+    };
+    assert_eq!(Estimates::from_bytes(&given), Ok(estimates));
+    for reason in 0..8 {
+        let read = Estimates::from_bytes(&bytes(&[0, 0, 0, reason]));
+        assert_eq!(read.map(|estimates| estimates.reason.number()), Ok(reason));
+    }
+}
+
+#[test]
+fn foreign_bytes_are_no_estimates() {
+    let long = bytes(&[9; 8]);
+    for length in [0, 1, 8, 24, 31, 33, 40, 64] {
+        let read = Estimates::from_bytes(&long[..length]);
+        assert_eq!(read, Err(Refusal::BadArgument), "{} bytes", length);
+    }
+    for reason in [8, 9, 256, 1 << 32, 7 << 56, u64::MAX] {
+        let read = Estimates::from_bytes(&bytes(&[5, 5, 5, reason]));
+        assert_eq!(read, Err(Refusal::OutOfBounds), "reason {}", reason);
     }
 }

@@ -1,9 +1,8 @@
 -- `guovssalu_filter_run` meets its contract: it stops at a refusal, or writes the answer. Assumes nothing.
 use borrow.Author.Needs.{needs}
 use Rattle.filters.specs.WindowedFilter.{windowedNew}
-use Rattle.pairs.specs.Pairs.{pairs, samplesOf}
+use Rattle.pairs.specs.Pairs.{pairs, runWords}
 use Rattle.guovssalu.specs.FilterRun.{runOut}
-use Rattle.pairs.specs.Inner.{setsWhere}
 use Rattle.guovssalu.proofs.Rows.{done-row, refused, written}
 use Rattle.guovssalu.proofs.FilterRun.{run-done}
 use Rattle.guovssalu.proofs.filter_run.guovssalu_filter_run.Statement.{statement}
@@ -14,17 +13,17 @@ unfolding runOut
 returns c =
     let args = c .before .before .before .before .before .before .args in
     let src = args .src .now in
-    refused (c .before .before .before .run-reply .ensures) (c .before .before .is-done .ensures) (samplesOf (windowedNew (args .window)) src 0 (pairs src)) (args .out .now) (c .row .ensures) (c .before .if1 .taken)
+    refused (c .before .before .before .run-reply .ensures) (c .before .before .is-done .ensures) (runWords (windowedNew (args .window)) src 0 (pairs src)) (args .out .now) (c .row .ensures) (c .before .if1 .taken)
 
-pass-requires : tie.Need-pass-requires
-pass-requires c κs = λ _. run-done _ _ _ (done-row (c .before .before .before .run-reply .ensures) (c .before .before .is-done .ensures) (c .before .if1 .left))
+write-run-requires : tie.Need-write-run-requires
+write-run-requires c κs = run-done _ _ _ (done-row (c .before .before .before .run-reply .ensures) (c .before .before .is-done .ensures) (c .before .if1 .left))
 
 returns-2 : tie.Need-returns-2
-unfolding runOut setsWhere
+unfolding runOut
 returns-2 c =
     let args = c .before .before .before .before .before .before .before .before .before .before .args in
     let src = args .src .now in
-    written (c .before .before .before .before .before .before .before .run-reply .ensures) (c .before .before .before .before .before .before .is-done .ensures) (samplesOf (windowedNew (args .window)) src 0 (pairs src)) (args .out .now) (c .row2 .ensures) (c .before .before .before .before .before .if1 .left) (c .before .before .before .pass .ensures .1)
+    written (c .before .before .before .before .before .before .before .run-reply .ensures) (c .before .before .before .before .before .before .is-done .ensures) (runWords (windowedNew (args .window)) src 0 (pairs src)) (args .out .now) (c .row2 .ensures) (c .before .before .before .before .before .if1 .left) (c .before .before .before .write-run .ensures)
 
 pub guovssalu-filter-run-spec : {M : Type 1} → statement M
 guovssalu-filter-run-spec =
@@ -34,7 +33,7 @@ guovssalu-filter-run-spec =
     (λ c κs. search needs)
     (λ c κs. search needs)
     returns
-    pass-requires
+    write-run-requires
     (λ c κs. search needs)
     (λ c. search needs)
     returns-2)

@@ -1,18 +1,25 @@
 -- `WindowedFilter::update` refuses or takes the five steps: by what `is_after` promises of the test.
 use borrow.Author.Needs.{needs}
+use Rattle.filters.specs.Reason.{windowedReason}
 use Rattle.filters.specs.WindowedFilter.{windowedNumber, windowedUpdate}
 use Rattle.filters.proofs.windowed_filter.WindowedFilter.update.Statement.{statement}
 use Rattle.filters.proofs.windowed_filter.WindowedFilter.update.Tie as tie
 
 returns : tie.Need-returns
-unfolding windowedNumber windowedUpdate
-returns c = (rw (← c .before .is-after .ensures, c .if1 .taken), rw (← c .before .is-after .ensures, c .if1 .taken))
+unfolding windowedNumber windowedUpdate windowedReason
+returns c = (
+  rw (← c .before .is-after .ensures, c .if1 .taken),
+  (rw (← c .before .is-after .ensures, c .if1 .taken), rw (← c .before .is-after .ensures, c .if1 .taken)),
+)
 
 returns-2 : tie.Need-returns-2
-unfolding windowedNumber windowedUpdate
+unfolding windowedNumber windowedUpdate windowedReason
 returns-2 c = (
-  rw (← c .before .before .is-after .ensures, c .before .if1 .left),
-  rw (← c .before .before .is-after .ensures, c .before .if1 .left, c .updated .ensures),
+  rw (← c .before .before .before .is-after .ensures, c .before .before .if1 .left),
+  (
+    rw (← c .before .before .before .is-after .ensures, c .before .before .if1 .left, c .before .updated .ensures .0),
+    rw (← c .before .before .before .is-after .ensures, c .before .before .if1 .left, c .before .updated .ensures .1),
+  ),
 )
 
 pub update-spec : {M : Type 1} → statement M
