@@ -50,7 +50,8 @@ NUMBERS = 1300 16777216 16777217 1099511627776 18446744073709551615
 patterns: kit
 	@sh tests/diff.sh patterns $(NUMBERS)
 
-# Small changes to the original, each of which the comparison with the port must notice.
+# Small changes to the original, and to the reading of what it does not say, each of which the comparison with the port
+# must notice.
 changes: kit
 	rt check serve
 	PORT="$$(sh tests/program.sh serve)" python3 tests/changes.py

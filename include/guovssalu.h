@@ -30,8 +30,10 @@ extern "C" {
 #define GUOVSSALU_VERSION_MINOR 3
 #define GUOVSSALU_VERSION_PATCH 0
 
-/* The layout's number. It is raised when a call takes other arguments, or a word of a state, a call
- * or an answer gets another place or meaning: a state that was kept is for its own number alone. */
+/* The layout's number. It is raised when a call of guovssalu_run takes other arguments, or a word of a
+ * state, of a call or of a call's answer gets another place or meaning: a state that was kept is for its
+ * own number alone. What guovssalu_filter_run writes is not part of it: it is four words a pair since
+ * version 0.3.0, and was three. */
 #define GUOVSSALU_LAYOUT 1
 
 /* ---- Replies: what an exported call replies, and the first word of an answer. */
@@ -364,16 +366,25 @@ enum {
     GUOVSSALU_SLOPE_PROBE_UP_BYTES = 1   /* bytes */
 };
 
-/* Why the filter's estimates moved, its word GUOVSSALU_SAMPLES_REASON: the step that acted last. */
+/* Why the filter's estimates moved, its word GUOVSSALU_SAMPLES_REASON: the step that acted last. Too old is
+ * older than the window.
+ *   0  step 1: empty, a sample above the best, or the third too old: all three are the sample
+ *   1  step 2: above the second: second and third are the sample
+ *   2  step 2: above the third: the third is the sample
+ *   3  step 3: the best too old: second and third move up, the third is the sample
+ *   4  step 3: best and second too old: the third is the best, the others the sample
+ *   5  step 4: the second, equal to the best, older than a quarter window: it and the third are the sample
+ *   6  step 5: the third, equal to the second, older than half a window: it is the sample
+ *   7  no step acted: the filter is as it was */
 enum {
-    GUOVSSALU_REASON_ALL_REPLACED = 0,    /* step 1: empty, a sample above the best, or a third older than the window */
-    GUOVSSALU_REASON_SECOND_RAISED = 1,   /* step 2: the sample is above the second, and no later step acted */
-    GUOVSSALU_REASON_THIRD_RAISED = 2,    /* step 2: the sample is above the third, and no later step acted */
-    GUOVSSALU_REASON_PROMOTED_ONCE = 3,   /* step 3: the best was older than the window, and the second took its place */
-    GUOVSSALU_REASON_PROMOTED_TWICE = 4,  /* step 3: so was the second, and the third took the place */
-    GUOVSSALU_REASON_QUARTER_REFRESH = 5, /* step 4: the second equalled the best, and was older than a quarter of the window */
-    GUOVSSALU_REASON_HALF_REFRESH = 6,    /* step 5: the third equalled the second, and was older than half of the window */
-    GUOVSSALU_REASON_UNCHANGED = 7        /* no step acted: the filter is as it was */
+    GUOVSSALU_REASON_ALL_REPLACED = 0,
+    GUOVSSALU_REASON_SECOND_RAISED = 1,
+    GUOVSSALU_REASON_THIRD_RAISED = 2,
+    GUOVSSALU_REASON_PROMOTED_ONCE = 3,
+    GUOVSSALU_REASON_PROMOTED_TWICE = 4,
+    GUOVSSALU_REASON_QUARTER_REFRESH = 5,
+    GUOVSSALU_REASON_HALF_REFRESH = 6,
+    GUOVSSALU_REASON_UNCHANGED = 7
 };
 /* -- end -- */
 

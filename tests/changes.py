@@ -1,12 +1,14 @@
 #!/usr/bin/env python3
-"""Small changes to the original, each of which the comparison with the port must notice.
+"""Small changes to the original, each of which the comparison with the port must notice; and to the oracle's reading of
+what the original does not say, the reason of a windowed filter's update.
 
     tests/changes.py [SEED [CALLS]]
 
-Copies the files of the original that were ported to a temporary folder, makes one change at a time, builds the oracle
-with the changed files, and compares them with the port by `diff` (a change to the windowed filter by `filter`). A change
-that isn't noticed is listed, and the script ends with 1. PORT is the command of the port; without it the unchanged
-original answers in its place, which tries the comparison alone. ORIGINAL says where the original is, as for the oracle."""
+Copies the files of the original that were ported, and the oracle, to a temporary folder, makes one change at a time, builds
+the oracle with the changed file, and compares with the port by `diff` (a change to the windowed filter or to the reading by
+`filter`, one to what the exported filter run writes by `exports`). A change that isn't noticed is listed, and the script
+ends with 1. PORT is the command of the port; without it the unchanged oracle answers in its place, which tries the
+comparison alone. ORIGINAL says where the original is, as for the oracle."""
 
 import os
 import shutil
@@ -21,6 +23,10 @@ FILTER = "gcongestion/bbr/windowed_filter.rs"
 MODEL = "gcongestion/bbr2/network_model.rs"
 PROBE = "gcongestion/bbr2/probe_bw.rs"
 MODE = "gcongestion/bbr2/mode.rs"
+# Of the oracle: the reading, where in it is what the exported filter run writes, and the answers.
+READING = "windowed.rs"
+EXPORTED = "pub fn run("
+ANSWERS = "world.rs"
 
 # In which file; after which words, that occur once; what is found first after them; what is put in its place.
 CHANGES = [
@@ -153,6 +159,23 @@ CHANGES = [
     (MODE, "impl Default for Cycle", "probe_wait_time: None", "probe_wait_time: Some(Duration::ZERO)"),
     (MODE, "impl Default for Cycle", "probe_up_rounds: 0", "probe_up_rounds: 1"),
     (MODE, "impl Default for Cycle", "has_advanced_max_bw: false", "has_advanced_max_bw: true"),
+    (READING, '"3: shifted once"', "reason::PROMOTED_ONCE", "update.raised.min(reason::PROMOTED_ONCE)"),
+    (READING, '"3: shifted twice"', "reason::PROMOTED_TWICE", "update.raised.min(reason::PROMOTED_TWICE)"),
+    (READING, '"4: second and third"', "reason::QUARTER_REFRESH", "update.raised.min(reason::QUARTER_REFRESH)"),
+    (READING, '"3: shifted twice"', "reason::PROMOTED_TWICE", "reason::PROMOTED_ONCE"),
+    (READING, '"3: shifted once"', "reason::PROMOTED_ONCE", "reason::PROMOTED_TWICE"),
+    (READING, '"4: second and third"', "reason::QUARTER_REFRESH", "reason::HALF_REFRESH"),
+    (READING, '"5: third"', "reason::HALF_REFRESH", "reason::QUARTER_REFRESH"),
+    (READING, '"3: shifted once"', "return update;", "if update.held == [new; 3] {\n            update.reason = reason::ALL_REPLACED;\n        }\n        return update;"),
+    (READING, '"2: above the second"', "reason::SECOND_RAISED", "reason::THIRD_RAISED"),
+    (READING, '"2: above the third"', "reason::THIRD_RAISED", "reason::SECOND_RAISED"),
+    (READING, '"none of 3 to 5"', "update.raised", "reason::UNCHANGED"),
+    (READING, '"1: third too old"', ");", "); update.reason = reason::PROMOTED_TWICE;"),
+    (READING, "let mut update = Foreseen", "reason::ALL_REPLACED", "reason::UNCHANGED"),
+    (READING, EXPORTED, "filter[2], filter[4], filter[6], updated.reason", "updated.reason, filter[2], filter[4], filter[6]"),
+    (READING, EXPORTED, "lent < WORD_BYTES * words.len()", "lent < 24 * updates.len()"),
+    (ANSWERS, "Step::Filter { op: 2, x, y }", "reason::UNCHANGED", "reason::ALL_REPLACED"),
+    (ANSWERS, "windowed::operate(&mut self.filter", "self.answer(0, 0", "self.answer(0, reason::UNCHANGED"),
 ]
 
 
@@ -174,10 +197,26 @@ def changed(text, after, find, put):
     return text[:at] + put + text[at + len(find):]
 
 
-def build(original, target):
+def copies(folder):
+    """The original's files and the oracle, copied: the folders of the changed files, and what is built from them."""
+    original, package = os.path.join(folder, "original"), os.path.join(folder, "oracle")
+    recovery = shutil.copytree(sources(), os.path.join(original, "src", "recovery"))
+    shutil.copytree(PACKAGE, package, ignore=shutil.ignore_patterns("target"))
+    os.symlink(os.path.join(ROOT, "rust"), os.path.join(folder, "rust"))
+    return recovery, os.path.join(package, "src"), (original, package, os.path.join(folder, "target"))
+
+
+def command_for(file, after):
+    """The comparison that has to notice a change."""
+    if file == READING and after == EXPORTED:
+        return "exports"
+    return "filter" if file in (FILTER, READING, ANSWERS) else "diff"
+
+
+def build(original, package, target):
     """The oracle with this original; the fast build, since it is built so often."""
     environment = dict(os.environ, ORIGINAL=original, CARGO_TARGET_DIR=target)
-    command = ["cargo", "build", "--quiet", "--manifest-path", os.path.join(PACKAGE, "Cargo.toml")]
+    command = ["cargo", "build", "--quiet", "--manifest-path", os.path.join(package, "Cargo.toml")]
     built = subprocess.run(command, env=environment, capture_output=True, text=True)
     if built.returncode != 0:
         sys.exit("It can't be built:\n" + built.stderr)
@@ -197,27 +236,24 @@ def main():
     seed, calls = (sys.argv[1:] + ["1", "200000"][len(sys.argv) - 1:])[:2]
     missed = []
     with tempfile.TemporaryDirectory() as folder:
-        original = os.path.join(folder, "original")
-        recovery = os.path.join(original, "src", "recovery")
-        shutil.copytree(sources(), recovery)
-        target = os.path.join(folder, "target")
-        oracle = build(original, target)
+        recovery, source, parts = copies(folder)
+        oracle = build(*parts)
         port = os.environ.get("PORT")
         if not port:
             unchanged = shutil.copy(oracle, os.path.join(folder, "unchanged"))
             port = unchanged + " serve"
-        for command in ("diff", "filter"):
+        for command in ("diff", "filter", "exports"):
             code, said = compare(oracle, port, command, seed, calls)
             if code != 0:
                 sys.exit("The unchanged original and the port differ in %s: %s" % (command, said))
 
         for number, (file, after, find, put) in enumerate(CHANGES, 1):
-            path = os.path.join(recovery, file)
+            path = os.path.join(source if file in (READING, ANSWERS) else recovery, file)
             with open(path) as opened:
                 text = opened.read()
             with open(path, "w") as opened:
                 opened.write(changed(text, after, find, put))
-            code, said = compare(build(original, target), port, "filter" if file == FILTER else "diff", seed, calls)
+            code, said = compare(build(*parts), port, command_for(file, after), seed, calls)
             with open(path, "w") as opened:
                 opened.write(text)
             what = "%d. %s, %s: %r to %r" % (number, os.path.basename(file), after, find, put)

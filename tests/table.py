@@ -308,7 +308,9 @@ def header_sizes():
 def header_calls():
     rows = (("CALL_" + constant(row["name"]), row["number"], said_of(row)) for row in TABLE.rows("calls"))
     phases = (("PHASE_" + constant(row["name"]), row["number"], None) for row in TABLE.rows("phases"))
-    reasons = (("REASON_" + constant(row["name"]), row["number"], row["what"]) for row in TABLE.rows("reasons"))
+    reasons = (("REASON_" + constant(row["name"]), row["number"], None) for row in TABLE.rows("reasons"))
+    why = [f" *   {row['number']}  {row['what']}" for row in TABLE.rows("reasons")]
+    why = ["/* Why the filter's estimates moved, its word GUOVSSALU_SAMPLES_REASON: the step that acted last. Too old is", " * older than the window.", *why[:-1], why[-1] + " */"]
     arguments = []
     for call, names, _ in TABLE.argument.items():
         arguments += [(f"ARG_{call.upper()}_{name}", number, kind) for name, number, kind in names.items()]
@@ -334,7 +336,7 @@ def header_calls():
         "",
         *enum(["/* Words of a pair of the filter run, of its answer to a pair, and of the slope's output. */"], apart),
         "",
-        *enum(["/* Why the filter's estimates moved, its word GUOVSSALU_SAMPLES_REASON: the step that acted last. */"], reasons),
+        *enum(why, reasons),
     ]
 
 
@@ -399,6 +401,13 @@ def rust_numbers(name, what, names, of):
     return rust_module(name, what, items)
 
 
+def rust_reasons():
+    items = [rust_const("    ", one, "u64", number, f"Reason {number}.") for one, number, _ in TABLE.reason.items()]
+    cells = [f'"{one.lower().replace("_", " ")}"' for one, _, _ in TABLE.reason.items()]
+    items.append(rust_list("    ", "NAMES", "&str", cells, "Their names in words, in order."))
+    return rust_module("reason", "Why the filter's estimates moved: what `samples::REASON` is.", items)
+
+
 def rust_calls():
     rows = TABLE.rows("calls")
     items = []
@@ -456,7 +465,7 @@ def rust_text():
         rust_words("slope", "The slope's output.", TABLE.slope),
         rust_numbers("reply", "The replies: an answer's first word, and what an exported call replies.", TABLE.reply, "Reply"),
         rust_numbers("phase", "What the state's word `state::PHASE` is.", TABLE.phase, "Phase"),
-        rust_numbers("reason", "Why the filter's estimates moved: what `samples::REASON` is.", TABLE.reason, "Reason"),
+        rust_reasons(),
     ]
     return "\n\n".join("\n".join(part) for part in parts) + "\n"
 

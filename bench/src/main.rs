@@ -22,8 +22,8 @@ use std::hint::black_box;
 use std::time::Instant;
 
 use guovssalu::Duration;
-use guovssalu::Estimates;
 use guovssalu::Params;
+use guovssalu::Samples;
 use guovssalu_sys::table::ANSWER_BYTES;
 use guovssalu_sys::table::CALL_BYTES;
 use inputs::Numbers;
@@ -188,7 +188,7 @@ fn each<T: PartialEq>(name: &str, port: impl Fn(usize) -> T, original: impl Fn(u
 fn filter() {
     const WINDOW: u64 = 30;
     let pairs = inputs::pairs(PAIRS);
-    let mut port = vec![0; Estimates::BYTES * PAIRS];
+    let mut port = vec![0; Samples::BYTES * PAIRS];
     let mut original = vec![0; original::SAMPLES_BYTES * PAIRS];
     compare(
         "filter update, one run",
@@ -197,9 +197,9 @@ fn filter() {
         || original::filter_run(WINDOW, &pairs, &mut original),
     );
     let of_original = original.chunks_exact(original::SAMPLES_BYTES);
-    for (port, original) in port.chunks_exact(Estimates::BYTES).zip(of_original) {
+    for (port, original) in port.chunks_exact(Samples::BYTES).zip(of_original) {
         assert!(port[..original.len()] == *original, "The filters differ.");
-        assert!(Estimates::from_bytes(port).is_ok(), "This is no reason.");
+        assert!(Samples::from_bytes(port).is_ok(), "This is no reason.");
     }
 }
 

@@ -3,6 +3,8 @@
 use std::sync::atomic::AtomicU64;
 use std::sync::atomic::Ordering;
 
+use guovssalu_sys::table::reason;
+
 use crate::table::Rows;
 
 /// The calls made so far, for the one who watches.
@@ -39,18 +41,6 @@ const NAMES: [&str; 11] = [
     "guovssalu_scale",
     "guovssalu_bandwidth_mul_f32",
     "guovssalu_to_bytes_per_period",
-];
-
-/// The reasons of the filter run, by their numbers.
-const REASONS: [&str; 8] = [
-    "all replaced",
-    "second raised",
-    "third raised",
-    "promoted once",
-    "promoted twice",
-    "quarter refresh",
-    "half refresh",
-    "unchanged",
 ];
 
 /// What can be wrong.
@@ -185,7 +175,7 @@ impl Tally {
 
     /// How often each reason was due, by name.
     fn named_reasons(&self) -> String {
-        let counts = REASONS.iter().zip(&self.reasons);
+        let counts = reason::NAMES.iter().zip(&self.reasons);
         let named: Vec<String> = counts
             .map(|(name, count)| format!("{} {}", count, name))
             .collect();

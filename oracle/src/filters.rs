@@ -21,7 +21,7 @@ use crate::windowed::Foreseen;
 const LEAST_REASONS: u64 = 20;
 const LEAST_PAIRS: u64 = 5;
 
-/// The worked runs of document 02: the window, and time, sample and reason of
+/// Runs worked out for request f: the window, and time, sample and reason of
 /// each update.
 const WORKED: [(u64, &[(u64, u64, u64)]); 5] = [
     (4, &[(0, 0, 0), (0, 1, 0), (2, 0, 5), (5, 1, 3)]),

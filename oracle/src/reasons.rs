@@ -7,18 +7,6 @@ use guovssalu_sys::table::reason;
 use crate::windowed::Foreseen;
 use crate::windowed::Updated;
 
-/// The reasons, in the order of their numbers.
-const NAMES: [&str; 8] = [
-    "all replaced",
-    "second raised",
-    "third raised",
-    "promoted once",
-    "promoted twice",
-    "quarter refresh",
-    "half refresh",
-    "unchanged",
-];
-
 /// What step 2 and a later step do where both act.
 const PAIRS: [(u64, u64); 4] = [
     (reason::SECOND_RAISED, reason::PROMOTED_ONCE),
@@ -67,7 +55,7 @@ impl Tally {
 
     /// Every reason, then every pair of steps that both act, with their counts.
     pub fn told(&self) -> Vec<(String, u64)> {
-        let name = |reason: u64| NAMES[reason as usize];
+        let name = |number: u64| reason::NAMES[number as usize];
         let reasons = (0..8).map(|it| (name(it).to_string(), self.with_reason(it)));
         let pairs = PAIRS.iter().map(|&(raised, last)| {
             let what = format!("{}, then {}", name(raised), name(last));
@@ -83,8 +71,9 @@ impl Tally {
 
     /// Stops if a reason or a pair occurs less often than this.
     pub fn demand(&self, reasons: u64, pairs: u64) {
+        let names = reason::NAMES.len();
         for (at, (what, count)) in self.told().into_iter().enumerate() {
-            let least = if at < NAMES.len() { reasons } else { pairs };
+            let least = if at < names { reasons } else { pairs };
             assert!(count >= least, "{what}: {count} times, fewer than {least}");
         }
     }

@@ -98,27 +98,26 @@ fn updated(filter: WindowedFilter, n: &[u64; 16]) -> Compared {
     }
 }
 
+// Whether the filter answers the samples of the line, and holds their times.
 fn holds(filter: WindowedFilter, n: &[u64; 16]) -> bool {
+    is_sample(filter.get_best(), n[3], n[4])
+        & is_sample(filter.get_second_best(), n[3], n[6])
+        & is_sample(filter.get_third_best(), n[3], n[8])
+        & has_times(filter, n)
+}
+
+fn is_sample(answer: MaybeNumber, full: u64, sample: u64) -> bool {
+    match answer {
+        MaybeNumber::Unset => (full == 0) & (sample == 0),
+        MaybeNumber::Set(held) => (full == 1) & (held == sample),
+    }
+}
+
+fn has_times(filter: WindowedFilter, n: &[u64; 16]) -> bool {
     let held = filter.held;
     match held {
-        Held::Unset => {
-            (n[3] == 0)
-                & (n[4] == 0)
-                & (n[5] == 0)
-                & (n[6] == 0)
-                & (n[7] == 0)
-                & (n[8] == 0)
-                & (n[9] == 0)
-        }
-        Held::Set(e) => {
-            (n[3] == 1)
-                & (e.best.sample == n[4])
-                & (e.best.time == n[5])
-                & (e.second.sample == n[6])
-                & (e.second.time == n[7])
-                & (e.third.sample == n[8])
-                & (e.third.time == n[9])
-        }
+        Held::Unset => (n[5] == 0) & (n[7] == 0) & (n[9] == 0),
+        Held::Set(e) => { (e.best.time == n[5]) & (e.second.time == n[7]) & (e.third.time == n[9]) }
     }
 }
 

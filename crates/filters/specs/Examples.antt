@@ -66,15 +66,16 @@ reasons f (x ∷ l) =
     reasonNumber (windowedReason f (x .sample) (x .time)) ∷ reasons (windowedUpdate f (x .sample) (x .time)) l
 
 -- what step 2 and the later steps name, each by itself
-abbrev acts : Held → Sample → ℕ → List ℕ
-acts Unset new w = []
-acts (Set e) new w = reasonNumber (raisedReason e new) ∷ reasonNumber (laterReason e new w) ∷ []
+abbrev named : Held → Sample → ℕ → List ℕ
+named Unset new w = []
+named (Set e) new w = reasonNumber (raisedReason e new) ∷ reasonNumber (laterReason e new w) ∷ []
 
--- three samples and a fourth, from an empty filter: their reasons; at the fourth, what each step names; what is held
+-- three samples and a fourth, from an empty filter: the four reasons, then the two names at the fourth
 abbrev fourth : (w : ℕ) (a b c new : Sample) → List ℕ
 fourth w a b c new =
-    reasons (windowedNew w) (a ∷ b ∷ c ∷ new ∷ []) ++ acts (fed (windowedNew w) (a ∷ b ∷ c ∷ []) .held) new w
+    reasons (windowedNew w) (a ∷ b ∷ c ∷ new ∷ []) ++ named (fed (windowedNew w) (a ∷ b ∷ c ∷ []) .held) new w
 
+-- and what the filter then holds
 abbrev after : (w : ℕ) (a b c new : Sample) → List ℕ
 after w a b c new = held (fed (windowedNew w) (a ∷ b ∷ c ∷ new ∷ []) .held)
 

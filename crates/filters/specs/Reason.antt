@@ -1,7 +1,8 @@
 -- Why the estimates moved: document 02, request f. "An update shall also answer one of: all replaced, second raised,
 -- third raised, promoted once, promoted twice, quarter refresh, half refresh, unchanged. If step 2 of document 01 and a
 -- later step both act, the later one is named." So the name is that of the step that acted last, whatever the three
--- estimates then are: they may all be new after step 3 too.
+-- estimates then are: they may all be new after step 3 too. All replaced is step 1, raised step 2, promoted step 3,
+-- quarter refresh step 4, half refresh step 5, unchanged none.
 use Prim.Native.Nat.{ℕ, _/_}
 use mathlib.Core.Bool.{cond}
 use lib.Dec.{ltb}

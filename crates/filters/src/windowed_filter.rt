@@ -28,7 +28,7 @@ pub struct WindowedFilter {
     pub held: Held,
 }
 
-// What an update did to the estimates: the step of document 01 that acted last.
+// What an update did to the estimates: the step of document 01 that acted last, or none.
 pub enum Reason {
     AllReplaced,
     SecondRaised,
@@ -46,7 +46,7 @@ pub struct Updated {
     pub reason: Reason,
 }
 
-// The estimates that some of the steps leave, and the one of them that acted last.
+// The estimates that some of the steps leave, and which of them acted last.
 pub struct Stepped {
     pub estimates: Estimates,
     pub reason: Reason,

@@ -45,7 +45,8 @@ call number = allBytes (number ∷ zeros 48)
 
 unfoldable pub exportExamples : List Bool
 exportExamples =
-    -- three samples after each pair, and the reason: at 3 the second and the third have become the new sample, 5
+    -- three samples after each pair, and the reason: at 3 the second and the third have become the new sample, 4: a
+    -- quarter refresh, 5
     eqb (runRow 8 rising 97) 0
     ∷ writes (runOut 8 rising (room 97)) (5 ∷ 5 ∷ 5 ∷ 0 ∷ 5 ∷ 5 ∷ 5 ∷ 7 ∷ 5 ∷ 4 ∷ 4 ∷ 5 ∷ [])
     -- seven pairs: all replaced, unchanged, quarter refresh, unchanged, quarter refresh, promoted once, all replaced

@@ -15,9 +15,9 @@ use Rattle.filters.specs.declared.windowed_filter.Reason.the-variants.{AllRepla
 use Rattle.filters.specs.declared.windowed_filter.Sample.{Sample}
 use Rattle.filters.specs.declared.windowed_filter.WindowedFilter.{WindowedFilter}
 use Rattle.filters.specs.Reason.{raisedReason, shiftedReason, renewedReason, agedReason, laterReason, reasonOf, windowedReason}
-use Rattle.filters.specs.WindowedFilter.{sampleAt, estimates, allThree, isOlder, isReplaced, raised, shifted, lingers, renewed, aged, updated, isAfter, windowedUpdate}
-use Rattle.state.proofs.Rows.{and-right}
-use Rattle.laws.specs.Reasons.{Acts, Meet, Reasons}
+use Rattle.filters.specs.WindowedFilter.{sampleAt, estimates, allThree, isOlder, isReplaced, raised, shifted, lingers, renewed, aged, updated, bestOf, isAfter, windowedUpdate}
+use Rattle.state.proofs.Rows.{and-right, or-right}
+use Rattle.laws.specs.Reasons.{Acts, movesBest, Reasons}
 
 -- ---- a name is Unchanged or not
 abbrev isUnchanged : Reason → Bool
@@ -49,9 +49,10 @@ lingers-older : (s better : Sample) (limit t : ℕ) → lingers s better limit t
 unfolding lingers
 lingers-older s better limit t h = and-right (eqb (s .sample) (better .sample)) (isOlder s limit t) h
 
-or-right : (a b : Bool) → (a || b) ≡ false → b ≡ false
-or-right false b h = h
-or-right true b h = absurd (true≢false h)
+-- what holds on both sides of a test holds of the choice
+choose : {A B : Type 0} (P : A → B → Type 0) {x y : A} {r q : B} (b : Bool) → (b ≡ true → P x r) → (b ≡ false → P y q) → P (cond b x y) (cond b r q)
+choose P true p q = p refl
+choose P false p q = q refl
 
 -- ---- Unchanged exactly when the estimates are as they were
 module _ (e : Estimates) (new : Sample) (w : ℕ) where
@@ -60,10 +61,6 @@ module _ (e : Estimates) (new : Sample) (w : ℕ) where
 
   moved : {x : Estimates} {r : Reason} → isUnchanged r ≡ false → (x ≡ e → ⊥) → Agree x r
   moved named differs = (λ is. absurd (names named is), λ same. absurd (differs same))
-
-  pick : {x y : Estimates} {r q : Reason} (b : Bool) → (b ≡ true → Agree x r) → (b ≡ false → Agree y q) → Agree (cond b x y) (cond b r q)
-  pick true p q = p refl
-  pick false p q = q refl
 
   -- the new sample is above another, or younger: they are two
   above : (s : Sample) → ltb (s .sample) (new .sample) ≡ true → new ≡ s → ⊥
@@ -87,17 +84,13 @@ module _ (e : Estimates) (new : Sample) (w : ℕ) where
       × ((limit : ℕ) → new ≡ e .third → isOlder (y .third) limit (new .time) ≡ false)
       × Agree y r
 
-  pick-left : {x y : Estimates} {r q : Reason} (b : Bool) → (b ≡ true → Left x r) → (b ≡ false → Left y q) → Left (cond b x y) (cond b r q)
-  pick-left true p q = p refl
-  pick-left false p q = q refl
-
   raised-left : isOlder (e .third) w (new .time) ≡ false → Left (raised e new) (raisedReason e new)
   unfolding raised raisedReason
   raised-left young =
-      pick-left (ltb (e .second .sample) (new .sample))
+      choose Left (ltb (e .second .sample) (new .sample))
       (λ is. (refl, fresh new w, (λ l same. fresh new l), (λ l same. fresh new l), moved refl (λ same. above (e .second) is (ap (λ (x : Estimates). x .second) same))))
       (λ _.
-      pick-left (ltb (e .third .sample) (new .sample))
+      choose Left (ltb (e .third .sample) (new .sample))
       (λ is. (refl, fresh new w, same-age (e .second), (λ l same. fresh new l), moved refl (λ same. above (e .third) is (ap (λ (x : Estimates). x .third) same))))
       (λ _. (refl, young, same-age (e .second), same-age (e .third), (λ _. refl, λ _. refl))))
 
@@ -106,24 +99,24 @@ module _ (e : Estimates) (new : Sample) (w : ℕ) where
   unfolding aged agedReason shifted shiftedReason renewed renewedReason
   aged-agrees y r left =
       let older : Sample → Bool = λ s. isOlder s w (new .time) in
-      pick (isOlder (y .best) w (new .time))
+      choose Agree (isOlder (y .best) w (new .time))
       (λ old.
       let best-old = sym (ap older (left .0)) ∙ old in
-      pick (isOlder (y .second) w (new .time))
+      choose Agree (isOlder (y .second) w (new .time))
       (λ _. moved refl (λ same. true≢false (sym best-old ∙ sym (ap older (ap (λ (x : Estimates). x .best) same)) ∙ left .1)))
       (λ younger. moved refl (λ same. true≢false (sym best-old ∙ sym (ap older (ap (λ (x : Estimates). x .best) same)) ∙ younger))))
       (λ _.
-      pick (lingers (y .second) (y .best) (w / 4) (new .time))
+      choose Agree (lingers (y .second) (y .best) (w / 4) (new .time))
       (λ long. moved refl (λ same. true≢false (sym (lingers-older (y .second) (y .best) (w / 4) (new .time) long) ∙ left .2 (w / 4) (ap (λ (x : Estimates). x .second) same))))
       (λ _.
-      pick (lingers (y .third) (y .second) (w / 2) (new .time))
+      choose Agree (lingers (y .third) (y .second) (w / 2) (new .time))
       (λ long. moved refl (λ same. true≢false (sym (lingers-older (y .third) (y .second) (w / 2) (new .time) long) ∙ left .3 (w / 2) (ap (λ (x : Estimates). x .third) same))))
       (λ _. left .4)))
 
   pub updated-agrees : Agree (updated (Set e) new w) (reasonOf (Set e) new w)
   unfolding isReplaced
   updated-agrees =
-      pick (isReplaced e new w)
+      choose Agree (isReplaced e new w)
       (λ yes. moved refl (replaced (ltb (e .best .sample) (new .sample)) (isOlder (e .third) w (new .time)) refl refl yes))
       (λ no-step. aged-agrees (raised e new) (raisedReason e new) (raised-left (or-right (ltb (e .best .sample) (new .sample)) (isOlder (e .third) w (new .time)) no-step)))
 
@@ -151,6 +144,48 @@ agrees w (Set e) s t =
     let both = updated-agrees e new w in
     refused-or (isAfter (Set e) t) (filter w (Set e)) (filter w (Set (updated (Set e) new w))) (reasonOf (Set e) new w)
     (λ is. ap (λ (x : Estimates). filter w (Set x)) (both .0 is), λ same. both .1 (ap (λ (f : WindowedFilter). estimatesIn e (f .held)) same))
+
+-- ---- the best moves with step 1 and step 3 alone
+module _ (e : Estimates) (new : Sample) (w : ℕ) where
+  abbrev Stays : Estimates → Reason → Type 0
+  Stays x r = movesBest r ≡ false → x .best ≡ e .best
+
+  aged-stays : (y : Estimates) (r : Reason) → y .best ≡ e .best → Stays (aged y new w) (agedReason y new w r)
+  unfolding aged agedReason shifted shiftedReason renewed renewedReason
+  aged-stays y r same =
+      choose Stays (isOlder (y .best) w (new .time))
+      (λ _.
+      choose Stays (isOlder (y .second) w (new .time)) (λ _ moves. absurd (true≢false moves)) (λ _ moves. absurd (true≢false moves)))
+      (λ _.
+      choose Stays (lingers (y .second) (y .best) (w / 4) (new .time)) (λ _ _. same)
+      (λ _. choose Stays (lingers (y .third) (y .second) (w / 2) (new .time)) (λ _ _. same) (λ _ _. same)))
+
+  same-best : (b : Bool) (x y : Estimates) → x .best ≡ e .best → y .best ≡ e .best → (cond b x y) .best ≡ e .best
+  same-best true x y p q = p
+  same-best false x y p q = q
+
+  raised-best : raised e new .best ≡ e .best
+  unfolding raised
+  raised-best =
+      same-best (ltb (e .second .sample) (new .sample)) (estimates (e .best) new new) _ refl
+      (same-best (ltb (e .third .sample) (new .sample)) (estimates (e .best) (e .second) new) e refl refl)
+
+  pub updated-stays : Stays (updated (Set e) new w) (reasonOf (Set e) new w)
+  updated-stays =
+      choose Stays (isReplaced e new w) (λ _ moves. absurd (true≢false moves))
+      (λ _. aged-stays (raised e new) (raisedReason e new) raised-best)
+
+refused-best : (b : Bool) (f g : WindowedFilter) (r : Reason) → (movesBest r ≡ false → bestOf (g .held) ≡ bestOf (f .held)) → movesBest (cond b Unchanged r) ≡ false → bestOf ((cond b f g) .held) ≡ bestOf (f .held)
+refused-best true f g r p moves = refl
+refused-best false f g r p moves = p moves
+
+best-stays : (w : ℕ) (h : Held) (s t : ℕ) → movesBest (windowedReason (filter w h) s t) ≡ false → bestOf (windowedUpdate (filter w h) s t .held) ≡ bestOf h
+unfolding windowedReason windowedUpdate
+best-stays w Unset s t moves = absurd (true≢false moves)
+best-stays w (Set e) s t moves =
+    let new = sampleAt s t in
+    refused-best (isAfter (Set e) t) (filter w (Set e)) (filter w (Set (updated (Set e) new w))) (reasonOf (Set e) new w)
+    (λ stays. ap (λ (x : Sample). bestOf (Set (allThree x))) (updated-stays e new w stays)) moves
 
 -- ---- the later step is named
 named-later : (a b c : Bool) (s before : Reason) → Acts (cond a s (cond b QuarterRefresh (cond c HalfRefresh Unchanged))) → cond a s (cond b QuarterRefresh (cond c HalfRefresh before)) ≡ cond a s (cond b QuarterRefresh (cond c HalfRefresh Unchanged))
@@ -236,6 +271,8 @@ reasons =
       unchanged = λ f sample time κ x s p.
           let same = agrees (f .window) (f .held) sample time in
           (λ is. p .1 .0 ∙ same .0 (sym (p .1 .1) ∙ is), λ is. p .1 .1 ∙ same .1 (sym (p .1 .0) ∙ is));
+      best = λ f sample time κ x s p moves.
+          ap (λ (g : WindowedFilter). bestOf (g .held)) (p .1 .0) ∙ best-stays (f .window) (f .held) sample time (sym (ap movesBest (p .1 .1)) ∙ moves);
       later = later;
       earlier = earlier;
       both = both;

@@ -37,13 +37,13 @@ sampleIn (Number.Set sample) = sample
 unfoldable pub samples : WindowedFilter → List ℕ
 samples f = sampleIn (bestOf (f .held)) ∷ sampleIn (secondOf (f .held)) ∷ sampleIn (thirdOf (f .held)) ∷ []
 
--- what the pair at an index has written: the samples after it, and its reason's number "as a fourth u64"
+-- what is written for the pair at an index: the samples after it, and its reason's number "as a fourth u64"
 unfoldable pub pairWords : WindowedFilter → List ℕ → ℕ → List ℕ
 pairWords f src at =
     samples (afterPair f src at)
     ++ (reasonNumber (windowedReason f (wordAt src (at + 8)) (wordAt src at)) ∷ [])
 
--- what n pairs have written, from an index on
+-- what is written for n pairs, from an index on
 unfoldable pub runWords : WindowedFilter → List ℕ → ℕ → ℕ → List ℕ
 runWords f src at zero = []
 runWords f src at (suc n) = pairWords f src at ++ runWords (afterPair f src at) src (at + 16) n

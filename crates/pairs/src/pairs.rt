@@ -81,7 +81,7 @@ fn meets_refusal(window: u64, src: &[u8]) -> bool
     false
 }
 
-// Writes the samples that each pair leaves, and why they moved. No pair is refused.
+// Writes the samples that each pair leaves, and why they moved. Asks that no pair is refused.
 pub fn write_run(window: u64, src: &[u8], out: &mut [u8])
     requires { ⌜ (refuses (windowedNew window) (now src) 0 (pairs (now src)) ≡ false) × (32 * pairs (now src) ≤ length (now out)) ⌝ }
     ensures { λ _. ⌜ now (out .exit) ≡ sets (now (out .entry)) 0 (allBytes (runWords (windowedNew window) (now (src .entry)) 0 (pairs (now (src .entry))))) ⌝ }

@@ -9,8 +9,8 @@ use filters::windowed_filter::Updated;
 use words::get_words;
 use words::put_words;
 
-// Words 1 to 3 of the call are the operation and its two numbers, 4 to 11 the filter. The answer is the reply, of an
-// update the reason and else 0, and the filter after it.
+// Words 1 to 3 of the call are the operation and its two numbers, 4 to 11 the filter. The answer is the reply, the reason
+// (0 where it is no update), and the filter after it.
 pub fn answer(call: &[u8], out: &mut [u8])
     requires { ⌜ (length (now call) ≡ 392) × (length (now out) ≡ 544) ⌝ }
 {

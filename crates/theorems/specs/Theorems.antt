@@ -12,8 +12,8 @@
 -- a c` says that the float x is finite, not negative, and a / c in size. `abbrev`, `unfoldable`, `pub` and `use` lines
 -- add nothing to what is said.
 --
--- Bytes, words, the numbers of the calls and those of the refusals are explained in docs/LAYOUT.md, "document 01" in
--- docs/README.md. The statements are made of names from four files beside this one:
+-- Bytes, words, the numbers of the calls, of the refusals and of the reasons are explained in docs/LAYOUT.md, "document
+-- 01" and "document 02" in docs/README.md. The statements are made of names from four files beside this one:
 --   Runs.antt     an exported call as bytes lent and bytes left, of which no more is known than its contract; runs of
 --                 `guovssalu_run` one after the other; where in the bytes a word stands; the exact value beside them
 --   Steps.antt    the 49 words of a call as the step that they ask for, and what a step does to a state
@@ -148,7 +148,8 @@ pub record Theorems : Type 0 where
   -- Document 01's twelve marked examples hold of the definitions
   pub examples : all markedExamples ≡ true
   -- Why a windowed filter's estimates moved (document 02, request f): "unchanged" exactly when the update left the
-  -- filter as it was; of step 2 and a later step the later is named; and only four such pairs can meet, each worked out
+  -- filter as it was; the best moves with step 1 and step 3 alone; of step 2 and a later step the later is named; and
+  -- only four such pairs can meet, each worked out
   pub reasons : Reasons
   pub reason-examples : all reasonExamples ≡ true
   --
@@ -170,8 +171,8 @@ pub record Theorems : Type 0 where
 -- processor; that `Reads.Learnt` is a function's contract, and that for all arguments it allows an outcome, which the
 -- checker proves with the function; that the names under `declared` are the types of src/; and that its back end
 -- compiles what was proved. The page docs/LAYOUT.md. And the definitions that this page is made of, written from
--- document 01, the original and docs/LAYOUT.md: all files of specs/ to which `use` lines lead from here, with their
--- remarks. A script of the gate counts their lines (tests/contracts.py):
---   numbers 257, units 71, filters 348, words 129, state 657, layout 215, events 362, phases 208, changes 61, judge
---   199, arguments 191, reads 18, pairs 57, calls 204, laws 504, drift 379, dispatch 210, guovssalu 148, theorems
---   729: together 4947
+-- documents 01 and 02, the original and docs/LAYOUT.md: all files of specs/ to which `use` lines lead from here, with
+-- their remarks. A script of the gate counts their lines (tests/contracts.py):
+--   numbers 257, units 71, filters 350, words 129, state 657, layout 215, events 362, phases 208, changes 61, judge
+--   199, arguments 191, reads 18, pairs 57, calls 204, laws 520, drift 379, dispatch 210, guovssalu 148, theorems
+--   730: together 4966

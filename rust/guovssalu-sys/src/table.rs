@@ -930,4 +930,16 @@ pub mod reason {
 
     /// Reason 7.
     pub const UNCHANGED: u64 = 7;
+
+    /// Their names in words, in order.
+    pub const NAMES: [&str; 8] = [
+        "all replaced",
+        "second raised",
+        "third raised",
+        "promoted once",
+        "promoted twice",
+        "quarter refresh",
+        "half refresh",
+        "unchanged",
+    ];
 }

@@ -11,24 +11,29 @@ use crate::Refusal;
 ///
 /// It is the step that is named, and not what the estimates are then: all three can be the new sample
 /// after another step than the first. Where the sample raised the second or the third and a later step
-/// acted too, the later one is named.
+/// acted too, the later one is named. The best moves with `AllReplaced`, `PromotedOnce` and
+/// `PromotedTwice` alone.
 #[derive(Clone, Copy, Debug, PartialEq, Eq, Hash)]
 pub enum Reason {
     /// 0, by step 1: the filter was empty, the sample is above the best, or the third was older than
-    /// the window.
+    /// the window. All three are the sample.
     AllReplaced = reason::ALL_REPLACED as isize,
-    /// 1, by step 2: the sample is above the second, and no later step acted.
+    /// 1, by step 2: the sample is above the second, and no later step acted. Second and third are the
+    /// sample.
     SecondRaised = reason::SECOND_RAISED as isize,
-    /// 2, by step 2: the sample is above the third, and no later step acted.
+    /// 2, by step 2: the sample is above the third, and no later step acted. The third is the sample.
     ThirdRaised = reason::THIRD_RAISED as isize,
-    /// 3, by step 3: the best was older than the window, and the second took its place.
+    /// 3, by step 3: the best was older than the window. Second and third move up, and the third is the
+    /// sample.
     PromotedOnce = reason::PROMOTED_ONCE as isize,
-    /// 4, by step 3: the best and the second were older than the window, and the third took the
-    /// place.
+    /// 4, by step 3: the best and the second were older than the window. The third is the best, and the
+    /// others are the sample.
     PromotedTwice = reason::PROMOTED_TWICE as isize,
-    /// 5, by step 4: the second equalled the best, and was older than a quarter of the window.
+    /// 5, by step 4: the second equalled the best, and was older than a quarter of the window. Second and
+    /// third are the sample.
     QuarterRefresh = reason::QUARTER_REFRESH as isize,
-    /// 6, by step 5: the third equalled the second, and was older than half of the window.
+    /// 6, by step 5: the third equalled the second, and was older than half of the window. The third is
+    /// the sample.
     HalfRefresh = reason::HALF_REFRESH as isize,
     /// 7: no step acted. The filter is as it was.
     Unchanged = reason::UNCHANGED as isize,
@@ -62,23 +67,14 @@ impl TryFrom<u64> for Reason {
 
 impl fmt::Display for Reason {
     fn fmt(&self, f: &mut fmt::Formatter) -> fmt::Result {
-        f.write_str(match self {
-            Reason::AllReplaced => "all replaced",
-            Reason::SecondRaised => "second raised",
-            Reason::ThirdRaised => "third raised",
-            Reason::PromotedOnce => "promoted once",
-            Reason::PromotedTwice => "promoted twice",
-            Reason::QuarterRefresh => "quarter refresh",
-            Reason::HalfRefresh => "half refresh",
-            Reason::Unchanged => "unchanged",
-        })
+        f.write_str(reason::NAMES[*self as usize])
     }
 }
 
 /// What a [`filter_run`] writes for a pair: the samples that the filter holds after it, and why they
 /// moved.
 #[derive(Clone, Copy, Debug, PartialEq, Eq, Hash)]
-pub struct Estimates {
+pub struct Samples {
     /// The best sample.
     pub best: u64,
     /// The second best.
@@ -89,22 +85,22 @@ pub struct Estimates {
     pub reason: Reason,
 }
 
-impl Estimates {
+impl Samples {
     /// Bytes of what is written for a pair.
     pub const BYTES: usize = table::SAMPLES_BYTES;
 
-    /// The estimates of these bytes.
+    /// The samples of these bytes.
     ///
     /// # Errors
     ///
     /// `BadArgument` for another length, `OutOfBounds` where the last word is no reason's number: such
     /// bytes are none of a run's.
     pub fn from_bytes(bytes: &[u8]) -> Result<Self, Refusal> {
-        if bytes.len() != Estimates::BYTES {
+        if bytes.len() != Samples::BYTES {
             return Err(Refusal::BadArgument);
         }
         let word = |at: usize| words::get(bytes, at);
-        Ok(Estimates {
+        Ok(Samples {
             best: word(samples::BEST),
             second: word(samples::SECOND),
             third: word(samples::THIRD),
@@ -115,17 +111,17 @@ impl Estimates {
 
 /// Runs an empty windowed filter over pairs of a time and a sample: words of 64 bits, the lowest byte
 /// first, [`table::PAIR_BYTES`] to a pair. For each pair it writes the best, the second and the third
-/// sample after it and the number of a [`Reason`], [`Estimates::BYTES`]. What the output has beyond
+/// sample after it and the number of a [`Reason`], [`Samples::BYTES`]. What the output has beyond
 /// them keeps its bytes.
 ///
 /// # Errors
 ///
 /// `BadArgument` for a part of a pair, `EarlierMoment` where a pair's time is earlier than one that
-/// the filter holds then, `ShortOutput` for an output of under [`Estimates::BYTES`] a pair. Then no
+/// the filter holds then, `ShortOutput` for an output of under [`Samples::BYTES`] a pair. Then no
 /// byte is written.
 ///
 /// ```
-/// use guovssalu::{filter_run, Estimates};
+/// use guovssalu::{filter_run, Samples};
 ///
 /// let mut pairs = Vec::new();
 /// for (time, sample) in [(0, 5), (2, 5), (3, 5), (5, 3), (8, 4), (9, 2), (12, 6)] {
@@ -133,13 +129,13 @@ impl Estimates {
 ///     pairs.extend(u64::to_le_bytes(sample));
 /// }
 ///
-/// let mut out = [0; 7 * Estimates::BYTES];
+/// let mut out = [0; 7 * Samples::BYTES];
 /// filter_run(8, &pairs, &mut out)?;
 /// let (mut best, mut why) = (Vec::new(), Vec::new());
-/// for bytes in out.chunks_exact(Estimates::BYTES) {
-///     let estimates = Estimates::from_bytes(bytes)?;
-///     best.push(estimates.best);
-///     why.push(estimates.reason.to_string());
+/// for bytes in out.chunks_exact(Samples::BYTES) {
+///     let after = Samples::from_bytes(bytes)?;
+///     best.push(after.best);
+///     why.push(after.reason.to_string());
 /// }
 /// assert_eq!(best, [5, 5, 5, 5, 5, 4, 6]);
 /// assert_eq!(

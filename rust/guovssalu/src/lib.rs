@@ -8,7 +8,7 @@
 //! of its choice. Nothing allocates and nothing is kept between calls.
 //!
 //! Beside the model stand the functions on numbers, and the windowed filter: a [`filter_run`] says
-//! after each sample what its [`Estimates`] are and why they moved, a [`Reason`].
+//! after each pair which [`Samples`] it holds and why they moved, a [`Reason`].
 //!
 //! What is proved is what the archive does with the bytes it is lent. This crate, which writes and
 //! reads those bytes, is tested. The numbers of calls, the places of words and the sizes are in
@@ -73,8 +73,8 @@ pub use event::CongestionEvent;
 pub use event::Sample;
 pub use event::SendTimeState;
 pub use filter::filter_run;
-pub use filter::Estimates;
 pub use filter::Reason;
+pub use filter::Samples;
 pub use guovssalu_sys::table;
 pub use model::NetworkModel;
 pub use numbers::f32_to_u64;

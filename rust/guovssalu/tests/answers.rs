@@ -6,7 +6,7 @@ use std::path::Path;
 
 use guovssalu::Bandwidth;
 use guovssalu::Duration;
-use guovssalu::Estimates;
+use guovssalu::Samples;
 
 /// The lines of a kept list (oracle/README.md), each as its numbers.
 fn list(name: &str) -> Vec<Vec<u64>> {
@@ -99,13 +99,13 @@ impl Run {
     }
 
     fn check(&self) -> usize {
-        let mut out = vec![0; Estimates::BYTES * self.rows.len()];
+        let mut out = vec![0; Samples::BYTES * self.rows.len()];
         guovssalu::filter_run(self.window, &self.pairs, &mut out).unwrap();
         let row = |bytes: &[u8]| {
-            let after = Estimates::from_bytes(bytes).unwrap();
+            let after = Samples::from_bytes(bytes).unwrap();
             [after.best, after.second, after.third, after.reason.number()]
         };
-        let rows: Vec<_> = out.chunks_exact(Estimates::BYTES).map(row).collect();
+        let rows: Vec<_> = out.chunks_exact(Samples::BYTES).map(row).collect();
         assert_eq!(rows, self.rows, "window {}", self.window);
         rows.len()
     }

@@ -449,11 +449,6 @@ fn a_filter_run_needs_room_for_the_reasons() {
             }
         }
     }
-    // By hand, at the length that was enough before there were reasons.
-    let mut out = Guarded::new(&[0x77; 3 * 24]);
-    let reply = filter_run(8, &src, out.content());
-    assert_eq!(reply, Err(Refusal::ShortOutput));
-    assert!(out.checked() == [0x77; 3 * 24]);
 }
 
 #[test]

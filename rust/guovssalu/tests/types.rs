@@ -1,14 +1,14 @@
-//! The crate's own types: times, bandwidths, refusals, reasons, estimates.
+//! The crate's own types: times, bandwidths, refusals, reasons, the filter's samples.
 
 use std::convert::TryFrom;
 use std::time;
 
 use guovssalu::Bandwidth;
 use guovssalu::Duration;
-use guovssalu::Estimates;
 use guovssalu::Moment;
 use guovssalu::Reason;
 use guovssalu::Refusal;
+use guovssalu::Samples;
 
 #[test]
 fn lengths_of_time() {
@@ -106,30 +106,30 @@ fn bytes(words: &[u64]) -> Vec<u8> {
 }
 
 #[test]
-fn estimates_of_bytes() {
+fn samples_of_bytes() {
     let given = bytes(&[u64::MAX, 1 << 40, 3, 6]);
-    let estimates = Estimates {
+    let samples = Samples {
         best: u64::MAX,
         second: 1 << 40,
         third: 3,
         reason: Reason::HalfRefresh,
     };
-    assert_eq!(Estimates::from_bytes(&given), Ok(estimates));
+    assert_eq!(Samples::from_bytes(&given), Ok(samples));
     for reason in 0..8 {
-        let read = Estimates::from_bytes(&bytes(&[0, 0, 0, reason]));
-        assert_eq!(read.map(|estimates| estimates.reason.number()), Ok(reason));
+        let read = Samples::from_bytes(&bytes(&[0, 0, 0, reason]));
+        assert_eq!(read.map(|samples| samples.reason.number()), Ok(reason));
     }
 }
 
 #[test]
-fn foreign_bytes_are_no_estimates() {
+fn foreign_bytes_are_no_samples() {
     let long = bytes(&[9; 8]);
     for length in [0, 1, 8, 24, 31, 33, 40, 64] {
-        let read = Estimates::from_bytes(&long[..length]);
+        let read = Samples::from_bytes(&long[..length]);
         assert_eq!(read, Err(Refusal::BadArgument), "{} bytes", length);
     }
     for reason in [8, 9, 256, 1 << 32, 7 << 56, u64::MAX] {
-        let read = Estimates::from_bytes(&bytes(&[5, 5, 5, reason]));
+        let read = Samples::from_bytes(&bytes(&[5, 5, 5, reason]));
         assert_eq!(read, Err(Refusal::OutOfBounds), "reason {}", reason);
     }
 }

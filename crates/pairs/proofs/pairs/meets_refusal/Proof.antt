@@ -7,8 +7,7 @@ use native.Mathlib.Nat.{sub-zero, sub-self}
 use native.Mathlib.Omega.{arith}
 use lib.Dec.{eqb}
 use lib.ListN.{length}
-use Rattle.filters.specs.WindowedFilter.{windowedNew, windowedNumber}
-use Rattle.words.specs.Words.{wordAt}
+use Rattle.filters.specs.WindowedFilter.{windowedNew}
 use Rattle.pairs.specs.Pairs.{afterPair, refuses}
 use Rattle.pairs.proofs.Run.{refused-now, refused-later}
 use Rattle.pairs.proofs.pairs.meets_refusal.Statement.{statement}

@@ -4,34 +4,23 @@ use Rattle.filters.proofs.windowed_filter.Held.updated.Statement.{state
 use Rattle.filters.proofs.windowed_filter.Held.updated.Tie as tie
 
 returns : tie.Need-returns
-returns c = (rw (c .before .enum-told .given .1) (c .replaced .ensures .0), rw (c .before .enum-told .given .1) (c .replaced .ensures .1))
+returns c = rw (c .before .enum-told .given .1) (c .replaced .ensures)
 
 returns-2 : tie.Need-returns-2
-returns-2 c = (
-  rw (c .before .before .before .before .self .given .1, ← c .before .before .is-replaced .ensures, c .before .if1 .taken) (c .replaced2 .ensures .0),
-  rw (c .before .before .before .before .self .given .1, ← c .before .before .is-replaced .ensures, c .before .if1 .taken) (c .replaced2 .ensures .1),
-)
+returns-2 c =
+    rw (c .before .before .before .before .self .given .1, ← c .before .before .is-replaced .ensures, c .before .if1 .taken)
+    (c .replaced2 .ensures)
 
 returns-3 : tie.Need-returns-3
 returns-3 c =
-    let raised = c .before .raised .ensures in
-    let aged = c .aged .ensures in (
-      rw (
-        c .before .before .before .before .before .self .given .1,
-        ← c .before .before .before .is-replaced .ensures,
-        c .before .before .if1 .left,
-        ← raised .0,
-      )
-          (aged .0),
-      rw (
-        c .before .before .before .before .before .self .given .1,
-        ← c .before .before .before .is-replaced .ensures,
-        c .before .before .if1 .left,
-        ← raised .0,
-        ← raised .1,
-      )
-          (aged .1),
+    rw (
+      c .before .before .before .before .before .self .given .1,
+      ← c .before .before .before .is-replaced .ensures,
+      c .before .before .if1 .left,
+      ← c .before .raised .ensures .0,
+      ← c .before .raised .ensures .1,
     )
+    (c .aged .ensures)
 
 pub updated-spec : {M : Type 1} → statement M
 updated-spec =

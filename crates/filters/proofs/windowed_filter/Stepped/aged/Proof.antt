@@ -7,17 +7,11 @@ use Rattle.filters.proofs.windowed_filter.Stepped.aged.Tie as tie
 
 returns : tie.Need-returns
 unfolding aged agedReason
-returns c = (
-  rw (← c .before .before .is-older .ensures, c .before .if1 .taken) (c .shifted .ensures .0),
-  rw (← c .before .before .is-older .ensures, c .before .if1 .taken) (c .shifted .ensures .1),
-)
+returns c = rw (← c .before .before .is-older .ensures, c .before .if1 .taken) (c .shifted .ensures)
 
 returns-2 : tie.Need-returns-2
 unfolding aged agedReason
-returns-2 c = (
-  rw (← c .before .before .is-older .ensures, c .before .if1 .left) (c .renewed .ensures .0),
-  rw (← c .before .before .is-older .ensures, c .before .if1 .left) (c .renewed .ensures .1),
-)
+returns-2 c = rw (← c .before .before .is-older .ensures, c .before .if1 .left) (c .renewed .ensures)
 
 pub aged-spec : {M : Type 1} → statement M
 aged-spec =
