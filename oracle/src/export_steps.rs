@@ -7,6 +7,7 @@ use guovssalu_sys::table::SLOPE_BYTES;
 use guovssalu_sys::table::WORD_BYTES;
 
 use crate::filter_steps;
+use crate::filter_steps::Plan;
 use crate::frame::MEMORY;
 use crate::frame::MOST_PAIRS;
 use crate::replies::BYTES;
@@ -72,8 +73,9 @@ impl ExportSteps {
     }
 
     fn filter_run(&mut self) -> Step {
-        let (window, aimed) = filter_steps::begin(&mut self.random);
-        let mut words = self.pairs(window, aimed);
+        let plan = Plan::new(&mut self.random);
+        let window = plan.window;
+        let mut words = self.pairs(plan);
         let random = &mut self.random;
         let mut length = (WORD_BYTES * words.len()) as u64;
         if random.one_in(6) {
@@ -98,7 +100,7 @@ impl ExportSteps {
     /// Pairs of a time and a sample, at the ages and samples where the filter
     /// turns; in most runs as many as the memory has room for, in some a time
     /// falls.
-    fn pairs(&mut self, window: u64, aimed: bool) -> Vec<u64> {
+    fn pairs(&mut self, mut plan: Plan) -> Vec<u64> {
         let random = &mut self.random;
         let falls = random.one_in(5);
         let most = MOST_PAIRS / PAIR;
@@ -107,10 +109,10 @@ impl ExportSteps {
             false => most - 1,
         };
         let mut filter = [0; 8];
-        windowed::operate(&mut filter, 0, window, 0);
+        windowed::operate(&mut filter, 0, plan.window, 0);
         let mut words = Vec::new();
         for _ in 0..count {
-            let (sample, mut time) = filter_steps::update(random, &filter, aimed);
+            let (sample, mut time) = plan.update(random, &filter);
             if falls && random.one_in(6) {
                 time = filter_steps::earlier(random, &filter);
             }

@@ -16,8 +16,8 @@ pub struct FilterSteps {
     random: Random,
     /// Operations left on this filter.
     left: u64,
-    /// Whether they are aimed at what chance seldom finds.
-    aimed: bool,
+    /// How its updates are chosen.
+    plan: Plan,
 }
 
 impl FilterSteps {
@@ -25,7 +25,7 @@ impl FilterSteps {
         FilterSteps {
             random: Random::new(seed ^ (1 << 62)),
             left: 0,
-            aimed: false,
+            plan: Plan::default(),
         }
     }
 
@@ -39,16 +39,19 @@ impl FilterSteps {
         let random = &mut self.random;
         if self.left == 0 {
             self.left = 5 + random.below(40);
-            let x;
-            (x, self.aimed) = begin(random);
+            self.plan = Plan::new(random);
+            let x = self.plan.window;
             return Step::Filter { op: 0, x, y: 0 };
+        }
+        if let Some((x, y)) = self.plan.fixed.pop() {
+            return Step::Filter { op: 2, x, y };
         }
         self.left -= 1;
         let filter = &world.filter;
         let (op, (x, y)) = match random.below(24) {
             0 => return Step::Filter { op: 3, x: 0, y: 0 },
             1 => (1, by_chance(random, filter)),
-            _ => (2, update(random, filter, self.aimed)),
+            _ => (2, self.plan.update(random, filter)),
         };
         let y = match random.below(30) {
             0 | 1 => earlier(random, filter),
@@ -59,24 +62,67 @@ impl FilterSteps {
     }
 }
 
-/// The window of a run, and whether the run is aimed at what chance seldom finds.
-pub fn begin(random: &mut Random) -> (u64, bool) {
-    match random.one_in(4) {
-        true => (random.pick(&WINDOWS), false),
-        false => (random.pick(&WINDOWS[ALL_REASONS..]), true),
+/// How the updates of a new filter are chosen.
+#[derive(Default)]
+pub struct Plan {
+    pub window: u64,
+    /// Whether they are aimed at what chance seldom finds.
+    aimed: bool,
+    /// Sample and time of the first ones, the very first last.
+    fixed: Vec<(u64, u64)>,
+}
+
+impl Plan {
+    pub fn new(random: &mut Random) -> Self {
+        let aimed = !random.one_in(4);
+        let from = if aimed { ALL_REASONS } else { 0 };
+        let window = random.pick(&WINDOWS[from..]);
+        let fixed = match aimed && random.one_in(5) {
+            true => old_third(random, window),
+            false => None,
+        };
+        Plan {
+            window,
+            aimed,
+            fixed: fixed.unwrap_or_default(),
+        }
+    }
+
+    /// Sample and time of an update: a fixed one; or by chance or, in an aimed run,
+    /// mostly one that chance seldom finds; where there is none, one above the best.
+    pub fn update(&mut self, random: &mut Random, filter: &Filter) -> (u64, u64) {
+        if let Some(fixed) = self.fixed.pop() {
+            return fixed;
+        }
+        if !self.aimed || random.one_in(8) {
+            return by_chance(random, filter);
+        }
+        rare(random, filter).unwrap_or_else(|| {
+            let more = 1 + random.below(99);
+            (filter[2].saturating_add(more), latest(filter))
+        })
     }
 }
 
-/// Sample and time of an update, by chance or, in an aimed run, mostly one that
-/// chance seldom finds; where there is none, one above the best.
-pub fn update(random: &mut Random, filter: &Filter, aimed: bool) -> (u64, u64) {
-    if !aimed || random.one_in(8) {
-        return by_chance(random, filter);
-    }
-    rare(random, filter).unwrap_or_else(|| {
-        let more = 1 + random.below(99);
-        (filter[2].saturating_add(more), latest(filter))
-    })
+/// Updates of a new filter, the first one last, after which the third is older than
+/// half the window and the best not too old, by two promotions in a row: chance
+/// doesn't find them. At the last one the third has the second's sample, or
+/// another. Nothing if the window is too narrow, or too wide for 64 bits.
+fn old_third(random: &mut Random, window: u64) -> Option<Vec<(u64, u64)>> {
+    let quarter = window / 4 + 1;
+    let again = quarter.checked_add(window)?.checked_add(1)?;
+    let old = again.checked_add(window / 2 + 1)?;
+    let third = random.pick(&[1, 2]);
+    let updates = [
+        (0, old),
+        (third, again),
+        (1, again),
+        (2, window + 1),
+        (3, window),
+        (4, quarter),
+        (5, 0),
+    ];
+    (window >= 9).then(|| updates.to_vec())
 }
 
 /// Sample and time of an update that chance seldom finds: above the third or the
@@ -88,7 +134,7 @@ pub fn rare(random: &mut Random, filter: &Filter) -> Option<(u64, u64)> {
         let time = time.saturating_add(limit).saturating_add(1);
         time.max(latest(filter))
     };
-    if third < second || second < best && random.one_in(4) {
+    if third < second || second < best && random.one_in(3) {
         let (low, high, older) = match third < second {
             true => (third, second, next),
             false => (second, best, first),
@@ -108,7 +154,7 @@ pub fn rare(random: &mut Random, filter: &Filter) -> Option<(u64, u64)> {
     if third == 0 || time - first > window && random.one_in(2) {
         return None;
     }
-    let sample = match second < best && random.one_in(4) {
+    let sample = match second < best && random.one_in(3) {
         true => third,
         false => random.below(third),
     };

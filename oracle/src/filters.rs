@@ -21,9 +21,12 @@ use crate::windowed::Foreseen;
 const LEAST_REASONS: u64 = 20;
 const LEAST_PAIRS: u64 = 5;
 
-/// Runs worked out for request f: the window, and time, sample and reason of
+/// A run that was worked out by hand: the window, and time, sample and reason of
 /// each update.
-const WORKED: [(u64, &[(u64, u64, u64)]); 5] = [
+type Worked = (u64, &'static [(u64, u64, u64)]);
+
+/// Runs worked out for request f.
+const WORKED: [Worked; 5] = [
     (4, &[(0, 0, 0), (0, 1, 0), (2, 0, 5), (5, 1, 3)]),
     (4, &[(0, 1, 0), (2, 1, 5), (5, 0, 3), (7, 1, 4)]),
     (8, &[(0, 3, 0), (3, 2, 5), (8, 0, 6), (9, 1, 3)]),
@@ -38,6 +41,34 @@ const WORKED: [(u64, &[(u64, u64, u64)]); 5] = [
             (8, 4, 5),
             (9, 2, 3),
             (12, 6, 0),
+        ],
+    ),
+];
+
+/// Runs in which the third is older than half the window, with another sample
+/// than the second's, and with the same of another time.
+const OLD_THIRD: [Worked; 2] = [
+    (
+        12,
+        &[
+            (0, 9, 0),
+            (4, 8, 5),
+            (12, 7, 6),
+            (13, 6, 3),
+            (17, 5, 3),
+            (24, 4, 7),
+        ],
+    ),
+    (
+        12,
+        &[
+            (0, 9, 0),
+            (4, 8, 5),
+            (12, 7, 6),
+            (13, 6, 3),
+            (17, 5, 3),
+            (17, 6, 2),
+            (24, 4, 6),
         ],
     ),
 ];
@@ -71,6 +102,15 @@ impl Windowed {
     fn reset(&mut self, sample: u64, time: u64) {
         self.last = time;
         self.operate(1, sample, time);
+    }
+
+    /// A run that was worked out; stops where the reading has another reason.
+    fn worked(&mut self, (window, updates): Worked) {
+        self.start(window);
+        for &(time, sample, reason) in updates {
+            let read = self.update(sample, time);
+            assert_eq!(read, reason, "window {window}: {sample} at {time}");
+        }
     }
 
     fn clear(&mut self) {
@@ -156,12 +196,8 @@ pub fn windowed_filter() -> List {
         run.reset(5, 0);
         assert_eq!(run.update(5, time), reason, "the reason at {time}");
     }
-    for (window, updates) in WORKED {
-        run.start(window);
-        for &(time, sample, reason) in updates {
-            let read = run.update(sample, time);
-            assert_eq!(read, reason, "window {window}: {sample} at {time}");
-        }
+    for worked in WORKED {
+        run.worked(worked);
     }
     run.start(8);
     run.update(5, 0);
@@ -242,6 +278,10 @@ pub fn windowed_filter() -> List {
             *seen.entry(marks).or_default() += 1;
             run.update(sample, time);
         }
+    }
+
+    for worked in OLD_THIRD {
+        run.worked(worked);
     }
 
     for (mark, count) in &run.counts {
