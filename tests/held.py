@@ -84,7 +84,7 @@ PHRASES = [
     (r"eventFromWord l (\d+)|wordsFrom l (\d+) 16", ("EVENT_IN_CALL",)),
     (r"wordsFrom l (\d+) 11", ("PARAMS_IN_CALL",)),
     (r"\bsrc\.len\(\) [%/] (\d+)|\bpairs src = length src / (\d+)", ("PAIR_BYTES",)),
-    (r"room < (\d+) \* \(src|ltb room \((\d+) \* pairs", ("SAMPLES_BYTES",)),
+    (r"room < (\d+) \* \(src|ltb room \((\d+) \* pairs|put_words\(out, (\d+) \* i|\(r \.output\)\) \((\d+) \* pairs", ("SAMPLES_BYTES",)),
     (r"or_short\(reply, room < (\d+)\)|\(ltb room (\d+)\)", ("SLOPE_BYTES",)),
 ]
 SIZED = [f"crates/{crate}/{folder}/*" for crate in ("words", "layout", "arguments", "pairs", "calls", "dispatch", "guovssalu", "theorems") for folder in ("src", "specs")]
