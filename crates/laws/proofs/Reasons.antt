@@ -69,6 +69,10 @@ module _ (e : Estimates) (new : Sample) (w : ℕ) where
   same-age : (s : Sample) (limit : ℕ) → new ≡ s → isOlder s limit (new .time) ≡ false
   same-age s limit same = subst (λ (x : Sample). isOlder x limit (new .time) ≡ false) same (fresh new limit)
 
+  -- an estimate that is not too old is not the best that is
+  younger : (s : Sample) → isOlder (e .best) w (new .time) ≡ true → isOlder s w (new .time) ≡ false → s ≡ e .best → ⊥
+  younger s old young same = true≢false (sym old ∙ sym (ap (λ (x : Sample). isOlder x w (new .time)) same) ∙ young)
+
   -- step 1
   replaced : (a b : Bool) → ltb (e .best .sample) (new .sample) ≡ a → isOlder (e .third) w (new .time) ≡ b → (a || b) ≡ true → allThree new ≡ e → ⊥
   replaced true b p q h same = above (e .best) p (ap (λ (x : Estimates). x .best) same)
@@ -101,10 +105,10 @@ module _ (e : Estimates) (new : Sample) (w : ℕ) where
       let older : Sample → Bool = λ s. isOlder s w (new .time) in
       choose Agree (isOlder (y .best) w (new .time))
       (λ old.
-      let best-old = sym (ap older (left .0)) ∙ old in
+      let old-best = sym (ap older (left .0)) ∙ old in
       choose Agree (isOlder (y .second) w (new .time))
-      (λ _. moved refl (λ same. true≢false (sym best-old ∙ sym (ap older (ap (λ (x : Estimates). x .best) same)) ∙ left .1)))
-      (λ younger. moved refl (λ same. true≢false (sym best-old ∙ sym (ap older (ap (λ (x : Estimates). x .best) same)) ∙ younger))))
+      (λ _. moved refl (λ same. younger (y .third) old-best (left .1) (ap (λ (x : Estimates). x .best) same)))
+      (λ young. moved refl (λ same. younger (y .second) old-best young (ap (λ (x : Estimates). x .best) same))))
       (λ _.
       choose Agree (lingers (y .second) (y .best) (w / 4) (new .time))
       (λ long. moved refl (λ same. true≢false (sym (lingers-older (y .second) (y .best) (w / 4) (new .time) long) ∙ left .2 (w / 4) (ap (λ (x : Estimates). x .second) same))))
@@ -113,12 +117,16 @@ module _ (e : Estimates) (new : Sample) (w : ℕ) where
       (λ long. moved refl (λ same. true≢false (sym (lingers-older (y .third) (y .second) (w / 2) (new .time) long) ∙ left .3 (w / 2) (ap (λ (x : Estimates). x .third) same))))
       (λ _. left .4)))
 
+  third-young : isReplaced e new w ≡ false → isOlder (e .third) w (new .time) ≡ false
+  unfolding isReplaced
+  third-young none = or-right (ltb (e .best .sample) (new .sample)) (isOlder (e .third) w (new .time)) none
+
   pub updated-agrees : Agree (updated (Set e) new w) (reasonOf (Set e) new w)
   unfolding isReplaced
   updated-agrees =
       choose Agree (isReplaced e new w)
       (λ yes. moved refl (replaced (ltb (e .best .sample) (new .sample)) (isOlder (e .third) w (new .time)) refl refl yes))
-      (λ no-step. aged-agrees (raised e new) (raisedReason e new) (raised-left (or-right (ltb (e .best .sample) (new .sample)) (isOlder (e .third) w (new .time)) no-step)))
+      (λ none. aged-agrees (raised e new) (raisedReason e new) (raised-left (third-young none)))
 
 -- ---- and so is the filter
 abbrev isSet : Held → Bool
@@ -160,20 +168,10 @@ module _ (e : Estimates) (new : Sample) (w : ℕ) where
       choose Stays (lingers (y .second) (y .best) (w / 4) (new .time)) (λ _ _. same)
       (λ _. choose Stays (lingers (y .third) (y .second) (w / 2) (new .time)) (λ _ _. same) (λ _ _. same)))
 
-  same-best : (b : Bool) (x y : Estimates) → x .best ≡ e .best → y .best ≡ e .best → (cond b x y) .best ≡ e .best
-  same-best true x y p q = p
-  same-best false x y p q = q
-
-  raised-best : raised e new .best ≡ e .best
-  unfolding raised
-  raised-best =
-      same-best (ltb (e .second .sample) (new .sample)) (estimates (e .best) new new) _ refl
-      (same-best (ltb (e .third .sample) (new .sample)) (estimates (e .best) (e .second) new) e refl refl)
-
   pub updated-stays : Stays (updated (Set e) new w) (reasonOf (Set e) new w)
   updated-stays =
       choose Stays (isReplaced e new w) (λ _ moves. absurd (true≢false moves))
-      (λ _. aged-stays (raised e new) (raisedReason e new) raised-best)
+      (λ none. aged-stays (raised e new) (raisedReason e new) (raised-left e new w (third-young e new w none) .0))
 
 refused-best : (b : Bool) (f g : WindowedFilter) (r : Reason) → (movesBest r ≡ false → bestOf (g .held) ≡ bestOf (f .held)) → movesBest (cond b Unchanged r) ≡ false → bestOf ((cond b f g) .held) ≡ bestOf (f .held)
 refused-best true f g r p moves = refl
@@ -188,28 +186,35 @@ best-stays w (Set e) s t moves =
     (λ stays. ap (λ (x : Sample). bestOf (Set (allThree x))) (updated-stays e new w stays)) moves
 
 -- ---- the later step is named
-named-later : (a b c : Bool) (s before : Reason) → Acts (cond a s (cond b QuarterRefresh (cond c HalfRefresh Unchanged))) → cond a s (cond b QuarterRefresh (cond c HalfRefresh before)) ≡ cond a s (cond b QuarterRefresh (cond c HalfRefresh Unchanged))
-named-later true b c s before acts = refl
-named-later false true c s before acts = refl
-named-later false false true s before acts = refl
-named-later false false false s before acts = absurd (acts refl)
+-- a step's name, by the tests of step 3, of step 4 and of step 5, and what acted before them
+abbrev nameBy : (a d b c : Bool) (before : Reason) → Reason
+nameBy a d b c before = cond a (cond d PromotedTwice PromotedOnce) (cond b QuarterRefresh (cond c HalfRefresh before))
 
-named-earlier : (a d b c : Bool) (before : Reason) → cond a (cond d PromotedTwice PromotedOnce) (cond b QuarterRefresh (cond c HalfRefresh Unchanged)) ≡ Unchanged → cond a (cond d PromotedTwice PromotedOnce) (cond b QuarterRefresh (cond c HalfRefresh before)) ≡ before
-named-earlier true true b c before h = absurd (names refl h)
-named-earlier true false b c before h = absurd (names refl h)
-named-earlier false d true c before h = absurd (names refl h)
-named-earlier false d false true before h = absurd (names refl h)
-named-earlier false d false false before h = refl
+abbrev laterBy : (a d b c : Bool) → Reason
+laterBy a d b c = nameBy a d b c Unchanged
+
+named-later : (a d b c : Bool) (before : Reason) → Acts (laterBy a d b c) → nameBy a d b c before ≡ laterBy a d b c
+named-later true d b c before acts = refl
+named-later false d true c before acts = refl
+named-later false d false true before acts = refl
+named-later false d false false before acts = absurd (acts refl)
+
+named-earlier : (a d b c : Bool) (before : Reason) → laterBy a d b c ≡ Unchanged → nameBy a d b c before ≡ before
+named-earlier true true b c before idle = absurd (names refl idle)
+named-earlier true false b c before idle = absurd (names refl idle)
+named-earlier false d true c before idle = absurd (names refl idle)
+named-earlier false d false true before idle = absurd (names refl idle)
+named-earlier false d false false before idle = refl
 
 module _ (e : Estimates) (new : Sample) (w : ℕ) where
   abbrev y : Estimates
   y = raised e new
 
   later : isReplaced e new w ≡ false → Acts (laterReason e new w) → reasonOf (Set e) new w ≡ laterReason e new w
-  unfolding agedReason renewedReason
+  unfolding agedReason renewedReason shiftedReason
   later none acts =
       rw none
-      (named-later (isOlder (y .best) w (new .time)) (lingers (y .second) (y .best) (w / 4) (new .time)) (lingers (y .third) (y .second) (w / 2) (new .time)) (shiftedReason y new w) (raisedReason e new) acts)
+      (named-later (isOlder (y .best) w (new .time)) (isOlder (y .second) w (new .time)) (lingers (y .second) (y .best) (w / 4) (new .time)) (lingers (y .third) (y .second) (w / 2) (new .time)) (raisedReason e new) acts)
 
   earlier : isReplaced e new w ≡ false → laterReason e new w ≡ Unchanged → reasonOf (Set e) new w ≡ raisedReason e new
   unfolding agedReason renewedReason shiftedReason
@@ -224,10 +229,6 @@ Four r l =
     ⊎ (((r ≡ ThirdRaised) × (l ≡ PromotedOnce))
     ⊎ (((r ≡ ThirdRaised) × (l ≡ PromotedTwice))
     ⊎ ((r ≡ ThirdRaised) × (l ≡ QuarterRefresh))))
-
--- a later step's name, by its tests: step 3's two, step 4's and step 5's
-abbrev laterBy : (a d b c : Bool) → Reason
-laterBy a d b c = cond a (cond d PromotedTwice PromotedOnce) (cond b QuarterRefresh (cond c HalfRefresh Unchanged))
 
 after-second : (a d b c : Bool) → d ≡ false → b ≡ false → c ≡ false → Acts (laterBy a d b c) → Four SecondRaised (laterBy a d b c)
 after-second true true b c p q r acts = absurd (true≢false p)

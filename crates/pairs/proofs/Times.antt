@@ -1,6 +1,6 @@
 -- Where no time falls, no pair is refused: a filter holds no time later than the last one that it took. Assumes nothing.
 use Prim.Native.Nat.{ℕ, zero, suc, _+_, _≤_}
-use mathlib.Core.Bool.{Bool, true, false, cond, _||_, true≢false}
+use mathlib.Core.Bool.{Bool, true, false, cond}
 use mathlib.Core.List.{List}
 use mathlib.Core.Path.{_≡_, refl}
 use native.Mathlib.Nat.{le-refl}
@@ -12,6 +12,7 @@ use Rattle.filters.specs.declared.windowed_filter.Held.{Held}
 use Rattle.filters.specs.declared.windowed_filter.Held.the-variants.{Unset, Set}
 use Rattle.filters.specs.declared.windowed_filter.WindowedFilter.{WindowedFilter}
 use Rattle.filters.specs.WindowedFilter.{sampleAt, isOlder, isReplaced, raised, shifted, lingers, renewed, aged, updated, isAfter, windowedNumber, windowedUpdate}
+use Rattle.state.proofs.Rows.{or-left, or-right}
 use Rattle.words.specs.Words.{wordAt}
 use Rattle.pairs.specs.Pairs.{afterPair, refuses}
 use Rattle.pairs.specs.Inner.{timesFall}
@@ -19,10 +20,6 @@ use Rattle.pairs.specs.Inner.{timesFall}
 either : {A : Type 0} (P : A → Type 0) {x y : A} (b : Bool) → P x → P y → P (cond b x y)
 either P true p q = p
 either P false p q = q
-
-neither : (a b : Bool) → (a || b) ≡ false → (a ≡ false) × (b ≡ false)
-neither false b h = (refl, h)
-neither true b h = absurd (true≢false h)
 
 -- no estimate's time is later than t
 abbrev Past : ℕ → Estimates → Type 0
@@ -67,7 +64,7 @@ unfolding timesFall refuses afterPair windowedNumber windowedUpdate
 never-refused f last src at zero p h = refl
 never-refused f last src at (suc n) p h =
     let t = wordAt src at in
-    let rises = neither (ltb t last) (timesFall t src (at + 16) n) h in
-    let past = still-past (f .held) (ltb-false t last (rises .0)) p in
+    let later = timesFall t src (at + 16) n in
+    let past = still-past (f .held) (ltb-false t last (or-left (ltb t last) later h)) p in
     let taken = updated-past (wordAt src (at + 8)) t (f .window) (f .held) past in
-    rw (not-after (f .held) t past) (never-refused (record { window = f .window; held = Set (updated (f .held) (sampleAt (wordAt src (at + 8)) t) (f .window)) }) t src (at + 16) n taken (rises .1))
+    rw (not-after (f .held) t past) (never-refused (record { window = f .window; held = Set (updated (f .held) (sampleAt (wordAt src (at + 8)) t) (f .window)) }) t src (at + 16) n taken (or-right (ltb t last) later h))
