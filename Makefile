@@ -1,5 +1,5 @@
 # make run: proves, builds and runs the demonstration. make test: the whole gate. README.md has the others.
-.PHONY: run test contracts table diff patterns changes mutants drift picture lists rust year hostile bench instructions install clean kit archive
+.PHONY: run test contracts table diff patterns changes mutants drift estimate picture lists rust year hostile bench instructions install clean kit archive
 
 run: kit
 	rt check show
@@ -71,15 +71,23 @@ mutants: kit
 	python3 tests/mutants.py $(SEED) $(MUTANTS)
 	python3 tests/mutants.py --specs $(SEED) $(MUTANTS)
 
-# Random runs of the port beside exact fractions, and their picture (docs/DRIFT.md).
+# Random runs of the port beside exact fractions (docs/DRIFT.md).
 RUNS = 4000
 drift: kit
 	rt check serve
 	python3 tests/drift.py $(SEED) $(RUNS)
 
+# Random runs of the port's windowed filter beside what is promised of its estimates (docs/ESTIMATE.md).
+UPDATES = 1000000
+estimate: kit
+	rt check serve
+	python3 tests/estimate.py $(SEED) $(UPDATES)
+
+# The pictures of both pages.
 picture: kit
 	rt check serve
 	python3 tests/drift.py --picture docs/drift.svg
+	python3 tests/estimate.py --picture docs/estimate.svg
 
 # ---- the archive of the exported calls, and what links it: on x86-64
 

@@ -8,15 +8,13 @@ The port is the program `serve` (crates/serve), which carries out frames of call
 from it but the replies and the two lower bounds. The exact run here is written from network_model.rs, with Python's
 fractions."""
 
-import os
 import random
 import struct
-import subprocess
-import sys
 from fractions import Fraction
 
-from words import ANSWER_WORDS, CALL_WORDS, EVENT_IN_CALL, NUMBER_IN_CALL, PARAMS_IN_CALL, REPLY_IN_ANSWER, ROOT
-from words import STATE_WORDS, UNSET, WORD_BYTES, argument, call, event, params, sample, state
+from port import FRAME, asked, by_arguments, drawn, number_alone, program, started
+from words import ANSWER_WORDS, EVENT_IN_CALL, PARAMS_IN_CALL, REPLY_IN_ANSWER, STATE_WORDS, UNSET
+from words import argument, call, event, params, sample, state
 
 PARTS = 2**24
 START = call.START
@@ -31,10 +29,6 @@ CLEAR_BANDWIDTH = call.CLEAR_BANDWIDTH_LO
 ADVANCE = call.ADVANCE_MAX_BANDWIDTH_FILTER
 CRUISE = call.ENTER_PROBE_CRUISE
 REFILL = call.ENTER_PROBE_REFILL
-NOTHING = call.BDP0  # fills a frame up
-# Calls in a frame, and the words of an answer with the state after it.
-FRAME = 100
-ANSWERED = ANSWER_WORDS + STATE_WORDS
 # The original's own parameters but beta.
 USUAL = {
     params.LOSS_THRESHOLD: 0.015,
@@ -231,20 +225,13 @@ def between(rng):
 # ---- the port
 
 
-def program():
-    """The words of the command that runs `serve`."""
-    script = os.path.join(ROOT, "tests", "program.sh")
-    return subprocess.run(["sh", script, "serve"], capture_output=True, text=True, check=True).stdout.split()
-
-
 def text_of(calls):
     return "".join(" ".join(map(str, [op] + a)) + "\n" for op, a in calls)
 
 
 def words_of(op, a, beta, told):
     """The words of a call. The parameters but beta are the original's own, the clock stands still, the rest is 0."""
-    words = [0] * CALL_WORDS
-    words[NUMBER_IN_CALL] = op
+    words = number_alone(op)
     words[PARAMS_IN_CALL + params.BETA] = beta
     for place, number in USUAL.items():
         words[PARAMS_IN_CALL + place] = bits_of(number) if isinstance(number, float) else number
@@ -283,22 +270,14 @@ def encoded(calls):
 
 def followed(command, calls):
     """What the port has after each call: the reply's number, inflight_lo and bandwidth_lo."""
-    words = encoded(calls)
-    words += [words_of(NOTHING, [], 0, None)] * (-len(words) % FRAME)
-    rows, carried = [], [0] * STATE_WORDS
-    with subprocess.Popen(command, cwd=ROOT, stdin=subprocess.PIPE, stdout=subprocess.PIPE) as port:
+    words, rows, after = encoded(calls), [], [0] * STATE_WORDS
+    with started(command) as port:
         for at in range(0, len(words), FRAME):
-            frame = carried + [word for one in words[at : at + FRAME] for word in one]
-            port.stdin.write(struct.pack(f"<{len(frame)}Q", *frame))
-            port.stdin.flush()
-            answers = struct.unpack(f"<{ANSWERED * FRAME}Q", port.stdout.read(WORD_BYTES * ANSWERED * FRAME))
-            carried = list(answers[-STATE_WORDS:])
-            for start in range(0, len(answers), ANSWERED):
-                after = answers[start + ANSWER_WORDS : start + ANSWERED]
+            for answer in asked(port, after, words[at : at + FRAME]):
+                after = answer[ANSWER_WORDS:]
                 bandwidth = after[state.BANDWIDTH_LO] if after[state.BANDWIDTH_LO_SET] else UNSET
-                rows.append((answers[start + REPLY_IN_ANSWER], after[state.INFLIGHT_LO], bandwidth))
-        port.stdin.close()
-    return rows[: len(calls)]
+                rows.append((answer[REPLY_IN_ANSWER], after[state.INFLIGHT_LO], bandwidth))
+    return rows
 
 
 # ---- the comparison
@@ -438,23 +417,11 @@ def picture(path):
     colors = ["#333", "#2a7", "#a6a", "#d80"]
     first = [(c, differences(command, usual, w, 40)) for c, w in zip(colors, [14744309, 16777216, 12345678, 5000011])]
     second = [(c, differences(command, small, w, 500)) for c, w in zip(colors, [14744309, 16777216, 12345678, 5000011])]
-    out = ['<svg xmlns="http://www.w3.org/2000/svg" width="900" height="430" font-family="sans-serif" font-size="12">', '<rect width="900" height="430" fill="white"/>']
-    out += panel(0, "beta 0.3: bytes between inflight_lo and the exact value", float(1 / (1 - factor(usual))), first, 40)
+    out = panel(0, "beta 0.3: bytes between inflight_lo and the exact value", float(1 / (1 - factor(usual))), first, 40)
     out += panel(450, "beta 1/64", float(1 / (1 - factor(small))), second, 500)
     out.append('<text x="46" y="402">Across: reductions k. Red: 1 / (1 - b). Blue: k.</text>')
     out.append('<text x="46" y="420">Lines: first windows of 14,744,309 (dark), 16,777,216 (green), 12,345,678 (violet) and 5,000,011 bytes (orange).</text>')
-    out.append("</svg>")
-    with open(path, "w") as file:
-        file.write("\n".join(out) + "\n")
+    drawn(path, 430, out)
 
 
-def main():
-    if sys.argv[1:2] == ["--picture"]:
-        picture(sys.argv[2])
-        return
-    seed = int(sys.argv[1]) if len(sys.argv) > 1 else 1
-    runs = int(sys.argv[2]) if len(sys.argv) > 2 else 4000
-    compare(seed, runs)
-
-
-main()
+by_arguments(compare, 4000, picture)

@@ -5,6 +5,7 @@ use mathlib.Core.List.{List, [], _∷_}
 use mathlib.Core.Path.{_≡_, refl, sym, ap, subst, _∙_}
 use lib.Dec.{eqb}
 use Rattle.numbers.specs.Scaling.{complement, partsOf}
+use Rattle.units.proofs.Contracts.{said}
 use Rattle.units.specs.declared.time.Duration.{Duration}
 use Rattle.units.specs.declared.time.Moment.{Moment}
 use Rattle.state.specs.declared.network_model.NetworkModel.{NetworkModel}
@@ -20,7 +21,7 @@ use Rattle.drift.specs.Calls.{Call, Other, State, otherNumber, otherNext
 use Rattle.drift.specs.Exact.{Effect, unset, inflightEffect, bandwidthEffect, exactRun}
 use Rattle.units.specs.declared.maybe.MaybeNumber.{MaybeNumber}
 use Rattle.drift.specs.Drift.{inflightLow, bandwidthLow, Follows, Along, HasBeta, IsSmall, IsAny, Drift, UsualDrift, Under, usualBeta, usualParts}
-use Rattle.drift.specs.Returned.{Leaves, MadeOther, Made, Begun, Ran, CodeDrift, CodeUsualDrift, CodeInflightDrift, CodeBandwidthDrift, CodeUsualInflightDrift, CodeUsualBandwidthDrift}
+use Rattle.drift.specs.Returned.{MadeOther, Made, Begun, Ran, CodeDrift, CodeUsualDrift, CodeInflightDrift, CodeBandwidthDrift, CodeUsualInflightDrift, CodeUsualBandwidthDrift}
 use Rattle.drift.proofs.Inflight.{inflight-drift}
 use Rattle.drift.proofs.Bandwidth.{bandwidth-drift}
 use Rattle.drift.proofs.Usual.{usual-inflight-drift, usual-bandwidth-drift}
@@ -51,11 +52,7 @@ both-made s t k got next turned entered p r q = q ∙ (λ i. record { model = p 
     go true = refl
     go false = refl
 
--- ---- what a contract says of the arguments given
-said : {K : Type 0} {A E : K → Type 0} {R : Type 0} (learnt : (κ : K) → A κ → R → E κ → Type 0) (args : (κ : K) → A κ) (left : R → State) (t : State)
-    → Leaves learnt args left t → (κ : K) × (x : R) × (e : E κ) × learnt κ (args κ) x e × (t ≡ left x)
-said {K} {A} learnt args left t r = (r .0, r .2, r .3, subst (λ (a : A (r .0)). learnt (r .0) a (r .2) (r .3)) (r .5 .0) (r .4), r .5 .1)
-
+-- ---- the calls, by what their contracts say
 made-other : (c : Other) (s t : State) → MadeOther c s t → t ≡ settled (otherNumber c s) (otherNext c s) s
 unfolding otherNumber otherNext
 made-other (Calls.sent time inflight packet bytes) s t r = let q = said _ _ _ t r in model-made s t _ _ _ (q .3 .1) (q .4)

@@ -2,10 +2,8 @@
 -- A contract is `Reads.Learnt` of its function, as the checker reads it: so this page cites the modules that hold them.
 -- crates/theorems/specs/Theorems.antt says more: it speaks of the bytes of the exported run, which makes these calls.
 --
--- How to read it. The symbols are those of Drift.antt. Besides, `(x : A) × B` reads "there is an x of the kind A, of
--- which B". A contract speaks of lifetimes κ, of the arguments in the order of the source, written (first, (second,
--- tt)), of a reply x and of what is left at the exit, e. `a .0` is the first argument, `a .1 .0` the second, and so on.
--- `now a` is what a lent slice a holds at the call.
+-- How to read it. The symbols are those of Drift.antt; crates/units/specs/Contracts.antt says how a statement speaks of
+-- a contract (`Returned`, `Leaves`), and what the symbols in it are.
 use Prim.Native.Nat.{ℕ, _^_}
 use mathlib.Core.Bool.{false}
 use mathlib.Core.List.{List, [], _∷_}
@@ -14,6 +12,7 @@ use denote.Ref.{now}
 use lib.Ieee.{Float}
 use lib.Ieee.Exact.{HasValue}
 use Rattle.numbers.specs.Scaling.{complement, partsOf}
+use Rattle.units.specs.Contracts.{Returned, Leaves}
 use Rattle.units.specs.declared.time.Duration.{Duration}
 use Rattle.units.specs.declared.time.Moment.{Moment}
 use Rattle.state.specs.declared.params.Params.{Params}
@@ -27,26 +26,6 @@ use Rattle.drift.specs.Calls.{Call, Other, State}
 use Rattle.drift.specs.Exact.{Effect, unset, inflightEffect, bandwidthEffect, exactRun}
 use Rattle.units.specs.declared.maybe.MaybeNumber.{MaybeNumber}
 use Rattle.drift.specs.Drift.{inflightLow, bandwidthLow, Follows, Along, HasBeta, IsSmall, IsAny, IsBeta, usualBeta, usualParts, Under}
-
--- P of some arguments and of a reply to them that the contract allows. That there is one for all arguments is what the
--- checker proves of each function
-abbrev pub Returned : {K : Type 0} {A E : K → Type 0} {R : Type 0}
-    → (learnt : (κ : K) → A κ → R → E κ → Type 0)
-    → (P : (κ : K) → A κ → R → Type 0)
-    → Type 0
-Returned {K} {A} {E} {R} learnt P =
-    (κ : K) × (a : A κ) × (x : R) × (e : E κ)
-    × learnt κ a x e
-    × P κ a x
-
--- a reply to these arguments, and t is the state that is made of it
-abbrev pub Leaves : {K : Type 0} {A E : K → Type 0} {R : Type 0}
-    → (learnt : (κ : K) → A κ → R → E κ → Type 0)
-    → (args : (κ : K) → A κ)
-    → (left : R → State)
-    → (t : State)
-    → Type 0
-Leaves learnt args left t = Returned learnt (λ κ a x. (a ≡ args κ) × (t ≡ left x))
 
 -- ---- a call by the public function of its name: the state s becomes t. Each line names the function, its arguments,
 -- and the state that is made of its reply x: of what x holds, and of what the call does not change

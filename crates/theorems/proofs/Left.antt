@@ -31,7 +31,7 @@ use Rattle.theorems.proofs.Form.{InForm, read-form, form-words}
 use Rattle.theorems.proofs.Kept.{Within, step-form, step-kept, step-within, begun-within}
 
 -- ---- words of bytes are numbers of 64 bits
-number-small : (n : ℕ) (l : List ℕ) (at : ℕ) → AreBytes l → numberAt n l at < 256 ^ n
+pub number-small : (n : ℕ) (l : List ℕ) (at : ℕ) → AreBytes l → numberAt n l at < 256 ^ n
 unfolding numberAt
 number-small zero l at h = omega arith
 number-small (suc n) l at h = rw pow-suc (omega (arith, h at, number-small n l (suc at) h))

@@ -14,5 +14,6 @@ pub mod Reached
 pub mod Events
 pub mod Follow
 pub mod Casts
+pub mod Estimates
 pub mod Theorems
 pub mod Examples

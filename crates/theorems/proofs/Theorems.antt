@@ -15,12 +15,16 @@ use Rattle.words.specs.Word.{flagFits}
 use Rattle.dispatch.proofs.RoundTrip.{round-trip}
 use Rattle.arguments.proofs.Tested.{fits-where, tested}
 use Rattle.calls.specs.Enter.{downAt}
+use Rattle.worth.proofs.Worth.{every-run}
+use Rattle.worth.proofs.Returned.{every-returned}
+use Rattle.worth.proofs.Examples.{worked}
 use Rattle.theorems.specs.Runs.{Unasked}
 use Rattle.theorems.specs.Steps.{moment}
 use Rattle.theorems.specs.Theorems.{Theorems}
 use Rattle.theorems.proofs.Casts.{casts}
 use Rattle.theorems.proofs.Answered.{answer-bytes}
 use Rattle.theorems.proofs.Decoded.{every-outcome}
+use Rattle.theorems.proofs.Estimates.{pair-shows}
 use Rattle.theorems.proofs.Exported as exported
 use Rattle.theorems.proofs.Follow as follow
 use Rattle.theorems.proofs.Left.{left-whole, from-form, left-within, started-within, left-taken}
@@ -81,6 +85,10 @@ theorems =
       examples = marked-examples;
       reasons = reasons;
       reason-examples = reason-examples;
+      worth = every-run;
+      worth-returned = every-returned;
+      worth-written = pair-shows;
+      worth-worked = worked;
       inflight = follow.inflight;
       bandwidth = follow.bandwidth;
       usual-inflight = follow.usual-inflight;

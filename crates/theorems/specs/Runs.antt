@@ -4,7 +4,7 @@
 -- Theorems.antt says how to read them; besides, `A ↔ B` is "A exactly when B", `Unit` "nothing is asked", `cond t a
 -- b` is a where the test t is true and b elsewhere, and of tests `eqb` is "equals", `ltb` "is below", `&&` "and",
 -- `||` "or". `{K : Type 0}` names what is left to the checker to find.
-use Prim.Native.Nat.{ℕ, _+_, _-_, _*_, _%_, _^_, _≤_, _<_}
+use Prim.Native.Nat.{ℕ, zero, suc, _+_, _-_, _*_, _%_, _^_, _≤_, _<_}
 use mathlib.Core.Bool.{Bool, true, false, cond, not, _&&_, _||_}
 use mathlib.Core.List.{List, [], _∷_}
 use mathlib.Core.Logic.{_↔_}
@@ -14,7 +14,9 @@ use lib.Ieee.{Float}
 use lib.ListN.{length, getD, take, drop}
 use denote.Ref.{now}
 use Rattle.state.specs.Answers.{settled}
-use Rattle.filters.specs.WindowedFilter.{windowedNew}
+use Rattle.filters.specs.declared.windowed_filter.Sample.{Sample}
+use Rattle.filters.specs.WindowedFilter.{sampleAt, windowedNew}
+use Rattle.worth.specs.Worth.{Shows}
 use Rattle.state.specs.Bounds.{bytesOk}
 use Rattle.state.specs.NetworkModel.{modelOk}
 use Rattle.state.specs.Cycle.{roundsOk, cycleOk}
@@ -34,19 +36,13 @@ use Rattle.guovssalu.proofs.slope.guovssalu_raise_inflight_high_slope as slope
 use Rattle.drift.specs.Calls.{Call, State}
 use Rattle.drift.specs.Exact as X
 use Rattle.drift.specs.Exact.{Exact}
+use Rattle.units.specs.Contracts.{Allowed}
 use Rattle.units.specs.declared.maybe.MaybeNumber.{MaybeNumber}
 use Rattle.units.specs.declared.maybe.MaybeNumber.the-variants as Number
 use Rattle.drift.specs.Drift.{lowOf}
 use Rattle.theorems.specs.Steps.{stepsFrom, walk, exactWalk}
 
--- ---- contracts. `Reads.Learnt` of a function is its contract as the checker reads it: of lifetimes κ, arguments a, a
--- reply n and what is left at the exit e. `.0`, `.1 .0`, `.1 .1 .0` are the first, second and third of several, and
--- `now` is what a lent slice holds. `(κ : K) × ..` is "there is a κ, with ..". Here: P holds of some outcome that the
--- contract allows. (That there is an outcome for all arguments is what the checker proves of each function)
-abbrev pub Allowed : {K : Type 0} {A E : K → Type 0} {R : Type 0} →
-    ((κ : K) → A κ → R → E κ → Type 0) → ((κ : K) → A κ → R → E κ → Type 0) → Type 0
-Allowed {K} {A} {E} {R} learnt P = (κ : K) × (a : A κ) × (n : R) × (e : E κ) × learnt κ a n e × P κ a n e
-
+-- ---- contracts (crates/units/specs/Contracts.antt): `Allowed` says that P holds of some outcome that one allows
 -- every outcome that the contract allows has this reply
 abbrev pub Gives : {K : Type 0} {A E : K → Type 0} {R : Type 0} →
     ((κ : K) → A κ → R → E κ → Type 0) → ((κ : K) → A κ → R) → Type 0
@@ -173,6 +169,21 @@ FilterRow r =
     2 (not (eqb (length (r .pairs) % 16) 0))
     3 (refuses (windowedNew (r .window)) (r .pairs) 0 (pairs (r .pairs)))
     (ltb (length (r .output)) (32 * pairs (r .pairs)))
+
+-- ---- what the pairs of a filter run feed, and what is written
+-- what n pairs feed, from an index on, after what was fed before: samples with their times, the newest first
+unfoldable pub fedFrom : List Sample → (src : List ℕ) (at n : ℕ) → List Sample
+fedFrom fed src at zero = fed
+fedFrom fed src at (suc n) =
+    fedFrom (sampleAt (Bytes.wordAt src (at + 8)) (Bytes.wordAt src at) ∷ fed) src (at + 16) n
+
+-- the three samples written for pair i, from its 32 bytes, and the pairs up to it
+abbrev pub PairShows : FilterRun → ℕ → Type 0
+PairShows r i =
+    Shows (r .window) (fedFrom [] (r .pairs) 0 (i + 1))
+    (Bytes.wordAt (r .written) (32 * i))
+    (Bytes.wordAt (r .written) (32 * i + 8))
+    (Bytes.wordAt (r .written) (32 * i + 16))
 
 -- 1: "rounds over 30 give 1"; 2: a window above 2^40; 7: two words have 16 bytes
 abbrev pub SlopeRow : SlopeRun → Type 0

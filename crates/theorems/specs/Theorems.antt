@@ -43,7 +43,10 @@ use Rattle.dispatch.specs.RoundTrip.{RoundTrip}
 use Rattle.arguments.specs.Tested.{Tested}
 use Rattle.words.specs.Word.{word}
 use Rattle.calls.specs.Enter.{downAt}
-use Rattle.pairs.specs.Pairs.{runRow}
+use Rattle.pairs.specs.Pairs.{pairs, runRow}
+use Rattle.worth.specs.Worth.{EveryRun}
+use Rattle.worth.specs.Returned.{EveryReturned}
+use Rattle.worth.specs.Examples.{Worked}
 use Rattle.guovssalu.specs.FilterRun.{runOut}
 use Rattle.layout.specs.StateWords.{stateWords}
 use Rattle.guovssalu.specs.ModelRun.{encodesNone, modelRow, stateOut, answersOut}
@@ -56,7 +59,7 @@ use Rattle.drift.specs.Drift.{Follows, IsBeta, usualBeta, usualParts, Under}
 use Rattle.theorems.specs.Rows.{rowsOf}
 use Rattle.theorems.specs.Casts.{Casts}
 use Rattle.theorems.specs.Steps.{moment, Makes, Refused, Numbered, stepOf, outcomeIn}
-use Rattle.theorems.specs.Runs.{Unasked, Run, Ran, FilterRun, Filtered, SlopeRun, Raised, OneOutcome, Conversions, RunRow, FilterRow, SlopeRow, AreBytes, isWithin, count, call, before, answer, answerWord, Accepted, Starts, Each, History, exactAfter, exactRuns, exactBefore, lowWord, inflightIn, bandwidthIn, HasBetaWord, HasSmallWords, OfEvents}
+use Rattle.theorems.specs.Runs.{Unasked, Run, Ran, FilterRun, Filtered, SlopeRun, Raised, OneOutcome, Conversions, RunRow, FilterRow, SlopeRow, PairShows, AreBytes, isWithin, count, call, before, answer, answerWord, Accepted, Starts, Each, History, exactAfter, exactRuns, exactBefore, lowWord, inflightIn, bandwidthIn, HasBetaWord, HasSmallWords, OfEvents}
 
 -- What demand 3 says, of any runs, the last of which is r, that begin with a start (`History`), and in which every
 -- accepted event has words of which P holds: the number that `low` finds in the bytes that r left is near the exact one
@@ -152,6 +155,15 @@ pub record Theorems : Type 0 where
   -- only four such pairs can meet, each worked out
   pub reasons : Reasons
   pub reason-examples : all reasonExamples ≡ true
+  -- What its estimates are worth (document 02, request h; crates/worth/specs/Worth.antt, `Worth`), after any updates,
+  -- resets and clears of an empty filter: of the definitions, of what the public functions return, and of the three
+  -- samples that a filter run writes for pair i, beside what the pairs up to it fed. Then runs worked out, and that the
+  -- best need not be the largest sample of the window
+  pub worth : EveryRun
+  pub worth-returned : EveryReturned
+  pub worth-written : (r : FilterRun) → Filtered r → AreBytes (r .pairs) → r .reply ≡ 0 →
+      (i : ℕ) → i < pairs (r .pairs) → PairShows r i
+  pub worth-worked : Worked
   --
   -- ==== Demand 3. For every f32 beta from 1/1024 to 1023/1024, the float b = 1 - beta is exactly parts / 2^24, and
   -- inflight_lo is unset exactly where the exact value is; where it is set, after k reductions, it differs from it by
@@ -173,6 +185,6 @@ pub record Theorems : Type 0 where
 -- compiles what was proved. The page docs/LAYOUT.md. And the definitions that this page is made of, written from
 -- documents 01 and 02, the original and docs/LAYOUT.md: all files of specs/ to which `use` lines lead from here, with
 -- their remarks. A script of the gate counts their lines (tests/contracts.py):
---   numbers 257, units 71, filters 350, words 129, state 657, layout 215, events 362, phases 208, changes 61, judge
---   199, arguments 191, reads 18, pairs 57, calls 204, laws 520, drift 379, dispatch 210, guovssalu 148, theorems
---   730: together 4966
+--   numbers 257, units 92, filters 350, words 129, state 657, layout 215, events 362, phases 208, changes 61, judge
+--   199, arguments 191, reads 18, pairs 57, worth 243, calls 204, laws 520, drift 379, dispatch 210, guovssalu 148,
+--   theorems 753: together 5253

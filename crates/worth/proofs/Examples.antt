@@ -1,0 +1,139 @@
+-- The runs worked out, and one that misses a sample, at every window above 0. Assumes nothing.
+use Prim.Native.Nat.{ℕ, _+_, _-_, _/_, _≤_, _<_}
+use mathlib.Core.Bool.{true}
+use mathlib.Core.List.{List, [], _∷_}
+use mathlib.Core.Path.{_≡_, refl, ap, subst, _∙_}
+use native.Mathlib.Nat.{max-le, max-eq-left}
+use native.Mathlib.Omega.{arith}
+use lib.Dec.{eqb}
+use borrow.Author.Tests.{lt-ltb, le-ltb}
+use Rattle.filters.specs.declared.windowed_filter.Held.the-variants.{Set}
+use Rattle.filters.specs.declared.windowed_filter.Sample.{Sample}
+use Rattle.filters.specs.WindowedFilter.{sampleAt, estimates, isReplaced, raised, shifted, lingers, renewed, aged, windowedNew, windowedNumber, windowedUpdate}
+use Rattle.worth.specs.Worth.{Step, update, Ran, fedBy, step, goOn, ran, NoneAbove, latest, within}
+use Rattle.worth.specs.Examples.{IsMost, missing, Ends, Worked}
+
+-- ---- an accepted update by the tests of the steps
+abbrev at : (w : ℕ) (a b c : Sample) → List Sample → Ran
+at w a b c fed = record { filter = record { window = w; held = Set (estimates a b c) }; fed = fed }
+
+module _ (w s t : ℕ) (a b c : Sample) (fed : List Sample) where
+  abbrev new : Sample
+  new = sampleAt s t
+
+  -- no time is later, the sample is not above the third, and the third is not too old
+  record Quiet : Type 0 where
+    best-past : a .time ≤ t
+    second-past : b .time ≤ t
+    third-past : c .time ≤ t
+    under-best : s ≤ a .sample
+    under-second : s ≤ b .sample
+    under-third : s ≤ c .sample
+    third-young : t - c .time ≤ w
+
+  taken : Quiet → step (at w a b c fed) (update s t) ≡ record { filter = record { window = w; held = Set (aged (estimates a b c) new w) }; fed = new ∷ fed }
+  unfolding fedBy windowedNumber windowedUpdate isReplaced raised
+  taken q =
+      rw (le-ltb t (a .time) (q .best-past), le-ltb t (b .time) (q .second-past), le-ltb t (c .time) (q .third-past), le-ltb (a .sample) s (q .under-best), le-ltb (b .sample) s (q .under-second), le-ltb (c .sample) s (q .under-third), le-ltb w (t - c .time) (q .third-young))
+
+  -- step 3: the best is too old, the second is not
+  promoted : Quiet → w < t - a .time → t - b .time ≤ w → step (at w a b c fed) (update s t) ≡ at w b c new (new ∷ fed)
+  unfolding aged shifted
+  promoted q old young = taken q ∙ rw (lt-ltb w (t - a .time) old, le-ltb w (t - b .time) young)
+
+  -- step 4: the best is not too old, and the second has repeated it for longer than a quarter of the window
+  refreshed : Quiet → t - a .time ≤ w → eqb (b .sample) (a .sample) ≡ true → w / 4 < t - b .time → step (at w a b c fed) (update s t) ≡ at w a new new (new ∷ fed)
+  unfolding aged renewed lingers
+  refreshed q young same long = taken q ∙ rw (le-ltb w (t - a .time) young, same, lt-ltb (w / 4) (t - b .time) long)
+
+up-to : {n : ℕ} (x : Sample) (l : List Sample) → x .time ≤ n → latest l ≤ n → latest (x ∷ l) ≤ n
+up-to x l p q = max-le p q
+
+-- ---- at every window above 0
+module _ (w : ℕ) (h : 1 ≤ w) where
+  abbrev three : Sample
+  three = sampleAt 3 0
+
+  abbrev two : Sample
+  two = sampleAt 2 w
+
+  abbrev one : Sample
+  one = sampleAt 1 (w + w)
+
+  abbrev zero : Sample
+  zero = sampleAt 0 (w + w)
+
+  abbrev last : Sample
+  last = sampleAt 0 (w + w + 1)
+
+  quarter : w / 4 < w
+  quarter = omega (arith, h)
+
+  after-two : (fed : List Sample) → step (at w three three three fed) (update 2 w) ≡ at w three two two (two ∷ fed)
+  after-two fed =
+      refreshed w 2 w three three three fed
+      (record { best-past = omega arith; second-past = omega arith; third-past = omega arith; under-best = omega arith; under-second = omega arith; under-third = omega arith; third-young = omega arith })
+      (omega arith) refl (omega (arith, h, quarter))
+
+  after-one : (fed : List Sample) → step (at w three two two fed) (update 1 (w + w)) ≡ at w two two one (one ∷ fed)
+  after-one fed =
+      promoted w 1 (w + w) three two two fed
+      (record { best-past = omega arith; second-past = omega arith; third-past = omega arith; under-best = omega arith; under-second = omega arith; under-third = omega arith; third-young = omega arith })
+      (omega (arith, h)) (omega arith)
+
+  after-zero : (fed : List Sample) → step (at w two two one fed) (update 0 (w + w)) ≡ at w two zero zero (zero ∷ fed)
+  after-zero fed =
+      refreshed w 0 (w + w) two two one fed
+      (record { best-past = omega arith; second-past = omega arith; third-past = omega arith; under-best = omega arith; under-second = omega arith; under-third = omega arith; third-young = omega arith })
+      (omega arith) refl (omega (arith, h, quarter))
+
+  after-last : (fed : List Sample) → step (at w two zero zero fed) (update 0 (w + w + 1)) ≡ at w zero zero last (last ∷ fed)
+  after-last fed =
+      promoted w 0 (w + w + 1) two zero zero fed
+      (record { best-past = omega arith; second-past = omega arith; third-past = omega arith; under-best = omega arith; under-second = omega arith; under-third = omega arith; third-young = omega (arith, h) })
+      (omega arith) (omega (arith, h))
+
+  after-three : step (record { filter = windowedNew w; fed = [] }) (update 3 0) ≡ at w three three three (three ∷ [])
+  unfolding fedBy windowedNumber windowedUpdate
+  after-three = refl
+
+  missed-at : Ends w (missing w) (estimates zero zero last) (last ∷ zero ∷ one ∷ two ∷ three ∷ [])
+  missed-at =
+      ap (λ (r : Ran). goOn r (update 2 w ∷ update 1 (w + w) ∷ update 0 (w + w) ∷ update 0 (w + w + 1) ∷ [])) after-three
+      ∙ ap (λ (r : Ran). goOn r (update 1 (w + w) ∷ update 0 (w + w) ∷ update 0 (w + w + 1) ∷ [])) (after-two _)
+      ∙ ap (λ (r : Ran). goOn r (update 0 (w + w) ∷ update 0 (w + w + 1) ∷ [])) (after-one _)
+      ∙ ap (λ (r : Ran). goOn r (update 0 (w + w + 1) ∷ [])) (after-zero _)
+      ∙ after-last _
+
+  -- of the window's samples 1 is the third from the newest, and the best is 0
+  not-most : ((steps : List Step) → let r = ran w steps in IsMost w (r .fed) (r .filter .held)) → ⊥
+  not-most most =
+      let is = subst (λ (r : Ran). IsMost w (r .fed) (r .filter .held)) missed-at (most (missing w)) in
+      above (subst (λ (n : ℕ). NoneAbove (within w n (last ∷ zero ∷ one ∷ two ∷ three ∷ [])) 0) latest-is is)
+    where
+      latest-is : latest (last ∷ zero ∷ one ∷ two ∷ three ∷ []) ≡ w + w + 1
+      latest-is = max-eq-left (up-to zero (one ∷ two ∷ three ∷ []) (omega arith) (up-to one (two ∷ three ∷ []) (omega arith) (up-to two (three ∷ []) (omega arith) (up-to three [] (omega arith) (omega arith)))))
+
+      above : NoneAbove (within w (w + w + 1) (last ∷ zero ∷ one ∷ two ∷ three ∷ [])) 0 → ⊥
+      above is =
+          let young : w + w + 1 - (w + w) ≤ w = omega (arith, h) in
+          let kept = rw (le-ltb w (w + w + 1 - (w + w + 1)) (omega arith), le-ltb w (w + w + 1 - (w + w)) young) at is in
+          omega (arith, kept .1 .1 .0)
+
+-- ---- at window 8
+pub worked : Worked
+unfolding fedBy windowedNumber windowedUpdate isReplaced raised aged shifted renewed lingers
+worked =
+    record {
+      first = refl;
+      refreshed = refl;
+      promoted = refl;
+      overwritten = refl;
+      missed = refl;
+      in-window = refl;
+      at-eight = refl;
+      missed-at = missed-at;
+      not-most = not-most;
+      oldest = refl;
+      fallen = refl;
+    }

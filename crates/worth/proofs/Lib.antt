@@ -1,0 +1,4 @@
+-- Proofs of what the estimates are worth.
+pub mod Worth
+pub mod Returned
+pub mod Examples

@@ -1,0 +1,4 @@
+-- Runs of a windowed filter, and what its estimates are worth.
+pub mod Worth
+pub mod Returned
+pub mod Examples

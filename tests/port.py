@@ -1,0 +1,69 @@
+"""What tests/drift.py and tests/estimate.py share: the program `serve` (crates/serve), asked frames of calls
+(oracle/README.md), their arguments, and the ground of their pictures.
+
+    with started(program()) as port:
+        for answer in asked(port, state, calls): ..
+
+The variable PORT, where it is set, is the command that runs `serve`, seen from the root of the repository."""
+
+import os
+import struct
+import subprocess
+import sys
+
+from words import ANSWER_WORDS, CALL_WORDS, NUMBER_IN_CALL, ROOT, STATE_WORDS, WORD_BYTES, call
+
+# Calls in a frame, and the words of an answer with the state after it.
+FRAME = 100
+ANSWERED = ANSWER_WORDS + STATE_WORDS
+
+
+def program():
+    """The words of the command that runs `serve`."""
+    if os.environ.get("PORT"):
+        return os.environ["PORT"].split()
+    script = os.path.join(ROOT, "tests", "program.sh")
+    return subprocess.run(["sh", script, "serve"], capture_output=True, text=True, check=True).stdout.split()
+
+
+def started(command):
+    """A port that waits for frames."""
+    return subprocess.Popen(command, cwd=ROOT, stdin=subprocess.PIPE, stdout=subprocess.PIPE)
+
+
+def number_alone(number):
+    """The words of a call of which nothing but the number is told."""
+    words = [0] * CALL_WORDS
+    words[NUMBER_IN_CALL] = number
+    return words
+
+
+def asked(port, state, calls):
+    """The words of each answer to at most FRAME calls, the first of which is made in this state."""
+    filled = calls + [number_alone(call.BDP0)] * (FRAME - len(calls))
+    frame = list(state) + [word for words in filled for word in words]
+    port.stdin.write(struct.pack(f"<{len(frame)}Q", *frame))
+    port.stdin.flush()
+    size = WORD_BYTES * ANSWERED * FRAME
+    answers = port.stdout.read(size)
+    if len(answers) < size:
+        raise SystemExit("the port ended before it had answered")
+    words = struct.unpack(f"<{ANSWERED * FRAME}Q", answers)
+    return [words[at : at + ANSWERED] for at in range(0, ANSWERED * len(calls), ANSWERED)]
+
+
+def drawn(path, height, lines):
+    """Writes a picture: these lines on a white ground."""
+    size, letters = f'width="900" height="{height}"', 'font-family="sans-serif" font-size="12"'
+    ground = [f'<svg xmlns="http://www.w3.org/2000/svg" {size} {letters}>', f'<rect {size} fill="white"/>']
+    with open(path, "w") as file:
+        file.write("\n".join([*ground, *lines, "</svg>"]) + "\n")
+
+
+def by_arguments(compare, usual, picture):
+    """Does what the arguments say: [SEED [NUMBER]], where the usual number stands for none, or --picture FILE.svg."""
+    if sys.argv[1:2] == ["--picture"]:
+        picture(sys.argv[2])
+        return
+    seed = int(sys.argv[1]) if len(sys.argv) > 1 else 1
+    compare(seed, int(sys.argv[2]) if len(sys.argv) > 2 else usual)
