@@ -186,5 +186,5 @@ pub record Theorems : Type 0 where
 -- documents 01 and 02, the original and docs/LAYOUT.md: all files of specs/ to which `use` lines lead from here, with
 -- their remarks. A script of the gate counts their lines (tests/contracts.py):
 --   numbers 257, units 92, filters 350, words 129, state 657, layout 215, events 362, phases 208, changes 61, judge
---   199, arguments 191, reads 18, pairs 57, worth 243, calls 204, laws 520, drift 379, dispatch 210, guovssalu 148,
---   theorems 753: together 5253
+--   199, arguments 191, reads 18, pairs 57, worth 249, calls 204, laws 520, drift 379, dispatch 210, guovssalu 148,
+--   theorems 753: together 5259

@@ -3,15 +3,16 @@ use Prim.Native.Nat.{ℕ, _+_, _-_, _/_, _≤_, _<_}
 use mathlib.Core.Bool.{true}
 use mathlib.Core.List.{List, [], _∷_}
 use mathlib.Core.Path.{_≡_, refl, ap, subst, _∙_}
-use native.Mathlib.Nat.{max-le, max-eq-left}
+use native.Mathlib.Nat.{max-le}
 use native.Mathlib.Omega.{arith}
 use lib.Dec.{eqb}
 use borrow.Author.Tests.{lt-ltb, le-ltb}
 use Rattle.filters.specs.declared.windowed_filter.Held.the-variants.{Set}
 use Rattle.filters.specs.declared.windowed_filter.Sample.{Sample}
 use Rattle.filters.specs.WindowedFilter.{sampleAt, estimates, isReplaced, raised, shifted, lingers, renewed, aged, windowedNew, windowedNumber, windowedUpdate}
-use Rattle.worth.specs.Worth.{Step, update, Ran, fedBy, step, goOn, ran, NoneAbove, latest, within}
+use Rattle.worth.specs.Worth.{Step, update, Ran, fedBy, step, goOn, ran, latest}
 use Rattle.worth.specs.Examples.{IsMost, missing, Ends, Worked}
+use Rattle.worth.proofs.Worth.{among}
 
 -- ---- an accepted update by the tests of the steps
 abbrev at : (w : ℕ) (a b c : Sample) → List Sample → Ran
@@ -105,20 +106,20 @@ module _ (w : ℕ) (h : 1 ≤ w) where
       ∙ ap (λ (r : Ran). goOn r (update 0 (w + w + 1) ∷ [])) (after-zero _)
       ∙ after-last _
 
-  -- of the window's samples 1 is the third from the newest, and the best is 0
+  -- 1 is not too old, and the best is 0
+  abbrev all : List Sample
+  all = last ∷ zero ∷ one ∷ two ∷ three ∷ []
+
+  in-time : latest all ≤ w + w + w
+  in-time =
+      up-to last (zero ∷ one ∷ two ∷ three ∷ []) (omega (arith, h))
+      (up-to zero (one ∷ two ∷ three ∷ []) (omega arith)
+      (up-to one (two ∷ three ∷ []) (omega arith) (up-to two (three ∷ []) (omega arith) (up-to three [] (omega arith) (omega arith)))))
+
   not-most : ((steps : List Step) → let r = ran w steps in IsMost w (r .fed) (r .filter .held)) → ⊥
   not-most most =
-      let is = subst (λ (r : Ran). IsMost w (r .fed) (r .filter .held)) missed-at (most (missing w)) in
-      above (subst (λ (n : ℕ). NoneAbove (within w n (last ∷ zero ∷ one ∷ two ∷ three ∷ [])) 0) latest-is is)
-    where
-      latest-is : latest (last ∷ zero ∷ one ∷ two ∷ three ∷ []) ≡ w + w + 1
-      latest-is = max-eq-left (up-to zero (one ∷ two ∷ three ∷ []) (omega arith) (up-to one (two ∷ three ∷ []) (omega arith) (up-to two (three ∷ []) (omega arith) (up-to three [] (omega arith) (omega arith)))))
-
-      above : NoneAbove (within w (w + w + 1) (last ∷ zero ∷ one ∷ two ∷ three ∷ [])) 0 → ⊥
-      above is =
-          let young : w + w + 1 - (w + w) ≤ w = omega (arith, h) in
-          let kept = rw (le-ltb w (w + w + 1 - (w + w + 1)) (omega arith), le-ltb w (w + w + 1 - (w + w)) young) at is in
-          omega (arith, kept .1 .1 .0)
+      let one-in = among w (latest all) all one (last ∷ zero ∷ [], two ∷ three ∷ [], refl, (omega arith, (omega arith, tt))) in-time in
+      omega (arith, one-in, subst (λ (r : Ran). IsMost w (r .fed) (r .filter .held)) missed-at (most (missing w)))
 
 -- ---- at window 8
 pub worked : Worked

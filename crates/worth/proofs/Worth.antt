@@ -14,7 +14,7 @@ use Rattle.filters.specs.declared.windowed_filter.Held.the-variants.{Unset, Set
 use Rattle.filters.specs.declared.windowed_filter.Sample.{Sample}
 use Rattle.filters.specs.declared.windowed_filter.WindowedFilter.{WindowedFilter}
 use Rattle.filters.specs.WindowedFilter.{sampleAt, estimates, allThree, isOlder, isReplaced, raised, shifted, lingers, renewed, aged, updated, isAfter, windowedReset, windowedNumber, windowedUpdate}
-use Rattle.worth.specs.Worth.{Step, update, reset, clear, Ran, fedBy, step, goOn, NoneAbove, IsOf, Stands, latest, within, Worth, Promised, Holds, EveryRun}
+use Rattle.worth.specs.Worth.{Step, update, reset, clear, Ran, fedBy, step, goOn, NoneAbove, Stands, largest, latest, within, Worth, Promised, Holds, EveryRun}
 
 -- what holds on both sides of a test holds of the choice
 choose : {A : Type 0} (P : A → Type 0) {x y : A} (b : Bool) → (b ≡ true → P x) → (b ≡ false → P y) → P (cond b x y)
@@ -31,15 +31,15 @@ here new fed = ([], fed, refl, tt)
 still : {x new : Sample} {fed : List Sample} → new .sample ≤ x .sample → Stands fed x → Stands (new ∷ fed) x
 still {x} {new} p s = (new ∷ s .0, s .1, ap (λ l. new ∷ l) (s .2), (p, s .3))
 
--- one that is not too old is among those of the window
-among : (w t : ℕ) (fed : List Sample) (x : Sample) → Stands fed x → t ≤ x .time + w → IsOf (within w t fed) x
-among w t fed x s fine = subst (λ (l : List Sample). IsOf (within w t l) x) (sym (s .2)) (go (s .0))
+-- one that is not too old is not above the largest of the window
+pub among : (w t : ℕ) (fed : List Sample) (x : Sample) → Stands fed x → t ≤ x .time + w → x .sample ≤ largest (within w t fed)
+among w t fed x s fine = subst (λ (l : List Sample). x .sample ≤ largest (within w t l)) (sym (s .2)) (go (s .0))
   where
-    go : (later : List Sample) → IsOf (within w t (later ++ (x ∷ s .1))) x
-    go [] = rw (le-ltb w (t - x .time) (omega (arith, fine))) ([], within w t (s .1), refl)
+    go : (later : List Sample) → x .sample ≤ largest (within w t (later ++ (x ∷ s .1)))
+    go [] = rw (le-ltb w (t - x .time) (omega (arith, fine))) (le-max-left (x .sample) (largest (within w t (s .1))))
     go (y ∷ later) =
-        let rest = go later in
-        choose (λ l. IsOf l x) (isOlder y w t) (λ _. rest) (λ _. (y ∷ rest .0, rest .1, ap (λ l. y ∷ l) (rest .2)))
+        let rest = within w t (later ++ (x ∷ s .1)) in
+        choose (λ l. x .sample ≤ largest l) (isOlder y w t) (λ _. go later) (λ _. le-trans (go later) (le-max-right (y .sample) (largest rest)))
 
 -- an estimate that is not too old
 young : (x : Sample) (w t : ℕ) → isOlder x w t ≡ false → t ≤ x .time + w

@@ -10,12 +10,12 @@ use Rattle.filters.specs.declared.windowed_filter.Held.{Held}
 use Rattle.filters.specs.declared.windowed_filter.Held.the-variants.{Unset, Set}
 use Rattle.filters.specs.declared.windowed_filter.Sample.{Sample}
 use Rattle.filters.specs.WindowedFilter.{sampleAt, estimates}
-use Rattle.worth.specs.Worth.{Step, update, ran, NoneAbove, inWindow}
+use Rattle.worth.specs.Worth.{Step, update, ran, largest, inWindow}
 
 -- "the best is at least every sample of the window": not promised
 abbrev pub IsMost : (window : ℕ) → List Sample → Held → Type 0
 IsMost window fed Unset = Unit {0}
-IsMost window fed (Set e) = NoneAbove (inWindow window fed) (e .best .sample)
+IsMost window fed (Set e) = largest (inWindow window fed) ≤ e .best .sample
 
 -- ---- a run that misses a sample of age 1
 -- at window 8: 3 at 0, 2 at 8, 1 at 16, 0 at 16, 0 at 17

@@ -65,16 +65,16 @@ abbrev pub NewestUpTo : List Sample → ℕ → Type 0
 NewestUpTo [] n = ⊥
 NewestUpTo (new ∷ fed) n = new .sample ≤ n
 
--- x is one of these
-abbrev pub IsOf : List Sample → Sample → Type 0
-IsOf l x = (later : List Sample) × (earlier : List Sample) × (l ≡ later ++ (x ∷ earlier))
-
 -- x was fed, "with its own time", and after it nothing above it (if it was fed several times, after one of them)
 abbrev pub Stands : List Sample → Sample → Type 0
 Stands fed x =
     (later : List Sample) × (earlier : List Sample) × (fed ≡ later ++ (x ∷ earlier)) × NoneAbove later (x .sample)
 
--- the latest time, which need not be the newest one's
+-- the largest sample, and the latest time, which need not be the newest one's
+abbrev pub largest : List Sample → ℕ
+largest [] = 0
+largest (x ∷ l) = max (x .sample) (largest l)
+
 abbrev pub latest : List Sample → ℕ
 latest [] = 0
 latest (x ∷ l) = max (x .time) (latest l)
@@ -103,8 +103,8 @@ pub record Worth (window : ℕ) (fed : List Sample) (e : Estimates) : Type 0 whe
   pub third : Stands fed (e .third)
   -- "the best one's age is at most the window": at the latest time, so at the newest one's
   pub age : latest fed ≤ e .best .time + window
-  -- so it is one of the window's samples: it may be too small, but is never too large
-  pub in-window : IsOf (inWindow window fed) (e .best)
+  -- so it is at most the largest sample of the window: it may be too small, but is never too large
+  pub in-window : e .best .sample ≤ largest (inWindow window fed)
 
 -- a filter is empty exactly where nothing was fed since the last clear
 abbrev pub Promised : (window : ℕ) → List Sample → Held → Type 0
