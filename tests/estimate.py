@@ -142,7 +142,7 @@ def row_of(place):
 
 
 def of_row(fed, window, best, second, third):
-    """Which promises three samples break whose times are not shown."""
+    """Which promises three samples break with whatever times, since theirs are not shown."""
     faults = of_samples(fed, best, second, third)
     times = {}
     for sample, time in fed.unexceeded:
@@ -152,7 +152,16 @@ def of_row(fed, window, best, second, third):
             faults.append("later" if sample in fed.last_time else "fed")
     if best in times and fed.latest - max(times[best]) > window:
         faults.append("age")
-    return faults
+    return faults if faults or in_order(times, fed.latest - window, (best, second, third)) else ["times"]
+
+
+def in_order(times, earliest, samples):
+    """Whether each sample has a time that is not before the one chosen for the sample before it."""
+    for sample in samples:
+        earliest = min((time for time in times[sample] if time >= earliest), default=None)
+        if earliest is None:
+            return False
+    return True
 
 
 # ---- what is counted of a filter after an accepted update
@@ -331,6 +340,7 @@ RUN_CHANGES = [
     ("later", 8, "5@0 6@1 4@2", "5 4 4"),
     ("later", 8, "5@0 6@1 4@2", "6 5 4"),
     ("later", 8, "5@0 6@1 4@2", "6 6 5"),
+    ("times", 8, "5@0 4@2 3@1", "5 4 3"),
     ("age", 8, "5@0 4@9", "5 - -"),
     ("age", 0, "5@0 4@1", "5 - -"),
     ("age", 8, "3@0 2@8 1@12 0@13 0@17 0@19 0@21 0@20", "1 - -"),

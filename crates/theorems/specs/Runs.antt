@@ -3,7 +3,7 @@
 -- `word w i` is word i of a list of words, `Bytes.wordAt l i` the word in the 8 bytes of l from byte i on.
 -- Theorems.antt says how to read them; besides, `A ↔ B` is "A exactly when B", `Unit` "nothing is asked", `cond t a
 -- b` is a where the test t is true and b elsewhere, and of tests `eqb` is "equals", `ltb` "is below", `&&` "and",
--- `||` "or". `{K : Type 0}` names what is left to the checker to find.
+-- `||` "or". `suc n` is the number after n, `zero` is 0. `{K : Type 0}` names what is left to the checker to find.
 use Prim.Native.Nat.{ℕ, zero, suc, _+_, _-_, _*_, _%_, _^_, _≤_, _<_}
 use mathlib.Core.Bool.{Bool, true, false, cond, not, _&&_, _||_}
 use mathlib.Core.List.{List, [], _∷_}
@@ -14,9 +14,8 @@ use lib.Ieee.{Float}
 use lib.ListN.{length, getD, take, drop}
 use denote.Ref.{now}
 use Rattle.state.specs.Answers.{settled}
-use Rattle.filters.specs.declared.windowed_filter.Sample.{Sample}
-use Rattle.filters.specs.WindowedFilter.{sampleAt, windowedNew}
-use Rattle.worth.specs.Worth.{Shows}
+use Rattle.filters.specs.WindowedFilter.{windowedNew}
+use Rattle.worth.specs.Worth.{Step, update, ran, Shows}
 use Rattle.state.specs.Bounds.{bytesOk}
 use Rattle.state.specs.NetworkModel.{modelOk}
 use Rattle.state.specs.Cycle.{roundsOk, cycleOk}
@@ -170,17 +169,19 @@ FilterRow r =
     3 (refuses (windowedNew (r .window)) (r .pairs) 0 (pairs (r .pairs)))
     (ltb (length (r .output)) (32 * pairs (r .pairs)))
 
--- ---- what the pairs of a filter run feed, and what is written
--- what n pairs feed, from an index on, after what was fed before: samples with their times, the newest first
-unfoldable pub fedFrom : List Sample → (src : List ℕ) (at n : ℕ) → List Sample
-fedFrom fed src at zero = fed
-fedFrom fed src at (suc n) =
-    fedFrom (sampleAt (Bytes.wordAt src (at + 8)) (Bytes.wordAt src at) ∷ fed) src (at + 16) n
+-- ---- the pairs of a filter run: the updates that n of them ask for, from an index on
+unfoldable pub updatesFrom : (src : List ℕ) (at n : ℕ) → List Step
+updatesFrom src at zero = []
+updatesFrom src at (suc n) =
+    update (Bytes.wordAt src (at + 8)) (Bytes.wordAt src at) ∷ updatesFrom src (at + 16) n
 
--- the three samples written for pair i, from its 32 bytes, and the pairs up to it
+-- of the updates that the pairs up to pair i ask for none is refused, and what is written for pair i, in its 32 bytes,
+-- are the samples of the three estimates that they leave, of which the promises hold
 abbrev pub PairShows : FilterRun → ℕ → Type 0
 PairShows r i =
-    Shows (r .window) (fedFrom [] (r .pairs) 0 (i + 1))
+    let q = ran (r .window) (updatesFrom (r .pairs) 0 (i + 1)) in
+    (length (q .fed) ≡ i + 1)
+    × Shows (r .window) (q .fed) (q .filter .held)
     (Bytes.wordAt (r .written) (32 * i))
     (Bytes.wordAt (r .written) (32 * i + 8))
     (Bytes.wordAt (r .written) (32 * i + 16))

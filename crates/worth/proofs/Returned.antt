@@ -33,10 +33,10 @@ returned window steps r q b m =
     let begun = x .4 ∙ made-of (x .3) refl in
     subst (Holds window) (sym (all-made steps r q m ∙ ap (λ (u : Ran). goOn u steps) begun)) (every-run .run window steps)
 
-answers : (window : ℕ) (fed : List Sample) (h : Held) → Promised window fed h → Answers window fed (bestOf h) (secondOf h) (thirdOf h)
-answers window fed Unset p = subst (λ (l : List Sample). Answers window l (bestOf Unset) (secondOf Unset) (thirdOf Unset)) (sym p) (refl, refl, refl)
+answers : (window : ℕ) (fed : List Sample) (h : Held) → Promised window fed h → Answers window fed h (bestOf h) (secondOf h) (thirdOf h)
+answers window fed Unset p = subst (λ (l : List Sample). Answers window l Unset (bestOf Unset) (secondOf Unset) (thirdOf Unset)) (sym p) (refl, refl, refl)
 answers window [] (Set e) p = absurd (p .newest)
-answers window (new ∷ fed) (Set e) p = (e .best .sample, e .second .sample, e .third .sample, refl, refl, refl, (e, p, refl, refl, refl))
+answers window (new ∷ fed) (Set e) p = (e .best .sample, e .second .sample, e .third .sample, refl, refl, refl, (e, refl, p, refl, refl, refl))
 
 pub every-returned : EveryReturned
 every-returned =

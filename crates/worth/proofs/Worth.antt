@@ -230,12 +230,31 @@ step-holds w r (update s t) p = updated-holds w r s t p
 step-holds w r (reset s t) p = subst (Holds w) (sym (reset-is r s t)) (updated-holds w (step r clear) s t (cleared-holds w r p))
 step-holds w r clear p = cleared-holds w r p
 
-pub go-on-holds : (w : ℕ) (r : Ran) (steps : List Step) → Holds w r → Holds w (goOn r steps)
+go-on-holds : (w : ℕ) (r : Ran) (steps : List Step) → Holds w r → Holds w (goOn r steps)
 go-on-holds w r [] p = p
 go-on-holds w r (c ∷ steps) p = go-on-holds w (step r c) steps (step-holds w r c p)
 
+-- ---- the largest sample
+under-more : {n m : ℕ} (l : List Sample) → n ≤ m → NoneAbove l n → NoneAbove l m
+under-more [] h p = tt
+under-more (x ∷ l) h p = (le-trans (p .0) h, under-more l h (p .1))
+
+largest-bounds : (l : List Sample) → NoneAbove l (largest l)
+largest-bounds [] = tt
+largest-bounds (x ∷ l) = (le-max-left (x .sample) (largest l), under-more l (le-max-right (x .sample) (largest l)) (largest-bounds l))
+
+largest-least : (l : List Sample) (n : ℕ) → NoneAbove l n → largest l ≤ n
+largest-least [] n p = omega arith
+largest-least (x ∷ l) n p = max-le (p .0) (largest-least l n (p .1))
+
 pub every-run : EveryRun
-every-run = record { run = λ w steps. go-on-holds w _ steps (record { window-kept = refl; promised = refl }); reset-is = reset-is }
+every-run =
+    record {
+      run = λ w steps. go-on-holds w _ steps (record { window-kept = refl; promised = refl });
+      reset-is = reset-is;
+      largest-bounds = largest-bounds;
+      largest-least = largest-least;
+    }
 
 -- ---- what it says of one estimate
 -- it is not later than the latest that was fed

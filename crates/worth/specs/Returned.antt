@@ -9,6 +9,7 @@ use Rattle.units.specs.Contracts.{Leaves}
 use Rattle.units.specs.Reply.{number}
 use Rattle.units.specs.declared.maybe.MaybeNumber.{MaybeNumber}
 use Rattle.units.specs.declared.maybe.MaybeNumber.the-variants as Number
+use Rattle.filters.specs.declared.windowed_filter.Held.{Held}
 use Rattle.filters.specs.declared.windowed_filter.Sample.{Sample}
 use Rattle.filters.specs.WindowedFilter.{sampleAt}
 use Rattle.filters.proofs.windowed_filter.WindowedFilter as windowed
@@ -38,14 +39,14 @@ AllMade [] r q = q ≡ r
 AllMade (c ∷ steps) r q = (u : Ran) × Made c r u × AllMade steps u q
 
 -- ---- what the three questions answer: nothing where nothing was fed, else samples of which the promises hold
-abbrev pub Answers : (window : ℕ) → List Sample → (best second third : MaybeNumber) → Type 0
-Answers window [] a b c = (a ≡ Number.Unset) × (b ≡ Number.Unset) × (c ≡ Number.Unset)
-Answers window (new ∷ fed) a b c =
+abbrev pub Answers : (window : ℕ) → List Sample → Held → (best second third : MaybeNumber) → Type 0
+Answers window [] h a b c = (a ≡ Number.Unset) × (b ≡ Number.Unset) × (c ≡ Number.Unset)
+Answers window (new ∷ fed) h a b c =
     (best : ℕ) × (second : ℕ) × (third : ℕ)
     × (a ≡ Number.Set best)
     × (b ≡ Number.Set second)
     × (c ≡ Number.Set third)
-    × Shows window (new ∷ fed) best second third
+    × Shows window (new ∷ fed) h best second third
 
 pub record EveryReturned : Type 0 where
   -- the filter that the functions return
@@ -56,4 +57,4 @@ pub record EveryReturned : Type 0 where
       Leaves windowed.get_best.Reads.Learnt (λ κ. (q .filter, tt)) (λ x. x) a →
       Leaves windowed.get_second_best.Reads.Learnt (λ κ. (q .filter, tt)) (λ x. x) b →
       Leaves windowed.get_third_best.Reads.Learnt (λ κ. (q .filter, tt)) (λ x. x) c →
-      Answers window (q .fed) a b c
+      Answers window (q .fed) (q .filter .held) a b c

@@ -5,10 +5,13 @@
 -- Besides: each is at least every sample fed after it, and the age is measured from the latest time, since times may
 -- fall. What is not promised, that the best is the largest sample of the window, is refuted in Examples.antt.
 --
--- Statements only. `ℕ` is the whole numbers from 0, `(x : A) → B` is "for every x of the kind A, B", `(x : A) × B`
+-- Statements only. `ℕ` is the whole numbers from 0, `Type 0` the kind of statements. `(x : A) → B` is "for every x of
+-- the kind A, B", and `A → B` "if A, then B", or between kinds of values a function from A to B; `(x : A) × B` is
 -- "there is an x of the kind A, of which B", `A × B` "A and B", `x ≡ y` "x equals y", `⊥` "never", `Unit` "nothing is
--- asked". `f x y` is f of x and y, `r .f` the field f of the record r, `cond t a b` is a where the test t holds and b
--- elsewhere. `[]` is the empty list, `x ∷ l` the list l with x before it, `k ++ l` the list k and then the list l.
+-- asked". `f x y` is f of x and y, `r .f` the field f of the record r, `λ x. t` is t as a function of x; `let x = a in
+-- B` is B, in which x stands for a. `cond t a b` is a where the test t holds and b elsewhere, and `eqb a b` the test
+-- whether a equals b. `[]` is the empty list, `x ∷ l` the list l with x before it, `k ++ l` the list k and then the
+-- list l. `abbrev`, `unfoldable`, `pub` and `use` add nothing to what is said.
 use Prim.Native.Nat.{ℕ, max, _+_, _≤_}
 use mathlib.Core.Bool.{cond}
 use mathlib.Core.List.{List, [], _∷_, _++_}
@@ -65,7 +68,7 @@ abbrev pub NewestUpTo : List Sample → ℕ → Type 0
 NewestUpTo [] n = ⊥
 NewestUpTo (new ∷ fed) n = new .sample ≤ n
 
--- x was fed, "with its own time", and after it nothing above it (if it was fed several times, after one of them)
+-- x was fed, "with its own time", and after it nothing above it: if it was fed several times, after the last of them
 abbrev pub Stands : List Sample → Sample → Type 0
 Stands fed x =
     (later : List Sample) × (earlier : List Sample) × (fed ≡ later ++ (x ∷ earlier)) × NoneAbove later (x .sample)
@@ -115,10 +118,11 @@ pub record Holds (window : ℕ) (r : Ran) : Type 0 where
   pub window-kept : r .filter .window ≡ window
   pub promised : Promised window (r .fed) (r .filter .held)
 
--- three numbers are the samples of estimates of which the promises hold
-abbrev pub Shows : (window : ℕ) → List Sample → (best second third : ℕ) → Type 0
-Shows window fed best second third =
+-- three estimates are held, of which the promises hold, and three numbers are their samples
+abbrev pub Shows : (window : ℕ) → List Sample → Held → (best second third : ℕ) → Type 0
+Shows window fed h best second third =
     (e : Estimates)
+    × (h ≡ Set e)
     × Worth window fed e
     × (best ≡ e .best .sample)
     × (second ≡ e .second .sample)
@@ -129,3 +133,6 @@ pub record EveryRun : Type 0 where
   pub run : (window : ℕ) (steps : List Step) → Holds window (ran window steps)
   -- a reset is a clear and then an update
   pub reset-is : (r : Ran) (s t : ℕ) → step r (reset s t) ≡ step (step r clear) (update s t)
+  -- the largest sample is the least number that none is above
+  pub largest-bounds : (l : List Sample) → NoneAbove l (largest l)
+  pub largest-least : (l : List Sample) (n : ℕ) → NoneAbove l n → largest l ≤ n
