@@ -185,6 +185,6 @@ pub record Theorems : Type 0 where
 -- compiles what was proved. The page docs/LAYOUT.md. And the definitions that this page is made of, written from
 -- documents 01 and 02, the original and docs/LAYOUT.md: all files of specs/ to which `use` lines lead from here, with
 -- their remarks. A script of the gate counts their lines (tests/contracts.py):
---   numbers 257, units 92, filters 350, words 129, worth 274, state 657, layout 215, events 362, phases 208, changes
+--   numbers 257, units 92, filters 350, words 129, state 657, worth 274, layout 215, events 362, phases 208, changes
 --   61, judge 199, arguments 191, reads 18, pairs 57, calls 204, laws 520, drift 379, dispatch 210, guovssalu 148,
 --   theorems 754: together 5285

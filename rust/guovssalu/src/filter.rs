@@ -75,7 +75,7 @@ impl fmt::Display for Reason {
 /// moved.
 #[derive(Clone, Copy, Debug, PartialEq, Eq, Hash)]
 pub struct Samples {
-    /// The best sample.
+    /// The best sample: at most the largest of the window, and it may be below it (docs/ESTIMATE.md).
     pub best: u64,
     /// The second best.
     pub second: u64,
