@@ -20,7 +20,7 @@ kit:
 # ---- what is written, against the source
 
 # The list of public functions in docs/CONTRACTS.md, the paths that the pages name, the table of calls and words, the
-# widths of the pages of definitions, and the modules of the Rust packages.
+# widths of the pages of definitions, the modules of the Rust packages, and their declarations beside the header's.
 contracts:
 	@sh tests/contracts.sh
 

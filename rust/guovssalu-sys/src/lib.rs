@@ -66,9 +66,11 @@ extern "C" {
     /// [`table::PAIR_BYTES`] to a pair. For each pair it writes four words, [`table::SAMPLES_BYTES`]: the
     /// best, the second best and the third best sample after that pair, and in the word
     /// [`table::samples::REASON`] why they moved. That is the step of the update that acted last, by its
-    /// number: [`table::reason::ALL_REPLACED`] to [`table::reason::UNCHANGED`]. Bytes past the answer keep
-    /// what they held. Replies 2 for a part of a pair, 3 if a pair's time is earlier than one of the three
-    /// times that the filter holds then, 7 for an output of under [`table::SAMPLES_BYTES`] a pair.
+    /// number: [`table::reason::ALL_REPLACED`] to [`table::reason::UNCHANGED`]. The best is at most the
+    /// largest sample of the window, and may be below it: docs/ESTIMATE.md has what is promised of the
+    /// three. Bytes past the answer keep what they held. Replies 2 for a part of a pair, 3 if a pair's time
+    /// is earlier than one of the three times that the filter holds then, 7 for an output of under
+    /// [`table::SAMPLES_BYTES`] a pair.
     pub fn guovssalu_filter_run(
         window: u64,
         src: *const u8,
