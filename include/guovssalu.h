@@ -103,8 +103,9 @@ uint64_t guovssalu_raise_inflight_high_slope(uint64_t rounds, uint64_t window, u
  * GUOVSSALU_SAMPLES_REASON why they moved. That is the step of the update that acted last, by its
  * number: GUOVSSALU_REASON_ALL_REPLACED to GUOVSSALU_REASON_UNCHANGED. The best is at most the largest
  * sample of the window, and may be below it: docs/ESTIMATE.md has what is promised of the three. Bytes
- * past the answer keep what they held. Replies 2 for a part of a pair, 3 if a pair's time is earlier than one of the three
- * times that the filter holds then, 7 for an output of under GUOVSSALU_SAMPLES_BYTES a pair. */
+ * past the answer keep what they held. Replies 2 for a part of a pair, 3 if a pair's time is earlier
+ * than one of the three times that the filter holds then, 7 for an output of under
+ * GUOVSSALU_SAMPLES_BYTES a pair. */
 uint64_t guovssalu_filter_run(uint64_t window, const uint8_t *src, size_t src_len, uint8_t *out,
                               size_t out_len);
 

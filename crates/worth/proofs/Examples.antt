@@ -1,4 +1,4 @@
--- The runs worked out, and one that misses a sample, at every window above 0. Assumes nothing.
+-- The runs worked out, and two that miss a sample, at any window. Assumes nothing.
 use Prim.Native.Nat.{ℕ, _+_, _-_, _/_, _^_, _≤_, _<_}
 use mathlib.Core.Bool.{Bool, true, false}
 use mathlib.Core.List.{List, [], _∷_}
@@ -7,10 +7,11 @@ use native.Mathlib.Nat.{max-le}
 use native.Mathlib.Omega.{arith}
 use lib.Dec.{leb, eqb}
 use borrow.Author.Tests.{lt-ltb, le-ltb, leb-true, leb-false}
+use Rattle.filters.specs.declared.windowed_filter.Estimates.{Estimates}
 use Rattle.filters.specs.declared.windowed_filter.Held.the-variants.{Set}
 use Rattle.filters.specs.declared.windowed_filter.Sample.{Sample}
 use Rattle.filters.specs.WindowedFilter.{sampleAt, estimates, isReplaced, raised, shifted, lingers, renewed, aged, windowedNew, windowedNumber, windowedUpdate}
-use Rattle.worth.specs.Worth.{Step, update, Ran, fedBy, step, goOn, ran, latest}
+use Rattle.worth.specs.Worth.{Step, update, Ran, fedBy, step, goOn, ran, Stands, latest}
 use Rattle.worth.specs.Examples.{IsMost, missing, unheld, Ends, AreWords, Worked}
 use Rattle.worth.proofs.Worth.{among}
 
@@ -50,6 +51,13 @@ module _ (w s t : ℕ) (a b c : Sample) (fed : List Sample) where
 
 up-to : {n : ℕ} (x : Sample) (l : List Sample) → x .time ≤ n → latest l ≤ n → latest (x ∷ l) ≤ n
 up-to x l p q = max-le p q
+
+-- a sample that is not too old, and above the best
+above-best :
+    (w : ℕ) (steps : List Step) (e : Estimates) (fed : List Sample) (x : Sample) → Ends w steps e fed → Stands fed x → latest fed ≤ x .time + w → e .best .sample < x .sample →
+    IsMost w (ran w steps .fed) (ran w steps .filter .held) → ⊥
+above-best w steps e fed x ends stands fine above most =
+    omega (arith, above, among w (latest fed) fed x stands fine, subst (λ (r : Ran). IsMost w (r .fed) (r .filter .held)) ends most)
 
 -- ---- at every window above 0
 module _ (w : ℕ) (h : 1 ≤ w) where
@@ -115,10 +123,9 @@ module _ (w : ℕ) (h : 1 ≤ w) where
       (up-to one (two ∷ three ∷ []) (omega arith) (up-to two (three ∷ []) (omega arith) (up-to three [] (omega arith) (omega arith)))))
 
   one-missed : IsMost w (ran w (missing w) .fed) (ran w (missing w) .filter .held) → ⊥
-  one-missed most =
-      let all = last ∷ zero ∷ one ∷ two ∷ three ∷ [] in
-      let one-in = among w (latest all) all one (last ∷ zero ∷ [], two ∷ three ∷ [], refl, (omega arith, (omega arith, tt))) in-time in
-      omega (arith, one-in, subst (λ (r : Ran). IsMost w (r .fed) (r .filter .held)) missed-at most)
+  one-missed =
+      above-best w (missing w) (estimates zero zero last) (last ∷ zero ∷ one ∷ two ∷ three ∷ []) one missed-at
+      (last ∷ zero ∷ [], two ∷ three ∷ [], refl, (omega arith, (omega arith, tt))) in-time (omega arith)
 
 -- ---- at every window from 4 on
 module _ (w : ℕ) (h : 4 ≤ w) where
@@ -152,13 +159,12 @@ module _ (w : ℕ) (h : 4 ≤ w) where
       ∙ after-late _
 
   four-missed : IsMost w (ran w (unheld w) .fed) (ran w (unheld w) .filter .held) → ⊥
-  four-missed most =
-      let all = late ∷ four ∷ five ∷ [] in
-      let in-time : latest all ≤ 1 + w = up-to late (four ∷ five ∷ []) (omega arith) (up-to four (five ∷ []) (omega arith) (up-to five [] (omega arith) (omega arith))) in
-      let four-in = among w (latest all) all four (late ∷ [], five ∷ [], refl, (omega arith, tt)) in-time in
-      omega (arith, four-in, subst (λ (r : Ran). IsMost w (r .fed) (r .filter .held)) unheld-at most)
+  four-missed =
+      above-best w (unheld w) (estimates late late late) (late ∷ four ∷ five ∷ []) four unheld-at
+      (late ∷ [], five ∷ [], refl, (omega arith, tt))
+      (up-to late (four ∷ five ∷ []) (omega arith) (up-to four (five ∷ []) (omega arith) (up-to five [] (omega arith) (omega arith)))) (omega arith)
 
--- ---- at every window of 64 bits but 0 and the largest
+-- ---- at every window from 1 to 2^64 - 2
 not-most : (w : ℕ) → 1 ≤ w → w < 2 ^ 64 - 1 → ((steps : List Step) → AreWords steps → let r = ran w steps in IsMost w (r .fed) (r .filter .held)) → ⊥
 not-most w h l most = go (leb 4 w) refl
   where

@@ -64,7 +64,7 @@ pub record Worked : Type 0 where
   pub unheld-at : (w : ℕ) → 4 ≤ w →
       Ends w (unheld w) (estimates (sampleAt 3 (w + 1)) (sampleAt 3 (w + 1)) (sampleAt 3 (w + 1)))
       (sampleAt 3 (w + 1) ∷ sampleAt 4 1 ∷ sampleAt 5 0 ∷ [])
-  -- so no window of 64 bits but 0 and the largest makes the best the window's maximum
+  -- so at no window from 1 to 2^64 - 2 is the best always the window's maximum; of 0 and 2^64 - 1 nothing is said
   pub not-most : (w : ℕ) → 1 ≤ w → w < 2 ^ 64 - 1 →
       ((steps : List Step) → AreWords steps → let r = ran w steps in IsMost w (r .fed) (r .filter .held)) → ⊥
   -- the bounds are reached: an age of the whole window, a third that is the newest sample
