@@ -4,15 +4,16 @@
  * guovssalu` gives the flags to compile and link. The archive asks for nothing but memcpy.
  *
  * Every call takes any numbers and any bytes, keeps nothing between calls and allocates nothing.
- * A lent range of bytes is a pointer and a length; with the length 0 the pointer is not used. Two
- * ranges of one call must not overlap. A word is a uint64_t in 8 bytes, the lowest byte first,
- * at any alignment.
+ * A lent range of bytes is a pointer and a length; with the length 0 the pointer is not used. A
+ * range that is written must not overlap another one of the call. A word is a uint64_t in 8 bytes,
+ * the lowest byte first, at any alignment. A lent range of numbers, the lists of
+ * guovssalu_run_lists, is a pointer to uint64_t, aligned as such, and how many there are.
  *
  * An f32 or an f64 crosses as its bits. Every pattern of a NaN counts as a NaN.
  *
  * Where a call replies with a number: 0 is done, and any other number is a refusal, which leaves
  * every lent byte as it was. Where several apply, the lowest is given. The calls inside a run have
- * answers of their own: guovssalu_run, below.
+ * answers of their own: guovssalu_run and guovssalu_run_lists, below.
  */
 #ifndef GUOVSSALU_H
 #define GUOVSSALU_H
@@ -27,13 +28,14 @@ extern "C" {
 /* ---- The version. The file VERSION has it. */
 
 #define GUOVSSALU_VERSION_MAJOR 0
-#define GUOVSSALU_VERSION_MINOR 3
+#define GUOVSSALU_VERSION_MINOR 4
 #define GUOVSSALU_VERSION_PATCH 0
 
 /* The layout's number. It is raised when a call of guovssalu_run takes other arguments, or a word of a
- * state, of a call or of a call's answer gets another place or meaning: a state that was kept is for its
- * own number alone. What guovssalu_filter_run writes is not part of it: it is four words a pair since
- * version 0.3.0, and was three. */
+ * state, of a call or of a call's answer gets another place or stands for something else: a state that
+ * was kept is for its own number alone. Version 0.4.0 did not raise it; but since then the greatest of
+ * an event's acked numbers counts, and before it the last did. What guovssalu_filter_run writes is not
+ * part of it: it is four words a pair since version 0.3.0, and was three. */
 #define GUOVSSALU_LAYOUT 1
 
 /* ---- Replies: what an exported call replies, and the first word of an answer. */
@@ -139,7 +141,7 @@ enum {
     GUOVSSALU_SAMPLES_BYTES = 32,
     GUOVSSALU_SLOPE_WORDS = 2,
     GUOVSSALU_SLOPE_BYTES = 16,
-    GUOVSSALU_MOST_ACKED = 3
+    GUOVSSALU_MOST_ACKED = 3 /* the most acked numbers in a call itself; more stand in the lists */
 };
 
 /* The word with which a part of a call, an answer or a state begins. */
@@ -406,10 +408,30 @@ enum {
  * flag is written as (flag ? 1 : 0). A number that is no call's is refused with 2, or with 1 where
  * the stored model is out of bounds.
  *
+ * An event's acked numbers may stand in any order: the greatest counts. More than 3 of them go by
+ * guovssalu_run_lists.
+ *
  * The run itself replies 1 for bytes that encode no state, 2 for a state of another length or a part
  * of a call, 7 for answers too short for the calls. */
 uint64_t guovssalu_run(uint8_t *state, size_t state_len, const uint8_t *calls, size_t calls_len,
                        uint8_t *answers, size_t answers_len);
+
+/* The same as guovssalu_run, with lists beside the calls, from which an event can take as many acked
+ * numbers as there are. The lists are lists_len numbers, only read; with the length 0 the pointer is
+ * not used, and the run is guovssalu_run.
+ *
+ * An event, GUOVSSALU_CALL_ON_CONGESTION_EVENT_START, has n acked numbers, its word
+ * GUOVSSALU_SAMPLE_ACKED_COUNT. Up to GUOVSSALU_MOST_ACKED stand in the event itself, from the word
+ * GUOVSSALU_SAMPLE_ACKED_PACKETS on, and the lists are not looked at. More stand in the lists: they are
+ * the n numbers from place s on, counted from 0, where s is the event's word
+ * GUOVSSALU_SAMPLE_ACKED_PACKETS; the two words after that are not looked at. Where the lists don't hold
+ * them all, s + n being above lists_len, that event is refused with 2, or with 1 where that applies too,
+ * and the run goes on. Events may take the same numbers.
+ *
+ * The run's own replies are those of guovssalu_run, whatever the lists are. */
+uint64_t guovssalu_run_lists(uint8_t *state, size_t state_len, const uint8_t *calls, size_t calls_len,
+                             const uint64_t *lists, size_t lists_len, uint8_t *answers,
+                             size_t answers_len);
 
 #ifdef __cplusplus
 }

@@ -1,14 +1,18 @@
 #!/usr/bin/env python3
-"""Small changes to the original, each of which the comparison with the port must notice; and to the oracle's reading of
-what the original does not say, the reason of a windowed filter's update.
+"""Small changes to the original, each of which the comparison with the port must notice; and to what the oracle reads or
+does apart from it: the reason of a windowed filter's update, the refusal of a round's end where the count is full, and
+the order in which the original is asked acked numbers.
 
     tests/changes.py [SEED [CALLS]]
 
-Copies the files of the original that were ported, and the oracle, to a temporary folder, makes one change at a time, builds
-the oracle with the changed file, and compares with the port by `diff` (a change to the windowed filter or to the reading by
-`filter`, one to what the exported filter run writes by `exports`). A change that isn't noticed is listed, and the script
-ends with 1. PORT is the command of the port; without it the unchanged oracle answers in its place, which tries the
-comparison alone. ORIGINAL says where the original is, as for the oracle."""
+Copies the files of the original that were ported, and the oracle, to a temporary folder, makes one change at a time,
+builds the oracle with the changed file, and compares with the port by `diff` (a change to the windowed filter or to the
+reading by `filter`, one to what the exported filter run writes by `exports`, one that only long lists of acked numbers
+show by `lists`). A change is noticed where something differs, or where the original overflows in a call that had to be
+refused. One that isn't noticed is listed, and the script ends with 1. PORT is the command of the port; without it the
+unchanged oracle answers in its place, which tries the comparison alone. `lists` asks the archive in target/staticlib, or
+the one that GUOVSSALU_ARCHIVE names by its full path; where there is none it says so, and leaves its changes out.
+ORIGINAL says where the original is, as for the oracle."""
 
 import os
 import shutil
@@ -23,10 +27,14 @@ FILTER = "gcongestion/bbr/windowed_filter.rs"
 MODEL = "gcongestion/bbr2/network_model.rs"
 PROBE = "gcongestion/bbr2/probe_bw.rs"
 MODE = "gcongestion/bbr2/mode.rs"
-# Of the oracle: the reading, where in it is what the exported filter run writes, and the answers.
+# Of the oracle: the reading, where in it is what the exported filter run writes, the answers, the refusals, and the host
+# of the original.
 READING = "windowed.rs"
 EXPORTED = "pub fn run("
 ANSWERS = "world.rs"
+REPLIES = "replies.rs"
+HOST = "appended/probe_bw.rs"
+ARCHIVE = os.environ.get("GUOVSSALU_ARCHIVE") or os.path.join(ROOT, "target/staticlib/libguovssalu.a")
 
 # In which file; after which words, that occur once; what is found first after them; what is put in its place.
 CHANGES = [
@@ -180,6 +188,21 @@ CHANGES = [
     (READING, EXPORTED, "lent < WORD_BYTES * words.len()", "lent < 24 * updates.len()"),
     (ANSWERS, "Step::Filter { op: 2, x, y }", "reason::UNCHANGED", "reason::ALL_REPLACED"),
     (ANSWERS, "windowed::operate(&mut self.filter", "self.answer(0, 0", "self.answer(0, reason::UNCHANGED"),
+    (REPLIES, "fn overflows", "acked.iter().max()", "acked.first()"),
+    (REPLIES, "fn overflows", "acked.iter().max()", "acked.last()"),
+    (REPLIES, "fn overflows", "it > state[END]", "it >= state[END]"),
+    (HOST, "pub fn event_of", "numbers.sort();", ""),
+    (HOST, "pub fn event_of", "numbers.sort();", "numbers.reverse();"),
+    (HOST, "pub fn event_of", "numbers.sort();", "numbers.sort(); numbers.truncate(2);"),
+]
+
+# Those that only long lists show, by `lists`.
+LONG = [
+    (HOST, "pub fn event_of", "numbers.to_vec()", "numbers[..numbers.len().min(3)].to_vec()"),
+    (HOST, "pub fn event_of", "numbers.to_vec()", "numbers[numbers.len().saturating_sub(3)..].to_vec()"),
+    (HOST, "pub fn event_of", "numbers.to_vec()", "numbers[..numbers.len().min(9_999)].to_vec()"),
+    (HOST, "pub fn event_of", "numbers.sort();", "if numbers.len() < 4 { numbers.sort(); }"),
+    (REPLIES, "fn overflows", "acked.iter()", "acked.iter().take(3)"),
 ]
 
 
@@ -210,17 +233,21 @@ def copies(folder):
     return recovery, os.path.join(package, "src"), (original, package, os.path.join(folder, "target"))
 
 
-def command_for(file, after):
+def command_for(change):
     """The comparison that has to notice a change."""
+    file, after = change[:2]
+    if change in LONG:
+        return "lists"
     if file == READING and after == EXPORTED:
         return "exports"
     return "filter" if file in (FILTER, READING, ANSWERS) else "diff"
 
 
-def build(original, package, target):
-    """The oracle with this original; the fast build, since it is built so often."""
-    environment = dict(os.environ, ORIGINAL=original, CARGO_TARGET_DIR=target)
-    command = ["cargo", "build", "--quiet", "--manifest-path", os.path.join(package, "Cargo.toml")]
+def build(original, package, target, command):
+    """The oracle with this original; the fast build, since it is built so often. With the archive for long lists."""
+    environment = dict(os.environ, ORIGINAL=original, CARGO_TARGET_DIR=target, GUOVSSALU_ARCHIVE=ARCHIVE)
+    features = ["--features", "archive"] if command == "lists" else []
+    command = ["cargo", "build", "--quiet", "--manifest-path", os.path.join(package, "Cargo.toml")] + features
     built = subprocess.run(command, env=environment, capture_output=True, text=True)
     if built.returncode != 0:
         sys.exit("It can't be built:\n" + built.stderr)
@@ -233,31 +260,38 @@ def compare(oracle, port, command, seed, calls):
     lines = ran.stdout.splitlines()
     if ran.returncode == 1 and lines:
         return 1, "%s: %s" % (lines[-1], lines[0])
+    if ran.returncode == 101 and "with overflow" in ran.stderr:
+        return 1, "the original overflows"
     return ran.returncode, ran.stderr.strip()
 
 
 def main():
     seed, calls = (sys.argv[1:] + ["1", "200000"][len(sys.argv) - 1:])[:2]
     missed = []
+    changes = CHANGES + LONG
+    if not os.path.isfile(ARCHIVE):
+        print("The changes that only long lists show are left out, since there is no %s" % ARCHIVE)
+        changes = CHANGES
     with tempfile.TemporaryDirectory() as folder:
         recovery, source, parts = copies(folder)
-        oracle = build(*parts)
+        oracle = build(*parts, "diff")
         port = os.environ.get("PORT")
         if not port:
             unchanged = shutil.copy(oracle, os.path.join(folder, "unchanged"))
             port = unchanged + " serve"
-        for command in ("diff", "filter", "exports"):
-            code, said = compare(oracle, port, command, seed, calls)
+        for command in sorted({command_for(change) for change in changes}):
+            code, said = compare(build(*parts, command), port, command, seed, calls)
             if code != 0:
                 sys.exit("The unchanged original and the port differ in %s: %s" % (command, said))
 
-        for number, (file, after, find, put) in enumerate(CHANGES, 1):
-            path = os.path.join(source if file in (READING, ANSWERS) else recovery, file)
+        for number, (file, after, find, put) in enumerate(changes, 1):
+            path = os.path.join(source if file in (READING, ANSWERS, REPLIES, HOST) else recovery, file)
+            command = command_for(changes[number - 1])
             with open(path) as opened:
                 text = opened.read()
             with open(path, "w") as opened:
                 opened.write(changed(text, after, find, put))
-            code, said = compare(build(*parts), port, command_for(file, after), seed, calls)
+            code, said = compare(build(*parts, command), port, command, seed, calls)
             with open(path, "w") as opened:
                 opened.write(text)
             what = "%d. %s, %s: %r to %r" % (number, os.path.basename(file), after, find, put)
@@ -265,7 +299,7 @@ def main():
             if code != 1:
                 missed.append(what)
 
-    print("%d changes, %d noticed" % (len(CHANGES), len(CHANGES) - len(missed)))
+    print("%d changes, %d noticed" % (len(changes), len(changes) - len(missed)))
     for what in missed:
         print("not noticed: " + what)
     sys.exit(1 if missed else 0)

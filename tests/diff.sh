@@ -2,25 +2,28 @@
 # Compares the port, the program `serve`, with the original, call by call (oracle/README.md, "Comparing with a port").
 #
 #     tests/diff.sh SEED CALLS          so many calls of the model, and a tenth as many on filters, on numbers and of the
-#                                       exported filter run and slope
-#     tests/diff.sh gate                205,095 calls in all, of `serve` built without proof; goes on without the
-#                                       original, but not where CI is true
+#                                       exported filter run and slope; and with the archive, where it is there, a tenth as
+#                                       many as for `lists`
+#     tests/diff.sh lists SEED CALLS    so many calls of the archive, which is linked: events with lists of up to 10,000
+#                                       acked numbers, in any order, among other calls
+#     tests/diff.sh gate                205,095 calls in all, of `serve` built without proof
 #     tests/diff.sh patterns NUMBER..   every f32, as the bits of to_u64 and as the gain of scale with each number
 #
-# The last line is `N calls, 0 differences`. At a difference it ends with 1; all but the gate show the shortest run of
-# calls found.
+# The last line is `N calls, 0 differences`. At a difference it ends with 1; `lists` shows the call, the gate nothing of
+# it, and the others the shortest run of calls found. Without the original `gate` and `lists` say so and go on, but not
+# where CI is true. The archive is the one in target/staticlib, as `make archive` left it, or the one that the variable
+# GUOVSSALU_ARCHIVE names by its full path.
 set -eu
 cd "$(dirname "$0")/.."
 . tests/oracle.sh
 
 if [ -n "$missing" ]; then
     echo "diff: the port is not compared with the original, since $missing"
-    if [ "$1" = gate ] && [ "${CI:-}" != true ]; then
+    if { [ "$1" = gate ] || [ "$1" = lists ]; } && [ "${CI:-}" != true ]; then
         exit 0
     fi
     exit 1
 fi
-build_oracle
 total=0
 
 # Fresh frames from a seed, so many calls, answered by the original alone, are held to what `serve` writes on them:
@@ -47,6 +50,7 @@ tried() {
 
 # A command of the oracle, which asks `serve` over a pipe.
 compare() {
+    mkdir -p target
     "$oracle" "$@" >target/diff || {
         cat target/diff
         exit 1
@@ -56,6 +60,25 @@ compare() {
     total=$((total + calls))
 }
 
+# The oracle with the archive linked, which is built in a folder of its own, asks the archive.
+archive=${GUOVSSALU_ARCHIVE:-$PWD/target/staticlib/libguovssalu.a}
+compare_lists() {
+    ORIGINAL=$(cd "$original" && pwd) CARGO_TARGET_DIR=$built/archive GUOVSSALU_ARCHIVE=$archive \
+        cargo build --release --quiet --features archive --manifest-path oracle/Cargo.toml
+    oracle=$built/archive/release/oracle
+    compare lists "$1" "$2"
+}
+
+if [ "$1" = lists ]; then
+    [ -f "$archive" ] || {
+        echo "diff: there is no $archive; \`make archive\` proves the calls and writes it"
+        exit 1
+    }
+    compare_lists "$2" "$3"
+    echo "$total calls, 0 differences"
+    exit
+fi
+build_oracle
 if [ "$1" = gate ]; then
     copy=$(mktemp -d)
     trap 'rm -rf "$copy"' EXIT
@@ -84,6 +107,11 @@ patterns)
     for kind in filter numbers exports; do
         compare $kind "$1" $(($2 / 10))
     done
+    if [ -f "$archive" ]; then
+        compare_lists "$1" $(($2 / 10))
+    else
+        echo "lists: left out, since there is no $archive"
+    fi
     ;;
 esac
 echo "$total calls, 0 differences"

@@ -55,6 +55,15 @@ FORMS = [
     ("crates/arguments/src/sample.rt", "sample_fits", "sample", 0),
     ("crates/arguments/specs/Sample.antt", "sampleFits", "sample", 0),
 ]
+# Functions that take an event's acked numbers, and what they read of the call, in order: the count, the words that have
+# the numbers themselves, the one of them that has a place in the lists.
+ACKED = [
+    ("crates/arguments/src/sample.rt", "acked_fits", ["count", "place"]),
+    ("crates/arguments/src/sample.rt", "greatest_acked", ["count", "numbers", "place"]),
+    ("crates/arguments/specs/Sample.antt", "ackedCount", ["count"]),
+    ("crates/arguments/specs/Sample.antt", "listStart", ["place"]),
+    ("crates/arguments/specs/Sample.antt", "ackedOf", ["numbers"]),
+]
 # Where a call's words become its arguments: for most calls in the first file, by a function that has the call's number and
 # chooses it in a file of its own; for a start, and for a send, in a function that knows the call. The arguments are handed
 # on in the order of their rows, or in the one that stands here.
@@ -69,10 +78,12 @@ KNOWING = [
     (HANDED, "started", "NetworkModel::new", "start", ["initial_rtt", "now"]),
     ("crates/dispatch/src/one_call.rt", "send", "sent_tested", "on_packet_sent", None),
 ]
-# Phrases of the source and of definitions that have a size, and which.
-WORDS = ("STATE_WORDS", "CALL_WORDS", "ANSWER_WORDS", "EVENT_WORDS", "SAMPLES_WORDS", "SLOPE_WORDS", "MOST_ACKED")
+# Phrases of the source and of definitions that have a size, and which. An array of nothing stands for no lists.
+WORDS = ("STATE_WORDS", "CALL_WORDS", "ANSWER_WORDS", "EVENT_WORDS", "SAMPLES_WORDS", "SLOPE_WORDS")
 PHRASES = [
-    (r"\[0?(?:u64)?; (\d+)\]", WORDS),
+    (r"\[0?(?:u64)?; (?!0\])(\d+)\]", WORDS),
+    (r"\bcount <= (\d+)|\bleb \(ackedCount l\) (\d+)", ("MOST_ACKED",)),
+    (r"\blistStart l = (\d+) \+", ("CALL_WORDS",)),
     (r"\bn: &?\[u64; (\d+)\]", ("STATE_WORDS", "CALL_WORDS")),
     (r"\bstate\.len\(\) != (\d+)|now state\) ≡ (\d+)|eqb \(length (?:s|state|\(r \.state\))\) (\d+)", ("STATE_BYTES",)),
     (r"wordsAt s 0 (\d+)|\(cycleFrom w\)\) w 0 (\d+)|cycleWords c\) ≡ (\d+)", ("STATE_WORDS",)),
@@ -300,10 +311,8 @@ def check_forms(table, path, name, section, first):
     tests = {"flag": r"\bflag_?[fF]its[( ]", "f32": r"\bfloat_?[fF]its[( ]", "phase": r"\bphase_?[fF]its[( ]"}
     single = {kind: re.findall(test + word, text) for kind, test in tests.items()}
     pairs = re.findall(r"\bpair_?[fF]its[( ]" + word + apart + word, text)
-    counts = re.findall(word + r" <= 3|\bleb " + word + " 3", text)
     stands = {kind: sorted(map(int, found)) for kind, found in single.items()}
     stands["pair"] = sorted(int(one) for pair in pairs for one in pair)
-    stands["count"] = sorted(int(a or b) for a, b in counts)
     due = {kind: [] for kind in stands}
     for row in table.rows(section):
         kind = "pair" if row["kind"].startswith("set, and ") else row["kind"]
@@ -315,6 +324,16 @@ def check_forms(table, path, name, section, first):
     for kind in due:
         if stands[kind] != due[kind]:
             yield f"{path}: {name or 'the forms'}: words {stands[kind]} are tested as {kind}, and should be {due[kind]}"
+
+
+def check_acked(table, path, name, parts):
+    """The acked numbers are taken by the count's word and from the words of the numbers, of which the first has a place."""
+    first = table.sample.ACKED_PACKETS
+    words = {"count": [table.sample.ACKED_COUNT], "numbers": [first + more for more in range(table.size.MOST_ACKED)], "place": [first]}
+    stands = places(path, functions(path).get(name, ""))
+    due = [word for part in parts for word in words[part]]
+    if stands != due:
+        yield f"{path}: {name}: the acked numbers are taken by words {stands}, and should be by {due}"
 
 
 # ---- arguments by place
@@ -456,7 +475,7 @@ def named():
     """Every path of the lists above."""
     yield from CHOICES
     yield from (path for paths in ROWS.values() for path in paths)
-    yield from (path for path, *_ in READERS + FORMS + KNOWING)
+    yield from (path for path, *_ in READERS + FORMS + ACKED + KNOWING)
     yield from [HANDED, *CHOOSERS.values()]
     yield from NOT_COUNTED
     yield from (path for *_, paths in NUMBERED for path in paths)
@@ -474,6 +493,8 @@ def faults(table):
         out += check_reader(table, *reader)
     for form in FORMS:
         out += check_forms(table, *form)
+    for acked in ACKED:
+        out += check_acked(table, *acked)
     out += check_arguments(table, HANDED, CHOOSERS, KNOWING)
     out += check_phrases(table, PHRASES, files(SIZED))
     out += check_numbers(table, [path for path in files(COUNTED) if path not in NOT_COUNTED], OTHERS)

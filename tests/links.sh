@@ -1,5 +1,6 @@
 #!/bin/sh
-# What C and Rust programs link, tested: the archive's symbols, the Rust packages, the examples, bad input, the install.
+# What C and Rust programs link, tested: the archive's symbols, the Rust packages, the examples, bad input, lists of acked
+# numbers beside the original, the install.
 #
 #     tests/links.sh         all of it, with the archive that is there
 #     tests/links.sh check   only what needs no archive: versions and declarations, and the Rust compiled
@@ -84,16 +85,24 @@ else
     tests_of rust
     tests_of hostile
     # More calls than the sweep has, so that chance makes some.
-    quietly cargo run --release --quiet --manifest-path hostile/Cargo.toml -- 7 500000
+    quietly cargo run --release --quiet --manifest-path hostile/Cargo.toml -- 7 700000
     echo "links: bad input: $(tail -n 1 $log)"
+    # Lists of acked numbers of any length, beside the original.
+    quietly sh tests/diff.sh lists 7 20000
+    echo "links: acked numbers in lists: $(tail -n 1 $log)"
 fi
 [ -n "$linking" ] || exit 0
 
 # The loss episode must print the same from C and from Rust.
 episode=$(mktemp -d)
 trap 'rm -rf "$episode"' EXIT
-cc -std=c99 -pedantic -Wall -Wextra -Werror -o "$episode/program" include/loss_episode.c $archive
-"$episode/program" >"$episode/c" || fail "the loss episode in C ended with $?"
+for example in loss_episode acked_lists; do
+    cc -std=c99 -pedantic -Wall -Wextra -Werror -o "$episode/$example" include/$example.c $archive
+done
+"$episode/acked_lists" >"$episode/lists" || fail "the lists of acked numbers in C ended with $?"
+echo 'links: a list of acked numbers, in C:'
+cat "$episode/lists"
+"$episode/loss_episode" >"$episode/c" || fail "the loss episode in C ended with $?"
 echo 'links: the loss episode:'
 cat "$episode/c"
 has cargo || exit 0

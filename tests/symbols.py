@@ -25,6 +25,7 @@ KINDS = {
     "size_t": "usize",
     "uint8_t *": "*mut u8",
     "const uint8_t *": "*const u8",
+    "const uint64_t *": "*const u64",
 }
 faults = []
 
@@ -71,6 +72,7 @@ def of_package():
         pairs = [tuple(words(one).split(": ")) for one in arguments.split(",") if one.strip()]
         comment = words(re.sub(r"^ *///", "", comment, flags=re.M))
         named = lambda found: "GUOVSSALU_" + found.group(1).replace("::", "_").upper()
+        comment = re.sub(r"\[`(guovssalu_\w+)`\]", r"\1", comment)
         functions.append((name, pairs, answer, re.sub(r"\[`table::([\w:]+)`\]", named, comment)))
     return functions
 

@@ -28,6 +28,9 @@ MARKS = {
 }
 WIDTH = 100
 
+# What there is to say of a size that is no thing's words or bytes.
+SAID = {"MOST_ACKED": "the most acked numbers in a call itself; more stand in the lists"}
+
 SIZE = {name: number for names in (TABLE.size, TABLE.place) for name, number, _ in names.items()}
 PARTS = {
     "state": "a state: the model, then the cycle",
@@ -292,7 +295,7 @@ def header_replies():
 
 
 def header_sizes():
-    sizes = ((name, number, None) for name, number, _ in TABLE.size.items())
+    sizes = ((name, number, SAID.get(name)) for name, number, _ in TABLE.size.items())
     places = ((name, number, None) for name, number, _ in TABLE.place.items())
     unset = TABLE.rows("values")[0]
     return [
@@ -437,8 +440,8 @@ def rust_sizes():
     lines = []
     for name, number, _ in TABLE.size.items():
         part, _, unit = name.partition("_")
-        said = "The most numbers of acked packets in a call." if name == "MOST_ACKED" else f"{unit.capitalize()} of {PARTS[part.lower()]}."
-        lines += rust_const("", name, "usize", number, said)
+        said = SAID.get(name) or f"{unit} of {PARTS[part.lower()]}"
+        lines += rust_const("", name, "usize", number, said.capitalize() + ".")
     for name, number, _ in TABLE.place.items():
         part, whole = name.lower().split("_in_")
         said = {"event": "the event's record", "params": "the parameters", "cycle": "the cycle"}.get(part, f"its {part}")

@@ -64,25 +64,25 @@ fn started(call: &Call) -> State {
     fresh(now, rtt, cwnd_gain, pacing_gain, option)
 }
 
-/// The state after a call: a refusal changes nothing but at a start.
-pub fn state(before: &State, call: &Call, due: u64) -> State {
+/// The state after a call in a run with these lists: a refusal changes nothing but at a start.
+pub fn state(before: &State, call: &Call, lists: &[u64], due: u64) -> State {
     match (call[c::NUMBER], due) {
         (calls::START, 0) => started(call),
         (calls::START, _) => refused_start(),
-        (_, 0) => next::state(before, call),
+        (_, 0) => next::state(before, call, lists),
         _ => *before,
     }
 }
 
-/// The answer to a call.
-pub fn answer(before: &State, call: &Call, due: u64) -> Answer {
+/// The answer to a call in a run with these lists.
+pub fn answer(before: &State, call: &Call, lists: &[u64], due: u64) -> Answer {
     if due != 0 {
         return refused(call, due);
     }
     let mut answer = [0; ANSWER_WORDS];
     answer[a::VALUE] = number(before, call);
     if call[c::NUMBER] == calls::ON_CONGESTION_EVENT_START {
-        answer[a::RECORD..].copy_from_slice(&next::record(before, call));
+        answer[a::RECORD..].copy_from_slice(&next::record(before, call, lists));
     }
     answer
 }

@@ -16,4 +16,5 @@ pub const PORT: Port = Port {
     raise_inflight_high_slope: sys::guovssalu_raise_inflight_high_slope,
     filter_run: sys::guovssalu_filter_run,
     run: sys::guovssalu_run,
+    run_lists: sys::guovssalu_run_lists,
 };

@@ -1,5 +1,6 @@
 //! All cases, in their order.
 
+use crate::events;
 use crate::filter::Filter;
 use crate::model::Model;
 use crate::numbers;
@@ -13,6 +14,9 @@ pub fn sweep(trial: &mut Trial) {
     model.each_malformed(trial);
     model.each_no_call(trial);
     model.each_length(trial);
+    for sweep in events::SWEEPS {
+        sweep(&mut model, trial);
+    }
     Filter::new().each_length(trial);
     Slope::new().each(trial);
     numbers::each(trial);

@@ -7,6 +7,7 @@ use guovssalu_sys::table::STATE_WORDS;
 use crate::dice::Dice;
 use crate::kinds;
 use crate::kinds::Kind;
+use crate::lists;
 use crate::table;
 use crate::values;
 use crate::words;
@@ -137,7 +138,7 @@ pub fn good_call(dice: &mut Dice, state: &State, number: u64) -> Call {
 }
 
 /// Sets a call's moment and totals to the stored ones or a little above, and its acked packets near
-/// the round's end.
+/// the round's end, in any order.
 fn go_on(dice: &mut Dice, state: &State, call: &mut Call) {
     let mut above = |stored: u64, bound: u64| {
         let step = dice.pick(&[0, 0, 1, 1_000, 1 << 20, 1 << 41]);
@@ -149,13 +150,18 @@ fn go_on(dice: &mut Dice, state: &State, call: &mut Call) {
     if call[c::NUMBER] == calls::ON_CONGESTION_EVENT_START {
         call[c::TOTAL_ACKED] = above(state[s::TOTAL_ACKED], table::TOTAL);
         call[c::TOTAL_LOST] = above(state[s::TOTAL_LOST], table::TOTAL);
-        call[c::ACKED_COUNT] = dice.below(4);
-        if dice.one_in(2) {
-            let end = state[s::END_OF_ROUND_TRIP + 1];
-            let acked = end.wrapping_add(dice.below(3)).wrapping_sub(1);
-            call[c::ACKED_COUNT + 1..c::RECORD].fill(acked);
+        call[c::ACKED_COUNT] = dice.pick(&[0, 1, 2, 3, 3, 3]);
+        if !dice.one_in(4) {
+            lists::fill_call(dice, state, call);
         }
     }
+}
+
+/// Sets an event's moment and totals to the stored ones.
+pub fn stand_still(state: &State, call: &mut Call) {
+    call[c::EVENT_TIME] = state[s::LAST_MOMENT];
+    call[c::TOTAL_ACKED] = state[s::TOTAL_ACKED];
+    call[c::TOTAL_LOST] = state[s::TOTAL_LOST];
 }
 
 /// Makes some words of a call hostile, most of them such as it reads.
@@ -198,28 +204,41 @@ pub fn malform_call(dice: &mut Dice, call: &mut Call, spoilt: &mut Spoilt) {
     spoilt.call.push(place);
 }
 
-/// What else can be wrong beside a malformed word.
+/// What else can be wrong beside a malformed word or a place outside the lists.
 #[derive(Clone, Copy, PartialEq, Debug)]
 pub enum Beside {
     Nothing,
     StoredModel,
     StoredCycle,
     Parameter,
+    MalformedParameter,
+    MalformedFlag,
+    Record,
     Moment,
     Total,
     Counters,
 }
 
 impl Beside {
-    pub const ALL: [Beside; 7] = [
+    pub const ALL: [Beside; 10] = [
         Beside::Nothing,
         Beside::StoredModel,
         Beside::StoredCycle,
         Beside::Parameter,
+        Beside::MalformedParameter,
+        Beside::MalformedFlag,
+        Beside::Record,
         Beside::Moment,
         Beside::Total,
         Beside::Counters,
     ];
+
+    /// Each of these things, with each that can be wrong beside it.
+    pub fn with_each<T: Copy>(
+        things: impl Iterator<Item = T>,
+    ) -> impl Iterator<Item = (T, Beside)> {
+        things.flat_map(|thing| Beside::ALL.into_iter().map(move |beside| (thing, beside)))
+    }
 
     /// Makes it so of a good call in a good state.
     pub fn put(self, state: &mut State, call: &mut Call) {
@@ -228,6 +247,12 @@ impl Beside {
             Beside::StoredModel => state[s::MIN_RTT] = table::LENGTH + 1,
             Beside::StoredCycle => state[s::PROBE_UP_ROUNDS] = table::ROUNDS + 1,
             Beside::Parameter => call[c::PROBE_RTT_PERIOD] = table::LENGTH + 1,
+            Beside::MalformedParameter => call[c::IGNORE_APP_LIMITED] = 2,
+            Beside::MalformedFlag if call[c::NUMBER] == calls::ON_CONGESTION_EVENT_START => {
+                call[c::SENT_IS_APP_LIMITED] = 2;
+            }
+            Beside::MalformedFlag => {}
+            Beside::Record => call[c::PRIOR_CWND] = table::BYTES + 1,
             Beside::Moment => {
                 if let Some(index) = table::moment_word(call[c::NUMBER]) {
                     call[index] = state[s::LAST_MOMENT].saturating_sub(1);

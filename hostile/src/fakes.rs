@@ -17,13 +17,17 @@ use guovssalu_sys::table::WORD_BYTES;
 use crate::after;
 use crate::cases::random;
 use crate::cases::sweep;
+use crate::events;
 use crate::filter;
 use crate::filter::Samples;
 use crate::foreign::FilterRun;
 use crate::foreign::Port;
 use crate::foreign::Run;
+use crate::foreign::RunLists;
+use crate::model::Model;
 use crate::pages::page;
 use crate::reckon;
+use crate::rounds::Greatest;
 use crate::slope;
 use crate::table;
 use crate::table::Rows;
@@ -50,11 +54,12 @@ pub const RIGHT: Port = Port {
     raise_inflight_high_slope,
     filter_run,
     run,
+    run_lists,
 };
 
 /// The tests' seed and how many calls each makes.
 const SEED: u64 = 11;
-const CALLS: u64 = 20_000;
+const CALLS: u64 = 40_000;
 
 unsafe extern "C" fn u64_to_f32(n: u64) -> u32 {
     (n as f32).to_bits()
@@ -93,6 +98,18 @@ pub unsafe fn lent<'a>((start, len): Range) -> &'a mut [u8] {
         &mut []
     } else {
         slice::from_raw_parts_mut(start, len)
+    }
+}
+
+/// Where lists begin, and how many words they have.
+type Words = (*const u64, usize);
+
+/// Lent lists as a slice; without words the pointer is not used.
+pub unsafe fn lent_words<'a>((start, len): Words) -> &'a [u64] {
+    if len == 0 {
+        &[]
+    } else {
+        slice::from_raw_parts(start, len)
     }
 }
 
@@ -209,6 +226,36 @@ exported_run!(run, |state, calls, answers| {
     run_by(step, lent(state), lent(calls), lent(answers))
 });
 
+/// An exported run with lists, in the same way.
+macro_rules! exported_lists {
+    ($name:ident $(<$kind:ident>)?, |$state:ident, $calls:ident, $lists:ident, $answers:ident|
+        $reply:expr) => {
+        unsafe extern "C" fn $name $(<const $kind: usize>)? (
+            state: *mut u8,
+            state_len: usize,
+            calls: *const u8,
+            calls_len: usize,
+            lists: *const u64,
+            lists_len: usize,
+            answers: *mut u8,
+            answers_len: usize,
+        ) -> u64 {
+            let $state = (state, state_len);
+            let $calls = (calls as *mut u8, calls_len);
+            let $lists = (lists, lists_len);
+            let $answers = (answers, answers_len);
+            $reply
+        }
+    };
+}
+pub(crate) use exported_lists;
+
+exported_lists!(run_lists, |state, calls, lists, answers| {
+    let lists = lent_words(lists);
+    let one = |state: &mut State, call: &Call| step_with(state, call, lists);
+    run_by(one, lent(state), lent(calls), lent(answers))
+});
+
 /// A run that makes each of its calls by a function.
 pub fn run_by(
     one: impl Fn(&mut State, &Call) -> Answer,
@@ -231,9 +278,14 @@ pub fn run_by(
 
 /// One call: its answer, and the state after it.
 pub fn step(state: &mut State, call: &Call) -> Answer {
-    let due = table::call_rows(state, call).due();
-    let answer = after::answer(state, call, due);
-    *state = after::state(state, call, due);
+    step_with(state, call, &[])
+}
+
+/// One call of a run with lists.
+pub fn step_with(state: &mut State, call: &Call, lists: &[u64]) -> Answer {
+    let due = table::call_rows(state, call, lists).due();
+    let answer = after::answer(state, call, lists, due);
+    *state = after::state(state, call, lists, due);
     answer
 }
 
@@ -254,14 +306,14 @@ unsafe fn flip(start: *mut u8, place: usize) {
 
 /// Flips a bit of the byte just after a range, where it may be written.
 unsafe fn flip_after((start, len): Range) {
-    if !start.is_null() && (start as usize + len) % page() != 0 {
+    if len > 0 && (start as usize + len) % page() != 0 {
         flip(start, len);
     }
 }
 
 /// Flips a bit of the byte just before a range, where it may be written.
-unsafe fn flip_before((start, _): Range) {
-    if !start.is_null() && start as usize % page() != 0 {
+unsafe fn flip_before((start, len): Range) {
+    if len > 0 && start as usize % page() != 0 {
         flip(start.sub(1), 0);
     }
 }
@@ -371,7 +423,76 @@ run_with!(writes_after_answers, |reply, _s, _c, answers| {
 });
 
 run_with!(reads_after_state, |reply, state, _c, _a| {
-    ptr::read_volatile(state.0.add(state.1));
+    if state.1 > 0 {
+        ptr::read_volatile(state.0.add(state.1));
+    }
+    reply
+});
+
+/// The right run with lists with something added after it, which gets the reply, the lists and the
+/// answers.
+macro_rules! lists_with {
+    ($name:ident, |$reply:ident, $lists:ident, $answers:ident| $more:expr) => {
+        exported_lists!($name, |state, calls, $lists, $answers| {
+            let $reply = run_lists(
+                state.0, state.1, calls.0, calls.1, $lists.0, $lists.1, $answers.0, $answers.1,
+            );
+            $more
+        });
+    };
+}
+
+/// The bytes of lists where they may be written: they then touch no page's end.
+unsafe fn open((start, len): Words) -> Option<Range> {
+    let (start, len) = (start as *mut u8, len * WORD_BYTES);
+    let ends = [start as usize, start as usize + len];
+    (len > 0 && ends.iter().all(|end| end % page() != 0)).then_some((start, len))
+}
+
+lists_with!(touches_lists, |reply, lists, _a| {
+    if let Some((start, len)) = open(lists) {
+        flip(start, len - 1);
+    }
+    reply
+});
+lists_with!(writes_after_lists, |reply, lists, _a| {
+    if let Some(range) = open(lists) {
+        flip_after(range);
+    }
+    reply
+});
+lists_with!(writes_before_lists, |reply, lists, _a| {
+    if let Some(range) = open(lists) {
+        flip_before(range);
+    }
+    reply
+});
+lists_with!(lists_write_after_answers, |reply, _l, answers| {
+    flip_after(answers);
+    reply
+});
+lists_with!(reads_after_lists, |reply, lists, _a| {
+    if lists.1 > 0 {
+        ptr::read_volatile(lists.0.add(lists.1));
+    }
+    reply
+});
+lists_with!(reads_before_lists, |reply, lists, _a| {
+    if lists.1 > 0 {
+        ptr::read_volatile(lists.0.sub(1));
+    }
+    reply
+});
+lists_with!(reads_lists_of_no_words, |reply, lists, _a| {
+    if lists.1 == 0 {
+        ptr::read_volatile(lists.0 as *const u8);
+    }
+    reply
+});
+lists_with!(writes_lists_back, |reply, lists, _a| {
+    if lists.1 > 0 {
+        ptr::write_volatile(lists.0 as *mut u64, *lists.0);
+    }
     reply
 });
 
@@ -519,15 +640,45 @@ fn found(port: Port) -> Tally {
     trial.tally
 }
 
-/// Whether the checks notice this fault of a port.
+/// Whether the checks notice this fault of a port by chance.
 fn notices(port: Port, fault: Fault) -> bool {
-    found(port).count(fault) > 0
+    let mut trial = Trial::new(&port, SEED);
+    (1..=10).any(|tenth| {
+        random(&mut trial, CALLS / 10 * tenth);
+        trial.tally.count(fault) > 0
+    })
+}
+
+/// Whether they notice it when they sweep events.
+fn notices_swept(port: Port, fault: Fault) -> bool {
+    let (mut trial, mut model) = (Trial::new(&port, SEED), Model::new());
+    events::SWEEPS.iter().any(|sweep| {
+        sweep(&mut model, &mut trial);
+        trial.tally.count(fault) > 0
+    })
 }
 
 /// Fails for a run whose fault the checks don't notice.
 pub fn assert_noticed(fault: Fault, runs: &[(&str, Run)]) {
     for &(name, run) in runs {
         assert!(notices(Port { run, ..RIGHT }, fault), "{}", name);
+    }
+}
+
+/// Fails for a run with lists whose fault the checks don't notice by chance, or when they sweep events.
+pub fn assert_lists_noticed(fault: Fault, runs: &[(&str, RunLists)]) {
+    for &(name, run_lists) in runs {
+        let port = Port { run_lists, ..RIGHT };
+        assert!(notices(port, fault), "{}", name);
+        assert!(notices_swept(port, fault), "{}, swept", name);
+    }
+}
+
+/// Fails for a run whose fault the checks don't notice when they sweep events.
+pub fn assert_noticed_swept(fault: Fault, runs: &[(&str, Run)]) {
+    for &(name, run) in runs {
+        let port = Port { run, ..RIGHT };
+        assert!(notices_swept(port, fault), "{}, swept", name);
     }
 }
 
@@ -557,6 +708,8 @@ fn every_reply_is_asked_for() {
     for (export, replies) in [
         (Export::Run, &[0, 1, 2, 7][..]),
         (Export::OneCall, &[0, 1, 2, 3, 4, 5]),
+        (Export::RunLists, &[0, 1, 2, 7]),
+        (Export::OneCallOfLists, &[0, 1, 2, 3, 4, 5]),
         (Export::FilterRun, &[0, 2, 3, 7]),
         (Export::Slope, &[0, 1, 2, 7]),
     ] {
@@ -572,6 +725,26 @@ fn every_reason_is_asked_for() {
     for reason in reason::ALL_REPLACED..=reason::UNCHANGED {
         assert!(tally.due(reason) > 50, "{}", reason);
     }
+}
+
+#[test]
+fn every_end_of_a_round_is_asked_for() {
+    let tally = found(RIGHT);
+    for greatest in [
+        Greatest::NoEnd,
+        Greatest::Below,
+        Greatest::AtEnd,
+        Greatest::First,
+        Greatest::Between,
+        Greatest::Last,
+    ] {
+        for in_a_list in [false, true] {
+            let stood = tally.stood(in_a_list, greatest);
+            assert!(stood > 20, "{:?}, in a list {}", greatest, in_a_list);
+        }
+    }
+    assert!(tally.stood(false, Greatest::Nothing) > 20);
+    assert!(tally.outside() > 50);
 }
 
 #[test]
@@ -612,6 +785,15 @@ fn touched_bytes_are_noticed() {
             ("after the calls", writes_after_calls),
             ("before the answers", writes_before_answers),
             ("after the answers", writes_after_answers),
+        ],
+    );
+    assert_lists_noticed(
+        Fault::Touched,
+        &[
+            ("lists", touches_lists as RunLists),
+            ("after the lists", writes_after_lists),
+            ("before the lists", writes_before_lists),
+            ("after the answers", lists_write_after_answers),
         ],
     );
     assert_filter_noticed(
@@ -700,6 +882,23 @@ fn wrong_numbers_are_noticed() {
     }
 }
 
+/// A test that ends the process, by a run with lists that reads or writes where it must not.
+macro_rules! ends_the_process {
+    ($name:ident, $run_lists:ident) => {
+        #[test]
+        #[ignore = "it ends the process, and another test starts it"]
+        fn $name() {
+            let run_lists = $run_lists;
+            found(Port { run_lists, ..RIGHT });
+        }
+    };
+}
+
+ends_the_process!(reads_past_lists, reads_after_lists);
+ends_the_process!(reads_ahead_of_lists, reads_before_lists);
+ends_the_process!(reads_no_words, reads_lists_of_no_words);
+ends_the_process!(writes_into_lists, writes_lists_back);
+
 #[test]
 #[ignore = "it ends the process, and another test starts it"]
 fn reads_past_a_range() {
@@ -710,12 +909,20 @@ fn reads_past_a_range() {
 }
 
 #[test]
-fn a_read_past_a_range_ends_the_process() {
-    let tests = env::current_exe().expect("the tests have a path");
-    let reads = ["--ignored", "--exact", "fakes::reads_past_a_range"];
-    let ended = Command::new(tests)
-        .args(reads)
-        .output()
-        .expect("the tests can be started");
-    assert!(ended.status.signal().is_some(), "{:?}", ended.status);
+fn a_read_or_write_where_none_may_be_ends_the_process() {
+    for name in [
+        "reads_past_a_range",
+        "reads_past_lists",
+        "reads_ahead_of_lists",
+        "reads_no_words",
+        "writes_into_lists",
+    ] {
+        let tests = env::current_exe().expect("the tests have a path");
+        let ended = Command::new(tests)
+            .args(["--ignored", "--exact", &format!("fakes::{}", name)])
+            .output()
+            .expect("the tests can be started");
+        let signal = ended.status.signal();
+        assert!(signal.is_some(), "{} {:?}", name, ended.status);
+    }
 }

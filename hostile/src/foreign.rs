@@ -1,8 +1,20 @@
 //! The calls of a port. Outside the tests only they and pages.rs are unsafe.
 
+use guovssalu_sys::table::WORD_BYTES;
+
 use crate::lent::Ground;
 
 pub type Run = unsafe extern "C" fn(*mut u8, usize, *const u8, usize, *mut u8, usize) -> u64;
+pub type RunLists = unsafe extern "C" fn(
+    *mut u8,
+    usize,
+    *const u8,
+    usize,
+    *const u64,
+    usize,
+    *mut u8,
+    usize,
+) -> u64;
 pub type FilterRun = unsafe extern "C" fn(u64, *const u8, usize, *mut u8, usize) -> u64;
 type Slope = unsafe extern "C" fn(u64, u64, *mut u8, usize) -> u64;
 
@@ -19,10 +31,12 @@ pub struct Port {
     pub raise_inflight_high_slope: Slope,
     pub filter_run: FilterRun,
     pub run: Run,
+    pub run_lists: RunLists,
 }
 
 // SAFETY, for all calls: on numbers they take any. On bytes they take ranges that may be read and
-// written and don't overlap: each is of a ground of its own, borrowed until the call returns.
+// written and don't overlap: each is of a ground of its own, borrowed until the call returns. Calls
+// and lists are only read, and may be one; the ground of lists lends words.
 impl Port {
     pub fn u64_to_f32(&self, n: u64) -> u32 {
         unsafe { (self.u64_to_f32)(n) }
@@ -63,5 +77,32 @@ impl Port {
     pub fn run(&self, state: &mut Ground, calls: &mut Ground, answers: &mut Ground) -> u64 {
         let (s, c, a) = (state.pointer(), calls.pointer(), answers.pointer());
         unsafe { (self.run)(s, state.len(), c, calls.len(), a, answers.len()) }
+    }
+
+    pub fn run_lists(
+        &self,
+        state: &mut Ground,
+        calls: &mut Ground,
+        lists: &mut Ground,
+        answers: &mut Ground,
+    ) -> u64 {
+        let (start, words) = (lists.pointer(), lists.len() / WORD_BYTES);
+        let (s, c, a) = (state.pointer(), calls.pointer(), answers.pointer());
+        let (state, calls, answers) = (state.len(), calls.len(), answers.len());
+        unsafe { (self.run_lists)(s, state, c, calls, start as *const u64, words, a, answers) }
+    }
+
+    /// The same where the calls' range is that of the lists, too.
+    pub fn run_lists_in_calls(
+        &self,
+        state: &mut Ground,
+        both: &mut Ground,
+        answers: &mut Ground,
+    ) -> u64 {
+        let (start, words) = (both.pointer(), both.len() / WORD_BYTES);
+        let (s, a) = (state.pointer(), answers.pointer());
+        let (state, calls, answers) = (state.len(), both.len(), answers.len());
+        let lists = start as *const u64;
+        unsafe { (self.run_lists)(s, state, start, calls, lists, words, a, answers) }
     }
 }

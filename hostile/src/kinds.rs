@@ -31,7 +31,7 @@ pub enum Kind {
     /// A number of bytes, or unset.
     OrUnset,
     Flag,
-    /// How many of three numbers count.
+    /// How many numbers count: up to three of the next words, or more of a list.
     Count,
     /// An f32 from one pattern to another.
     Float(u32, u32),
@@ -243,11 +243,11 @@ pub fn malform(words: &mut [u64], place: usize, kind: Kind, way: usize) {
     }
 }
 
-/// Whether a word that the call uses is malformed.
-pub fn is_malformed(call: &Call) -> bool {
+/// Whether a word that the call uses is malformed, in a run with these lists.
+pub fn is_malformed(call: &Call, lists: &[u64]) -> bool {
     used(call[c::NUMBER]).any(|(place, kind)| match kind {
         Flag => words::flag(call[place]).is_none(),
-        Count => words::acked(call).is_none(),
+        Count => words::acked(call, lists).is_none(),
         Set(_) => words::pair(call, place).is_none(),
         Float(..) => words::float(call[place]).is_none(),
         _ => false,

@@ -1,6 +1,6 @@
 //! Lent ranges of bytes with guards around them.
 
-use std::ptr;
+use guovssalu_sys::table::WORD_BYTES;
 
 use crate::dice::Dice;
 use crate::pages::Area;
@@ -11,16 +11,20 @@ const GUARD: usize = 64;
 /// After so many ranges the guards get another pattern.
 const USES: u32 = 1_024;
 
+/// Addresses where nothing is. A range without bytes may be there: its pointer is not used.
+const NOWHERE: [usize; 5] = [0, 0, 1, 1 << 63, usize::MAX];
+
 /// A place from which one range at a time is lent. All of it that is not lent is guard; a third of
 /// the ranges ends just before a page without access, another begins just after one, and the rest
-/// lies between guards at any alignment.
+/// lies between guards, at any alignment if they are bytes.
 pub struct Ground {
     area: Area,
     pattern: Vec<u8>,
     start: usize,
     end: usize,
-    nowhere: bool,
+    nowhere: Option<usize>,
     uses: u32,
+    of_words: bool,
 }
 
 impl Ground {
@@ -33,13 +37,23 @@ impl Ground {
             pattern,
             start: 0,
             end: 0,
-            nowhere: false,
+            nowhere: None,
             uses: 0,
+            of_words: false,
         }
+    }
+
+    /// A ground for at most so many words that may only be read. They lie as words must; those that end
+    /// just before a page without access can't be written.
+    pub fn of_words(longest: usize) -> Self {
+        let mut ground = Ground::new(longest * WORD_BYTES);
+        ground.of_words = true;
+        ground
     }
 
     /// Lends these bytes: puts them somewhere, with guards around them.
     pub fn lend(&mut self, bytes: &[u8], dice: &mut Dice) {
+        self.area.open();
         self.take_back(dice);
         let room = self.pattern.len() - bytes.len();
         self.start = match dice.below(3) {
@@ -47,9 +61,19 @@ impl Ground {
             1 => room,
             _ => GUARD + dice.length(room - 2 * GUARD + 1),
         };
+        if self.of_words {
+            self.start -= self.start % WORD_BYTES;
+        }
         self.end = self.start + bytes.len();
-        self.nowhere = bytes.is_empty() && dice.one_in(3);
+        self.nowhere = if bytes.is_empty() && dice.one_in(2) {
+            Some(dice.pick(&NOWHERE))
+        } else {
+            None
+        };
         self.area.bytes_mut()[self.start..self.end].copy_from_slice(bytes);
+        if self.of_words && self.end == self.pattern.len() {
+            self.area.close();
+        }
     }
 
     /// Makes all of it guard again.
@@ -71,10 +95,9 @@ impl Ground {
 
     /// Where the lent range begins; for some ranges without bytes it is nowhere.
     pub fn pointer(&mut self) -> *mut u8 {
-        if self.nowhere {
-            ptr::null_mut()
-        } else {
-            self.area.at(self.start)
+        match self.nowhere {
+            Some(address) => address as *mut u8,
+            None => self.area.at(self.start),
         }
     }
 

@@ -10,12 +10,16 @@ mod cases;
 mod checks;
 mod choose;
 mod dice;
+mod events;
 #[cfg(test)]
 mod fakes;
 mod filter;
 mod foreign;
 mod kinds;
 mod lent;
+mod lists;
+#[cfg(test)]
+mod misplaces;
 #[cfg(test)]
 mod misreads;
 mod model;
@@ -23,6 +27,7 @@ mod next;
 mod numbers;
 mod pages;
 mod reckon;
+mod rounds;
 mod slope;
 mod table;
 mod tally;

@@ -171,7 +171,7 @@ fn malformed_words_read_as_something_are_noticed() {
 
 makes!(parameters_are_arguments, |state, call| {
     let mended = read_as(call, &PARAMS, mend);
-    let otherwise = table::call_rows(state, &mended).due();
+    let otherwise = table::call_rows(state, &mended, &[]).due();
     let mut answer = step(state, call);
     if answer[a::REPLY] == 1 && otherwise != 1 {
         answer[a::REPLY] = 2;

@@ -1,4 +1,4 @@
-//! Hostile runs of the model.
+//! Hostile runs of the model, with lists and without.
 
 use guovssalu_sys::table::call as calls;
 use guovssalu_sys::table::CALL_WORDS;
@@ -13,6 +13,8 @@ use crate::choose::Spoilt;
 use crate::dice::Dice;
 use crate::kinds;
 use crate::lent::Ground;
+use crate::lists;
+use crate::rounds;
 use crate::table;
 use crate::tally::Export;
 use crate::tally::Fault;
@@ -22,6 +24,7 @@ use crate::values;
 use crate::words;
 use crate::words::answer as a;
 use crate::words::call as c;
+use crate::words::state as s;
 use crate::words::Call;
 use crate::words::State;
 use crate::words::ANSWER_BYTES;
@@ -39,19 +42,61 @@ const MOST: u64 = 10;
 /// After so many cases the state that is carried on is left for a fresh one.
 const CARRIED: u32 = 64;
 
-/// What a run is lent.
+/// Of the calls but events, every word is swept in a run with lists at one number of so many: they
+/// don't look at lists. 63 numbers are swept, so that each word gets others than the one before it.
+const SPARSE: usize = 13;
+
+/// What a run is lent; with lists it is the run that takes them. They can be the words of the calls
+/// themselves, in the same place: both are only read.
 #[derive(Clone)]
-struct Lent {
+pub struct Lent {
     state: Vec<u8>,
     calls: Vec<u8>,
+    lists: Option<Vec<u64>>,
+    in_calls: bool,
     answers: Vec<u8>,
     spoilt: Spoilt,
 }
 
-/// The grounds of a run's three ranges, and a state that is carried on from case to case.
+impl Lent {
+    /// Calls in a state, with ranges of the right lengths.
+    pub fn new(dice: &mut Dice, state: &State, calls: &[Call], lists: Option<Vec<u64>>) -> Self {
+        Lent {
+            state: words::bytes(state),
+            calls: words::bytes(&calls.concat()),
+            lists,
+            in_calls: false,
+            answers: dice.bytes(calls.len() * ANSWER_BYTES),
+            spoilt: Spoilt::default(),
+        }
+    }
+
+    /// Makes the words of the calls the lists.
+    pub fn take_calls(&mut self) {
+        let words = self.calls.chunks_exact(WORD_BYTES);
+        self.lists = Some(words.map(|word| words::words::<1>(word)[0]).collect());
+        self.in_calls = true;
+    }
+
+    /// The words of the lists; a run without lists has none.
+    fn words(&self) -> &[u64] {
+        self.lists.as_deref().unwrap_or(&[])
+    }
+
+    /// What the run is counted as, and a call of it that is made alone.
+    fn exports(&self) -> [Export; 2] {
+        match self.lists {
+            None => [Export::Run, Export::OneCall],
+            Some(_) => [Export::RunLists, Export::OneCallOfLists],
+        }
+    }
+}
+
+/// The grounds of a run's ranges, and a state that is carried on from case to case.
 pub struct Model {
     state: Ground,
     calls: Ground,
+    lists: Ground,
     answers: Ground,
     carried: State,
     left: u32,
@@ -62,6 +107,7 @@ impl Model {
         Model {
             state: Ground::new(LONGEST_STATE),
             calls: Ground::new(LONGEST_CALLS),
+            lists: Ground::of_words(lists::LONGEST),
             answers: Ground::new(LONGEST_ANSWERS),
             carried: [0; STATE_WORDS],
             left: 0,
@@ -86,36 +132,54 @@ impl Model {
             answers
         };
         lent.answers = trial.dice.bytes(answers);
+        if lent.lists.is_some() && trial.dice.one_in(16) {
+            lent.take_calls();
+        }
         self.run(trial, &lent);
     }
 
     /// For every call, and for the first numbers that are none, each word of the state and each word
-    /// of the call in turn at each number where something turns, all else being good.
+    /// of the call in turn at each number where something turns, all else being good. With lists an
+    /// event takes its numbers from them, and of the other calls there are fewer.
     pub fn each_word(&mut self, trial: &mut Trial) {
         for number in 0..=words::CALLS_END {
-            for (index, value) in turns(STATE_WORDS) {
-                let (mut state, call) = good(&mut trial.dice, number);
-                state[index] = value;
-                self.one(trial, &state, &call);
-            }
-            for (index, value) in turns(CALL_WORDS).filter(|&(index, _)| index != c::NUMBER) {
-                let (state, mut call) = good(&mut trial.dice, number);
-                call[index] = value;
-                self.one(trial, &state, &call);
-            }
+            self.each_word_of(trial, number, false, 1);
+            let every = if is_event(number) { 1 } else { SPARSE };
+            self.each_word_of(trial, number, true, every);
+        }
+    }
+
+    /// The same for one call, at one number of so many.
+    fn each_word_of(&mut self, trial: &mut Trial, number: u64, with_lists: bool, every: usize) {
+        for (index, value) in turns(STATE_WORDS).step_by(every) {
+            let (mut state, call, lists) = good(&mut trial.dice, number, with_lists);
+            state[index] = value;
+            self.one(trial, &state, &call, lists);
+        }
+        let words = turns(CALL_WORDS).filter(|&(index, _)| index != c::NUMBER);
+        for (index, value) in words.step_by(every) {
+            let (state, mut call, lists) = good(&mut trial.dice, number, with_lists);
+            call[index] = value;
+            self.one(trial, &state, &call, lists);
         }
     }
 
     /// For every call, each word that it uses and that can be malformed, in each way in turn: alone, and
-    /// with something else that is refused.
+    /// with something else that is refused. Events are made with lists, too.
     pub fn each_malformed(&mut self, trial: &mut Trial) {
         for number in 0..words::CALLS_END {
-            for (place, kind) in kinds::used(number) {
-                for (way, beside) in with_each(kinds::ways(kind)) {
-                    let (mut state, mut call) = good(&mut trial.dice, number);
-                    beside.put(&mut state, &mut call);
-                    kinds::malform(&mut call, place, kind, way);
-                    self.one(trial, &state, &call);
+            for with_lists in [false, true] {
+                if with_lists && !is_event(number) {
+                    continue;
+                }
+                for (place, kind) in kinds::used(number) {
+                    for (way, beside) in Beside::with_each(0..kinds::ways(kind)) {
+                        let (mut state, mut call, lists) =
+                            good(&mut trial.dice, number, with_lists);
+                        beside.put(&mut state, &mut call);
+                        kinds::malform(&mut call, place, kind, way);
+                        self.one(trial, &state, &call, lists);
+                    }
                 }
             }
         }
@@ -124,53 +188,41 @@ impl Model {
     /// Each number that is no call's: alone, with something else that is refused, and between two
     /// calls of a run.
     pub fn each_no_call(&mut self, trial: &mut Trial) {
-        for (number, beside) in with_each(choose::NO_CALLS.len()) {
-            let (mut state, mut call) = good(&mut trial.dice, choose::NO_CALLS[number]);
-            let before = choose::good_call(&mut trial.dice, &state, calls::ON_PACKET_SENT);
-            let number = choose::number(&mut trial.dice);
-            let after = choose::good_call(&mut trial.dice, &state, number);
-            beside.put(&mut state, &mut call);
-            self.one(trial, &state, &call);
-            let lent = Lent {
-                state: words::bytes(&state),
-                calls: words::bytes(&[before, call, after].concat()),
-                answers: trial.dice.bytes(3 * ANSWER_BYTES),
-                spoilt: Spoilt::default(),
-            };
-            self.run(trial, &lent);
+        for with_lists in [false, true] {
+            for (number, beside) in Beside::with_each(choose::NO_CALLS.into_iter()) {
+                let (mut state, mut call, lists) = good(&mut trial.dice, number, with_lists);
+                let before = choose::good_call(&mut trial.dice, &state, calls::ON_PACKET_SENT);
+                let number = choose::number(&mut trial.dice);
+                let after = choose::good_call(&mut trial.dice, &state, number);
+                beside.put(&mut state, &mut call);
+                self.one(trial, &state, &call, lists.clone());
+                let run = [before, call, after];
+                let lent = Lent::new(&mut trial.dice, &state, &run, lists);
+                self.run(trial, &lent);
+            }
         }
     }
 
     /// One call in a state, with ranges of the right lengths.
-    fn one(&mut self, trial: &mut Trial, state: &State, call: &Call) {
-        let lent = Lent {
-            state: words::bytes(state),
-            calls: words::bytes(call),
-            answers: trial.dice.bytes(ANSWER_BYTES),
-            spoilt: Spoilt::default(),
-        };
+    pub fn one(&mut self, trial: &mut Trial, state: &State, call: &Call, lists: Option<Vec<u64>>) {
+        let lent = Lent::new(&mut trial.dice, state, &[*call], lists);
         self.run(trial, &lent);
     }
 
-    /// Each of the three ranges in turn at each length, the others being right for one call.
+    /// Each of the three ranges of bytes in turn at each length, the others being right for one call,
+    /// with lists and without.
     pub fn each_length(&mut self, trial: &mut Trial) {
         for length in 0..=LONGEST_STATE {
-            for range in 0..3 {
+            for (range, with_lists) in (0..3).flat_map(|range| [(range, false), (range, true)]) {
                 let number = choose::number(&mut trial.dice);
-                let (state, call) = good(&mut trial.dice, number);
-                let mut ranges = [
-                    words::bytes(&state),
-                    words::bytes(&call),
-                    trial.dice.bytes(ANSWER_BYTES),
-                ];
-                choose::resize(&mut trial.dice, &mut ranges[range], length);
-                let [state, calls, answers] = ranges;
-                let lent = Lent {
-                    state,
-                    calls,
-                    answers,
-                    spoilt: Spoilt::default(),
+                let (state, call, lists) = good(&mut trial.dice, number, with_lists);
+                let mut lent = Lent::new(&mut trial.dice, &state, &[call], lists);
+                let bytes = match range {
+                    0 => &mut lent.state,
+                    1 => &mut lent.calls,
+                    _ => &mut lent.answers,
                 };
+                choose::resize(&mut trial.dice, bytes, length);
                 self.run(trial, &lent);
             }
         }
@@ -185,28 +237,22 @@ impl Model {
         } else {
             words::bytes(&state)
         };
+        let mut lists = if dice.one_in(3) {
+            Some(lists::chosen(dice, &state))
+        } else {
+            None
+        };
         let count = if dice.one_in(8) { dice.below(MOST) } else { 1 };
         let mut calls = Vec::new();
         for _ in 0..count {
-            let number = choose::number(dice);
-            let mut call = choose::good_call(dice, &state, number);
-            if dice.one_in(2) {
-                choose::spoil_call(dice, &mut call, &mut spoilt);
-            }
-            if dice.one_in(5) {
-                choose::fall(dice, &state, &mut call, &mut spoilt);
-            }
-            if dice.one_in(4) {
-                choose::malform_call(dice, &mut call, &mut spoilt);
-            }
-            if dice.one_in(16) {
-                choose::no_call(dice, &mut call);
-            }
+            let call = chosen_call(dice, &state, &mut lists, &mut spoilt);
             calls.extend(words::bytes(&call));
         }
         Lent {
             state: bytes,
             calls,
+            lists,
+            in_calls: false,
             answers: Vec::new(),
             spoilt,
         }
@@ -235,7 +281,7 @@ impl Model {
     }
 
     /// Makes a run and checks it; of an accepted run of several calls, also each of them alone.
-    fn run(&mut self, trial: &mut Trial, lent: &Lent) {
+    pub fn run(&mut self, trial: &mut Trial, lent: &Lent) {
         let due = table::run_rows(&lent.state, &lent.calls, lent.answers.len()).due();
         let alone = lent.calls.len() == CALL_BYTES;
         let parts = if due == 0 && !alone {
@@ -270,22 +316,38 @@ impl Model {
         self.state.lend(&lent.state, &mut trial.dice);
         self.calls.lend(&lent.calls, &mut trial.dice);
         self.answers.lend(&lent.answers, &mut trial.dice);
-        let given = trial
-            .port
-            .run(&mut self.state, &mut self.calls, &mut self.answers);
-        let rows = table::run_rows(&lent.state, &lent.calls, lent.answers.len());
-        trial
-            .tally
-            .replied(Export::Run, &rows, given, || tell(lent));
-        for (name, ground) in [
-            ("state", &mut self.state),
-            ("calls", &mut self.calls),
-            ("answers", &mut self.answers),
-        ] {
-            checks::guards(&mut trial.tally, ground, name, || tell(lent));
+        let (state, calls, answers) = (&mut self.state, &mut self.calls, &mut self.answers);
+        let lists = if lent.in_calls {
+            lent.calls.clone()
+        } else {
+            words::bytes(lent.words())
+        };
+        if lent.lists.is_some() {
+            self.lists.lend(&lists, &mut trial.dice);
         }
-        let (calls, tally) = (&lent.calls, &mut trial.tally);
-        checks::input(tally, &self.calls, calls, "calls", || tell(lent));
+        let given = match lent.lists {
+            None => trial.port.run(state, calls, answers),
+            Some(_) if lent.in_calls => {
+                let both = &mut self.lists;
+                trial.port.run_lists_in_calls(state, both, answers)
+            }
+            Some(_) => {
+                let lists = &mut self.lists;
+                trial.port.run_lists(state, calls, lists, answers)
+            }
+        };
+        let rows = table::run_rows(&lent.state, &lent.calls, lent.answers.len());
+        let [export, _] = lent.exports();
+        let (tally, tell) = (&mut trial.tally, || tell(lent));
+        tally.replied(export, &rows, given, tell);
+        checks::guards(tally, &mut self.state, "state", tell);
+        checks::guards(tally, &mut self.calls, "calls", tell);
+        checks::guards(tally, &mut self.answers, "answers", tell);
+        checks::input(tally, &self.calls, &lent.calls, "calls", tell);
+        if lent.lists.is_some() {
+            checks::guards(tally, &mut self.lists, "lists", tell);
+            checks::input(tally, &self.lists, &lists, "lists", tell);
+        }
         given
     }
 
@@ -313,6 +375,8 @@ impl Model {
             let one = Lent {
                 state,
                 calls: call.to_vec(),
+                lists: lent.lists.clone(),
+                in_calls: false,
                 answers: trial.dice.bytes(ANSWER_BYTES),
                 spoilt: Spoilt::default(),
             };
@@ -328,16 +392,21 @@ impl Model {
     /// Checks the state and the answer that an accepted run of one call has left.
     fn check(&mut self, tally: &mut Tally, lent: &Lent) {
         let (before, call): (State, Call) = (words::words(&lent.state), words::words(&lent.calls));
-        let rows = table::call_rows(&before, &call);
+        let lists = lent.words();
+        let rows = table::call_rows(&before, &call, lists);
         let (left, answer): (State, _) = (
             words::words(self.state.bytes()),
             words::words(&self.answers.bytes()[..ANSWER_BYTES]),
         );
-        tally.replied(Export::OneCall, &rows, answer[a::REPLY], || tell(lent));
+        let [_, export] = lent.exports();
+        tally.replied(export, &rows, answer[a::REPLY], || tell(lent));
         let unknown = !table::is_a_call(call[c::NUMBER]);
-        tally.worded(kinds::is_malformed(&call), unknown);
+        tally.worded(kinds::is_malformed(&call, lists), unknown);
         let due = rows.due();
-        if left != after::state(&before, &call, due) {
+        if is_event(call[c::NUMBER]) {
+            count_acked(tally, &before, &call, lent, due);
+        }
+        if left != after::state(&before, &call, lists, due) {
             let fault = if due == 0 || call[c::NUMBER] == calls::START {
                 Fault::Content
             } else {
@@ -347,7 +416,7 @@ impl Model {
                 format!("the state {:?} after reply {}\n{}", left, due, tell(lent))
             });
         }
-        if answer != after::answer(&before, &call, due) {
+        if answer != after::answer(&before, &call, lists, due) {
             tally.wrong(Fault::Content, || {
                 format!("the answer {:?}, due {}\n{}", answer, due, tell(lent))
             });
@@ -363,16 +432,85 @@ impl Model {
     }
 }
 
-/// A good state and a good call in it.
-fn good(dice: &mut Dice, number: u64) -> (State, Call) {
-    let state = choose::good_state(dice);
-    let call = choose::good_call(dice, &state, number);
-    (state, call)
+/// Whether it is the number of an event, which has acked numbers.
+fn is_event(number: u64) -> bool {
+    number == calls::ON_CONGESTION_EVENT_START
 }
 
-/// Each number below the one given, with each thing that can be wrong beside it.
-fn with_each(count: usize) -> impl Iterator<Item = (usize, Beside)> {
-    (0..count).flat_map(|at| Beside::ALL.into_iter().map(move |beside| (at, beside)))
+/// A good state, a good call in it, and lists if they are asked for; an event takes its numbers from
+/// these.
+fn good(dice: &mut Dice, number: u64, with_lists: bool) -> (State, Call, Option<Vec<u64>>) {
+    let state = choose::good_state(dice);
+    let mut call = choose::good_call(dice, &state, number);
+    if !with_lists {
+        return (state, call, None);
+    }
+    let mut lists = lists::chosen(dice, &state);
+    if is_event(number) {
+        lists.resize(lists.len().max(lists::FEWEST), 0);
+        lists::place(dice, &state, &mut call, &mut lists);
+    }
+    (state, call, Some(lists))
+}
+
+/// A call for a run, good or hostile. In a run with lists there are more events, and half of those take
+/// nothing hostile but their place.
+fn chosen_call(
+    dice: &mut Dice,
+    state: &State,
+    lists: &mut Option<Vec<u64>>,
+    spoilt: &mut Spoilt,
+) -> Call {
+    let number = match lists {
+        Some(_) if dice.one_in(2) => calls::ON_CONGESTION_EVENT_START,
+        _ => choose::number(dice),
+    };
+    let mut call = choose::good_call(dice, state, number);
+    if let (Some(lists), true) = (lists, is_event(number)) {
+        choose_place(dice, state, &mut call, lists);
+        if dice.one_in(2) {
+            return call;
+        }
+    }
+    if dice.one_in(2) {
+        choose::spoil_call(dice, &mut call, spoilt);
+    }
+    if dice.one_in(5) {
+        choose::fall(dice, state, &mut call, spoilt);
+    }
+    if dice.one_in(4) {
+        choose::malform_call(dice, &mut call, spoilt);
+    }
+    if dice.one_in(16) {
+        choose::no_call(dice, &mut call);
+    }
+    call
+}
+
+/// Lets most events take their numbers from the lists, some at a hostile place, and some stand still,
+/// so that others of the run are accepted after them.
+fn choose_place(dice: &mut Dice, state: &State, call: &mut Call, lists: &mut [u64]) {
+    if !dice.one_in(4) {
+        lists::place(dice, state, call, lists);
+    }
+    if dice.one_in(4) {
+        lists::misplace(dice, call, lists.len());
+    }
+    if dice.one_in(2) {
+        choose::stand_still(state, call);
+    }
+}
+
+/// Counts how the greatest number of an event stands, or that its place is outside the lists.
+fn count_acked(tally: &mut Tally, before: &State, call: &Call, lent: &Lent, due: u64) {
+    let end = words::optional(before, s::END_OF_ROUND_TRIP);
+    match words::acked(call, lent.words()) {
+        None if lent.lists.is_some() => tally.misplaced(),
+        Some(acked) if due == 0 => {
+            tally.rounded(acked.len() > 3, rounds::greatest(end, acked));
+        }
+        _ => {}
+    }
 }
 
 /// Each of so many words, with each number where something turns.
@@ -395,15 +533,25 @@ fn tell(lent: &Lent) -> String {
             .map(|eight| words::words::<1>(eight)[0]);
         words.enumerate().filter(|(_, word)| *word != 0).collect()
     };
+    let (name, lists) = match &lent.lists {
+        None => ("guovssalu_run", String::new()),
+        Some(lists) => {
+            let place = if lent.in_calls { " in the calls" } else { "" };
+            let lists = format!("\n  lists{}, {} words {:?}", place, lists.len(), lists);
+            ("guovssalu_run_lists", lists)
+        }
+    };
     format!(
-        "  guovssalu_run, bytes of state, calls, answers {:?}, calls {:?} {:?}\n  hostile words of \
-         the state {:?}, of the calls {:?}\n  state {:?}\n  calls {:?}",
+        "  {}, bytes of state, calls, answers {:?}, calls {:?} {:?}\n  hostile words of the state \
+         {:?}, of the calls {:?}\n  state {:?}\n  calls {:?}{}",
+        name,
         lengths,
         numbers,
         names,
         lent.spoilt.state,
         lent.spoilt.call,
         not_zero(&lent.state),
-        not_zero(&lent.calls)
+        not_zero(&lent.calls),
+        lists
     )
 }

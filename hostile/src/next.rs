@@ -1,5 +1,5 @@
 //! The state and the record after an accepted call, written from network_model.rs and probe_bw.rs
-//! of the original, in their order.
+//! of the original, in their order; which event ends a round is read in `table`.
 
 use guovssalu_sys::table::argument as arg;
 use guovssalu_sys::table::call as calls;
@@ -21,12 +21,12 @@ use crate::words::Record;
 use crate::words::State;
 use crate::words::UNSET;
 
-/// The state after an accepted call, which is no start.
-pub fn state(before: &State, call: &Call) -> State {
+/// The state after an accepted call, which is no start, in a run with these lists.
+pub fn state(before: &State, call: &Call, lists: &[u64]) -> State {
     let mut state = *before;
     match call[c::NUMBER] {
         calls::ON_PACKET_SENT => on_packet_sent(&mut state, call),
-        calls::ON_CONGESTION_EVENT_START => drop(event(&mut state, call)),
+        calls::ON_CONGESTION_EVENT_START => drop(event(&mut state, call, lists)),
         calls::ON_CONGESTION_EVENT_FINISH if yes(call[c::END_OF_ROUND_TRIP]) => {
             on_new_round(&mut state)
         }
@@ -60,8 +60,8 @@ pub fn state(before: &State, call: &Call) -> State {
 }
 
 /// The record after an accepted event.
-pub fn record(before: &State, call: &Call) -> Record {
-    event(&mut before.clone(), call)
+pub fn record(before: &State, call: &Call, lists: &[u64]) -> Record {
+    event(&mut before.clone(), call, lists)
 }
 
 /// Sets a pair of words to a number or to unset.
@@ -82,9 +82,9 @@ fn on_packet_sent(state: &mut State, call: &Call) {
 }
 
 /// on_congestion_event_start: changes the state and answers the record.
-fn event(state: &mut State, call: &Call) -> Record {
+fn event(state: &mut State, call: &Call, lists: &[u64]) -> Record {
     let mut record = words::record(call);
-    let ends = table::ends_a_round(state, call);
+    let ends = table::ends_a_round(state, call, lists);
     if ends {
         state[s::ROUND_TRIP_COUNT] += 1;
         let sent = state[s::LAST_SENT_PACKET];

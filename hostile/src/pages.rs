@@ -12,6 +12,7 @@ extern "C" {
 
 /// The access that `mmap` and `mprotect` take, and the flags for private memory of no file.
 const NO_ACCESS: i32 = 0;
+const READ: i32 = 1;
 const READ_AND_WRITE: i32 = 1 | 2;
 const PRIVATE_OF_NO_FILE: i32 = 0x02 | 0x20;
 
@@ -21,10 +22,11 @@ pub fn page() -> usize {
     unsafe { getpagesize() as usize }
 }
 
-/// Whole pages that may be read and written, between two that may not.
+/// Whole pages that may be read and, unless they are closed, written, between two that may not.
 pub struct Area {
     start: *mut u8,
     len: usize,
+    closed: bool,
 }
 
 impl Area {
@@ -32,7 +34,7 @@ impl Area {
     pub fn new(bytes: usize) -> Self {
         let page = page();
         let len = (bytes + page - 1) / page * page;
-        // SAFETY: fresh pages at a place of the system's choice; the inner ones are then opened.
+        // SAFETY: fresh pages at a place of the system's choice.
         let start = unsafe {
             let whole = mmap(
                 ptr::null_mut(),
@@ -43,14 +45,35 @@ impl Area {
                 0,
             );
             assert!(whole as isize != -1, "no memory");
-            let start = whole.add(page);
-            assert!(
-                mprotect(start, len, READ_AND_WRITE) == 0,
-                "no access to memory"
-            );
-            start
+            whole.add(page)
         };
-        Area { start, len }
+        let mut area = Area {
+            start,
+            len,
+            closed: true,
+        };
+        area.open();
+        area
+    }
+
+    /// Lets the area be written.
+    pub fn open(&mut self) {
+        if self.closed {
+            self.allow(READ_AND_WRITE);
+            self.closed = false;
+        }
+    }
+
+    /// Lets the area be read alone, until it is opened.
+    pub fn close(&mut self) {
+        self.allow(READ);
+        self.closed = true;
+    }
+
+    fn allow(&mut self, access: i32) {
+        // SAFETY: the pages are this area's alone, and no reference into them is held.
+        let reply = unsafe { mprotect(self.start, self.len, access) };
+        assert!(reply == 0, "no access to memory");
     }
 
     /// What the area holds.
@@ -61,6 +84,7 @@ impl Area {
 
     /// The same, to be written.
     pub fn bytes_mut(&mut self) -> &mut [u8] {
+        assert!(!self.closed);
         // SAFETY: as above, and they are writable.
         unsafe { slice::from_raw_parts_mut(self.start, self.len) }
     }

@@ -3,8 +3,9 @@
 //! is that of docs/DECISIONS.md, named at its place.
 //!
 //! A malformed word counts as one out of bounds: a flag that is neither 0 nor 1, an f32 with bits
-//! above the 32nd, a pair that is neither 1 and a number nor 0 and 0, a count above 3. In an argument
-//! or in the event's record that is row 2, in a parameter row 1.
+//! above the 32nd, a pair that is neither 1 and a number nor 0 and 0. In an argument or in the event's
+//! record that is row 2, in a parameter row 1. A count of acked numbers above 3, with which these are
+//! not all inside the run's lists, is a bad argument: row 2. A run without lists has none inside.
 
 use guovssalu_sys::table::argument as arg;
 use guovssalu_sys::table::call as calls;
@@ -66,13 +67,13 @@ impl Rows {
 
 /// The rows of one call in a state that its bytes encode. A number that is no call's is itself the
 /// bad argument. That such a call gets the model and tests it, and not the cycle, is a choice
-/// (decision 64).
-pub fn call_rows(state: &State, call: &Call) -> Rows {
+/// (decision 64). The lists are those that the run was lent, if any.
+pub fn call_rows(state: &State, call: &Call, lists: &[u64]) -> Rows {
     let number = call[c::NUMBER];
     let stored =
         (gets_model(number) && !model_ok(state)) || (gets_cycle(number) && !cycle_ok(state));
     let given = is_a_call(number)
-        && arguments_ok(call)
+        && arguments_ok(call, lists)
         && (!gets_record(number) || record_ok(&call[c::RECORD..]));
     Rows::default()
         // "1: a stored number or a parameter is outside the bounds below"
@@ -90,10 +91,10 @@ pub fn call_rows(state: &State, call: &Call) -> Rows {
             number == calls::ON_CONGESTION_EVENT_START && totals_fall(state, call),
         )
         // "5: the call's rule adds 1 to a counter that is 2^64 - 1"
-        .with(5, fills_a_counter(state, call))
+        .with(5, fills_a_counter(state, call, lists))
 }
 
-/// The rows of a run: docs/LAYOUT.md, "What the run itself replies".
+/// The rows of a run, with lists or without: docs/LAYOUT.md, "What the run itself replies".
 pub fn run_rows(state: &[u8], calls: &[u8], answers: usize) -> Rows {
     let whole = state.len() == words::STATE_BYTES;
     let count = calls.len() / words::CALL_BYTES;
@@ -302,7 +303,7 @@ fn params_ok(call: &Call) -> bool {
 
 /// The arguments of each call: every number handed in is tested, whether the call reads it or not
 /// (decision 17). "The same holds for a gain given as an argument, with refusal 2."
-fn arguments_ok(call: &Call) -> bool {
+fn arguments_ok(call: &Call, lists: &[u64]) -> bool {
     match call[c::NUMBER] {
         calls::START => call[arg::start::NOW] <= MOMENT && call[arg::start::INITIAL_RTT] <= LENGTH,
         calls::ON_PACKET_SENT => {
@@ -310,7 +311,7 @@ fn arguments_ok(call: &Call) -> bool {
                 && call[arg::on_packet_sent::BYTES_IN_FLIGHT] <= BYTES
                 && call[arg::on_packet_sent::BYTES] <= BYTES
         }
-        calls::ON_CONGESTION_EVENT_START => sample_ok(call),
+        calls::ON_CONGESTION_EVENT_START => sample_ok(call) && acked(call, lists).is_some(),
         calls::CHECK_PERSISTENT_QUEUE => gain_ok(call[arg::check_persistent_queue::TARGET_GAIN]),
         calls::SET_PACING_GAIN => gain_ok(call[arg::set_pacing_gain::PACING_GAIN]),
         calls::SET_CWND_GAIN => gain_ok(call[arg::set_cwnd_gain::CWND_GAIN]),
@@ -354,7 +355,6 @@ fn sample_ok(call: &Call) -> bool {
         && call[c::SENT_IN_FLIGHT] <= BYTES
         && call[c::TOTAL_ACKED] <= TOTAL
         && call[c::TOTAL_LOST] <= TOTAL
-        && acked(call).is_some()
 }
 
 /// The words of an event's record, from the first: "an event's bytes acked and lost .. 2^62".
@@ -389,11 +389,11 @@ fn totals_fall(state: &State, call: &Call) -> bool {
 }
 
 /// Row 5, given only where this very call would add 1 (decision 23).
-fn fills_a_counter(state: &State, call: &Call) -> bool {
+fn fills_a_counter(state: &State, call: &Call, lists: &[u64]) -> bool {
     let full = |index: usize| state[index] == u64::MAX;
     match call[c::NUMBER] {
         calls::ON_CONGESTION_EVENT_START => {
-            (full(s::ROUND_TRIP_COUNT) && ends_a_round(state, call))
+            (full(s::ROUND_TRIP_COUNT) && ends_a_round(state, call, lists))
                 // "event count +1 if bytes lost > 0"
                 || (full(s::LOSS_EVENTS_IN_ROUND) && call[c::TOTAL_LOST] > state[s::TOTAL_LOST])
         }
@@ -408,11 +408,11 @@ fn fills_a_counter(state: &State, call: &Call) -> bool {
 }
 
 /// "A round ends if no end is set yet or that number is greater than the end .. An empty slice ends
-/// no round." That number is the last of those acked.
-pub fn ends_a_round(state: &State, call: &Call) -> bool {
+/// no round." By document 02 that number is "the greatest number in the slice".
+pub fn ends_a_round(state: &State, call: &Call, lists: &[u64]) -> bool {
     let end = optional(state, s::END_OF_ROUND_TRIP);
-    let last = acked(call).and_then(|acked| acked.last());
-    last.map_or(false, |&last| end.map_or(true, |end| last > end))
+    let greatest = acked(call, lists).and_then(|acked| acked.iter().max());
+    greatest.map_or(false, |&greatest| end.map_or(true, |end| greatest > end))
 }
 
 /// The larger of the two slots of the max filter.
@@ -453,6 +453,9 @@ pub fn counts_a_queue(state: &State, call: &Call) -> bool {
 
 #[cfg(test)]
 mod tests {
+    use guovssalu_sys::table::CALL_WORDS;
+    use guovssalu_sys::table::STATE_WORDS;
+
     use super::*;
 
     /// What is read here by hand, beside the table that the words and numbers are named by.
@@ -465,5 +468,80 @@ mod tests {
         }
         let sizes = [words::STATE_BYTES, words::CALL_BYTES, words::ANSWER_BYTES];
         assert_eq!(sizes, [400, 392, 144]);
+    }
+
+    /// The end of a round, if one is set, numbers acked, and whether they end it: worked by hand.
+    const ROUNDS_BY_HAND: [(Option<u64>, &[u64], bool); 18] = [
+        (None, &[], false),
+        (None, &[0], true),
+        (None, &[0, 0], true),
+        (Some(0), &[], false),
+        (Some(0), &[0], false),
+        (Some(0), &[1], true),
+        (Some(5), &[5], false),
+        (Some(5), &[6], true),
+        (Some(5), &[6, 5], true),
+        (Some(5), &[5, 6], true),
+        (Some(5), &[1, 6, 2], true),
+        (Some(5), &[5, 5, 5], false),
+        (Some(5), &[9, 8, 7], true),
+        (Some(5), &[u64::MAX, 0], true),
+        (Some(5), &[5, 4, 3, 2, 1], false),
+        (Some(5), &[1, 2, 3, 6, 4], true),
+        (Some(u64::MAX), &[u64::MAX, u64::MAX], false),
+        (Some(u64::MAX - 1), &[0, u64::MAX, 0, 0], true),
+    ];
+
+    #[test]
+    fn the_greatest_number_ends_a_round() {
+        for (end, acked, due) in ROUNDS_BY_HAND {
+            let mut state = [0; STATE_WORDS];
+            state[s::END_OF_ROUND_TRIP] = end.is_some() as u64;
+            state[s::END_OF_ROUND_TRIP + 1] = end.unwrap_or(0);
+            let mut call = [0; CALL_WORDS];
+            call[c::ACKED_COUNT] = acked.len() as u64;
+            let mut lists = Vec::new();
+            if acked.len() <= 3 {
+                call[c::ACKED..][..acked.len()].copy_from_slice(acked);
+            } else {
+                call[c::ACKED] = 2;
+                lists = [&[7, 7][..], acked, &[7]].concat();
+            }
+            let ends = ends_a_round(&state, &call, &lists);
+            assert_eq!(ends, due, "{:?} {:?}", end, acked);
+        }
+    }
+
+    #[test]
+    fn a_place_is_inside_the_lists_or_refused() {
+        const MAX: u64 = u64::MAX;
+        for (length, start, count, inside) in [
+            (0, 0, 3, true),
+            (0, MAX, 3, true),
+            (0, 0, 4, false),
+            (3, 0, 4, false),
+            (4, 0, 4, true),
+            (4, 1, 4, false),
+            (5, 1, 4, true),
+            (5, 2, 4, false),
+            (5, 0, 5, true),
+            (5, 0, 6, false),
+            (5, 6, 0, true),
+            (5, MAX, 4, false),
+            (5, MAX - 3, 4, false),
+            (5, MAX - 2, 8, false),
+            (5, 0, MAX, false),
+            (5, 1, MAX, false),
+            (5, MAX, MAX, false),
+            (5, 1 << 63, 1 << 63, false),
+        ] {
+            let mut call = [0; CALL_WORDS];
+            call[c::NUMBER] = calls::ON_CONGESTION_EVENT_START;
+            call[c::ACKED_COUNT] = count;
+            call[c::ACKED] = start;
+            let lists = vec![0; length];
+            let told = (length, start, count);
+            assert_eq!(arguments_ok(&call, &lists), inside, "{:?}", told);
+        }
     }
 }

@@ -5,6 +5,8 @@ use std::sync::atomic::Ordering;
 
 use guovssalu_sys::table::reason;
 
+use crate::rounds;
+use crate::rounds::Greatest;
 use crate::table::Rows;
 
 /// The calls made so far, for the one who watches.
@@ -18,6 +20,8 @@ const TOLD: usize = 10;
 pub enum Export {
     Run,
     OneCall,
+    RunLists,
+    OneCallOfLists,
     FilterRun,
     Slope,
     ToF32,
@@ -29,8 +33,10 @@ pub enum Export {
     BytesPerPeriod,
 }
 
-const NAMES: [&str; 11] = [
+const NAMES: [&str; 13] = [
     "guovssalu_run",
+    "  of which one call, its own reply",
+    "guovssalu_run_lists",
     "  of which one call, its own reply",
     "guovssalu_filter_run",
     "guovssalu_raise_inflight_high_slope",
@@ -42,6 +48,16 @@ const NAMES: [&str; 11] = [
     "guovssalu_bandwidth_mul_f32",
     "guovssalu_to_bytes_per_period",
 ];
+
+impl Export {
+    /// Whether it is a call within a run, which is counted with the run.
+    fn is_within(self) -> bool {
+        matches!(self, Export::OneCall | Export::OneCallOfLists)
+    }
+}
+
+/// Where an event's numbers are: in the call, or in a list. Their names.
+const PLACES: [&str; 2] = ["in the call", "in a list"];
 
 /// What can be wrong.
 #[derive(Clone, Copy, PartialEq, Debug)]
@@ -57,9 +73,11 @@ pub enum Fault {
 
 #[derive(Default)]
 pub struct Tally {
-    calls: [u64; 11],
-    replies: [[u64; 9]; 11],
+    calls: [u64; 13],
+    replies: [[u64; 9]; 13],
     reasons: [u64; 8],
+    rounds: [[u64; 7]; 2],
+    outside: u64,
     overlaps: u64,
     malformed: u64,
     no_calls: u64,
@@ -73,7 +91,7 @@ impl Tally {
     /// Counts a call without a reply.
     pub fn answered(&mut self, export: Export) {
         self.calls[export as usize] += 1;
-        if export != Export::OneCall {
+        if !export.is_within() {
             MADE.fetch_add(1, Ordering::Relaxed);
         }
     }
@@ -94,6 +112,16 @@ impl Tally {
     /// Counts a reason that was due in a filter run.
     pub fn reasoned(&mut self, reason: u64) {
         self.reasons[reason as usize] += 1;
+    }
+
+    /// Counts an event that was done, by where its numbers are and how the greatest stands.
+    pub fn rounded(&mut self, in_a_list: bool, greatest: Greatest) {
+        self.rounds[in_a_list as usize][greatest as usize] += 1;
+    }
+
+    /// Counts an event whose place is outside the lists.
+    pub fn misplaced(&mut self) {
+        self.outside += 1;
     }
 
     /// Counts a call by what its words are.
@@ -118,7 +146,9 @@ impl Tally {
 
     /// How many exported calls were made.
     pub fn made(&self) -> u64 {
-        self.calls.iter().sum::<u64>() - self.calls[Export::OneCall as usize]
+        let within = [Export::OneCall, Export::OneCallOfLists];
+        let within: u64 = within.iter().map(|&one| self.calls[one as usize]).sum();
+        self.calls.iter().sum::<u64>() - within
     }
 
     /// How many times something was wrong.
@@ -144,6 +174,18 @@ impl Tally {
         self.reasons[reason as usize]
     }
 
+    /// How many events with numbers at this place were done, with the greatest standing so.
+    #[cfg(test)]
+    pub fn stood(&self, in_a_list: bool, greatest: Greatest) -> u64 {
+        self.rounds[in_a_list as usize][greatest as usize]
+    }
+
+    /// How many events had a place outside the lists.
+    #[cfg(test)]
+    pub fn outside(&self) -> u64 {
+        self.outside
+    }
+
     /// The report; its last line has the verdict.
     pub fn report(&self) -> String {
         let [reply, content, touched] = self.faults;
@@ -153,12 +195,14 @@ impl Tally {
             .map(|told| format!("\n{}\n", told))
             .collect();
         format!(
-            "{}\nfilter reasons due: {}\n{} calls with two or more refusals at once\n{} calls with a \
+            "{}\nfilter reasons due: {}\n{}{} events with a place outside the lists\n{} calls with two or more refusals at once\n{} calls with a \
              malformed word, {} with a number of no call\n{} lent ranges, {} guard bytes \
              compared\n{} wrong replies, {} wrong answers or states, {} bytes touched\n{}{} calls, \
              {} wrong\n",
             self.table(),
             self.named_reasons(),
+            self.named_rounds(),
+            self.outside,
             self.overlaps,
             self.malformed,
             self.no_calls,
@@ -175,11 +219,16 @@ impl Tally {
 
     /// How often each reason was due, by name.
     fn named_reasons(&self) -> String {
-        let counts = reason::NAMES.iter().zip(&self.reasons);
-        let named: Vec<String> = counts
-            .map(|(name, count)| format!("{} {}", count, name))
-            .collect();
-        named.join(", ")
+        named(&reason::NAMES, &self.reasons)
+    }
+
+    /// How often the greatest number of an event stood in each way, a line for each place.
+    fn named_rounds(&self) -> String {
+        let line = |(place, counts): (&&str, &[u64; 7])| {
+            let counts = named(&rounds::NAMES, counts);
+            format!("events done, numbers {}: {}\n", place, counts)
+        };
+        PLACES.iter().zip(&self.rounds).map(line).collect()
     }
 
     /// The calls and replies, a line for each exported call.
@@ -202,4 +251,13 @@ impl Tally {
         }
         table
     }
+}
+
+/// Counts, each with its name.
+fn named(names: &[&str], counts: &[u64]) -> String {
+    let counts = names.iter().zip(counts);
+    let named: Vec<String> = counts
+        .map(|(name, count)| format!("{} {}", count, name))
+        .collect();
+    named.join(", ")
 }

@@ -181,13 +181,19 @@ pub fn pair(words: &[u64], index: usize) -> Option<Option<u64>> {
     }
 }
 
-/// The numbers acked, of which there is room for three; a larger count is malformed.
-pub fn acked(call: &Call) -> Option<&[u64]> {
-    let room = &call[call::ACKED..call::RECORD];
-    match call[call::ACKED_COUNT] {
-        count @ 0..=3 => Some(&room[..count as usize]),
-        _ => None,
+/// The numbers acked. Up to three stand in the call; more are words of the lists, from the one on that
+/// the call's first word for a number says. Where they are not all inside the lists there are none: a
+/// bad argument, as any count above three is without lists.
+pub fn acked<'a>(call: &'a Call, lists: &'a [u64]) -> Option<&'a [u64]> {
+    let (count, start) = (call[call::ACKED_COUNT], call[call::ACKED]);
+    if count <= 3 {
+        return Some(&call[call::ACKED..call::RECORD][..count as usize]);
     }
+    let end = start as u128 + count as u128;
+    if end > lists.len() as u128 {
+        return None;
+    }
+    Some(&lists[start as usize..end as usize])
 }
 
 /// The record as it is handed in, whatever its words are.

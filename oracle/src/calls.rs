@@ -6,6 +6,7 @@ use std::collections::VecDeque;
 
 use guovssalu_sys::table::call;
 use guovssalu_sys::table::phase;
+use guovssalu_sys::table::MOST_ACKED;
 use guovssalu_sys::table::UNSET;
 
 use crate::model::field::*;
@@ -577,28 +578,16 @@ impl Calls {
         };
         let send_state = self.send_state(state, total_acked, if reductions { 2 } else { 3 });
 
-        let random = &mut self.random;
-        let end = state[END];
-        let mut acked = [0; 3];
-        let acked_length = match random.below(6) {
+        let acked_length = match self.random.below(6) {
             0 if !reductions => 0,
-            1 => 2,
-            2 => 3,
+            1 | 2 => 2,
+            3 | 4 => MOST_ACKED,
             _ => 1,
         };
-        for number in &mut acked[..acked_length] {
-            *number = match random.below(6) {
-                0 => end,
-                1 | 2 => end.saturating_add(1),
-                3 => end.saturating_sub(1),
-                4 if self.manner == Anything => random.of_length(64),
-                _ => state[LAST_SENT],
-            };
-        }
-        if reductions && !random.one_in(12) {
-            acked[acked_length - 1] = end.saturating_add(1);
-        }
+        let mut acked = [0; MOST_ACKED];
+        self.acked(&mut acked[..acked_length], state);
 
+        let random = &mut self.random;
         Sample {
             bandwidth,
             send_rate,
@@ -616,6 +605,41 @@ impl Calls {
             total_lost,
             acked_length,
             acked,
+        }
+    }
+
+    /// Makes acked numbers, in any order: the greatest may stand anywhere.
+    fn acked(&mut self, acked: &mut [u64], state: &State) {
+        let random = &mut self.random;
+        let (end, past) = (state[END], state[END].saturating_add(1));
+        for number in &mut *acked {
+            *number = match random.below(6) {
+                0 => end,
+                1 | 2 => past,
+                3 => end.saturating_sub(1),
+                4 if self.manner == Anything => random.of_length(64),
+                _ => state[LAST_SENT],
+            };
+        }
+        if acked.is_empty() {
+            return;
+        }
+        let place = random.below(acked.len() as u64) as usize;
+        match random.below(8) {
+            // None past the end, or only one.
+            0 | 1 => acked.iter_mut().for_each(|it| *it = end.min(*it)),
+            2 | 3 => {
+                acked.iter_mut().for_each(|it| *it = end.min(*it));
+                acked[place] = past;
+            }
+            4 => acked.sort_by(|a, b| b.cmp(a)),
+            // The same number again.
+            5 => acked[place] = acked[0],
+            6 => acked.fill(acked[place]),
+            _ => {}
+        }
+        if self.manner == Reductions && !random.one_in(12) {
+            acked[place] = past;
         }
     }
 

@@ -73,6 +73,23 @@ const OLD_THIRD: [Worked; 2] = [
     ),
 ];
 
+/// Acked numbers in any order, and whether they end a round whose end is 5: by
+/// request d the greatest decides. Worked out by hand.
+const OUT_OF_ORDER: [(&[u64], bool); 12] = [
+    (&[], false),
+    (&[6, 5], true),
+    (&[5, 6], true),
+    (&[5, 5], false),
+    (&[6, 6], true),
+    (&[5, 4, 6], true),
+    (&[6, 5, 4], true),
+    (&[4, 6, 5], true),
+    (&[5, 4, 5], false),
+    (&[9, 8, 7], true),
+    (&[u64::MAX, 0], true),
+    (&[0, u64::MAX], true),
+];
+
 /// A run of the windowed filter, and what its steps went through.
 struct Windowed {
     list: List,
@@ -454,14 +471,24 @@ pub fn round_trip_counter() -> List {
             self.add(1, &[number], false);
         }
 
-        fn acked(&mut self, numbers: &[u64]) {
+        /// Whether the event ended a round.
+        fn acked(&mut self, numbers: &[u64]) -> bool {
             let ended = self.rounds.acked(numbers);
             self.add(2, numbers, ended);
+            ended
         }
 
         fn restart(&mut self) {
             self.rounds.restart_round();
             self.add(3, &[], false);
+        }
+
+        /// A round that ends with packet 5, while packet 7 is the last sent.
+        fn at_five(&mut self) {
+            self.fresh();
+            self.sent(5);
+            self.acked(&[3]);
+            self.sent(7);
         }
     }
 
@@ -477,11 +504,8 @@ pub fn round_trip_counter() -> List {
     run.acked(&[0]);
     run.acked(&[0]);
     run.acked(&[1]);
-    // At the end, past it, and the last of the slice, not the largest.
-    run.fresh();
-    run.sent(5);
-    run.acked(&[3]);
-    run.sent(7);
+    // At the end, past it, and the greatest of the slice, not the last.
+    run.at_five();
     run.acked(&[5]);
     run.acked(&[6, 5]);
     run.acked(&[4, 6]);
@@ -509,6 +533,41 @@ pub fn round_trip_counter() -> List {
     run.sent(0);
     run.acked(&[u64::MAX]);
     run.acked(&[u64::MAX, 0]);
+    // No end set, and the greatest anywhere.
+    for acked in [&[u64::MAX, 0], &[0, u64::MAX], &[0, 0]] {
+        run.fresh();
+        run.acked(&[]);
+        run.acked(acked);
+    }
+    // Packets out of order, at the end 5.
+    for (acked, ends) in OUT_OF_ORDER {
+        run.at_five();
+        assert_eq!(run.acked(acked), ends, "{acked:?} at the end 5");
+    }
+    // All lists of up to three numbers below, at and past the end, in every
+    // order.
+    run.at_five();
+    for length in 0..=3 {
+        for which in 0..3usize.pow(length) {
+            let end = run.rounds.end().unwrap();
+            let number = |place| end - 1 + (which / 3usize.pow(place) % 3) as u64;
+            let acked: Vec<u64> = (0..length).map(number).collect();
+            run.acked(&acked);
+            // The next end is one at which a number can be past it.
+            if run.rounds.end() == Some(run.rounds.last_sent()) {
+                run.sent(run.rounds.last_sent() + 2);
+            }
+        }
+    }
+    // None is past the last number, and one is past the last but one.
+    run.fresh();
+    run.sent(u64::MAX - 1);
+    run.acked(&[0]);
+    run.sent(u64::MAX);
+    run.acked(&[u64::MAX - 1, 0, u64::MAX - 1]);
+    run.acked(&[u64::MAX, 0]);
+    run.acked(&[u64::MAX, 0]);
+    run.acked(&[0, u64::MAX, 0]);
 
     for turn in 0..12 {
         // Most runs count up; the last ones send and ack any numbers.
@@ -531,7 +590,9 @@ pub fn round_trip_counter() -> List {
                     run.sent(next);
                 }
                 8 => run.restart(),
-                9 => run.acked(&[]),
+                9 => {
+                    run.acked(&[]);
+                }
                 _ => {
                     let mut numbers = Vec::new();
                     for _ in 0..1 + random.below(3) {

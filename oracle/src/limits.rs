@@ -646,9 +646,17 @@ fn full(run: &mut Run) {
         total_lost: run.state[TOTAL_LOST],
         ..NONE
     };
+    let end = run.state[END];
+    let acked = |acked| {
+        Call::Event(Sample {
+            acked_length: 3,
+            acked,
+            ..same
+        })
+    };
     let ends = Call::Event(Sample {
         acked_length: 1,
-        acked: [run.state[END] + 1, 0, 0],
+        acked: [end + 1, 0, 0],
         ..same
     });
     let loses = Call::Event(Sample {
@@ -656,6 +664,11 @@ fn full(run: &mut Run) {
         ..same
     });
     run.expect_with(5, ROUND_TRIP_COUNT, full, ends);
+    // The greatest acked number counts, wherever it stands.
+    for ending in [[end + 1, end, 0], [end, end + 1, 0], [0, end, end + 1]] {
+        run.expect_with(5, ROUND_TRIP_COUNT, full, acked(ending));
+    }
+    run.expect_with(0, ROUND_TRIP_COUNT, full, acked([end, 0, end]));
     run.expect_with(5, LOSS_EVENTS_IN_ROUND, full, loses);
     run.expect_with(0, LOSS_EVENTS_IN_ROUND, full, ends);
     run.expect_with(0, ROUND_TRIP_COUNT, full, loses);

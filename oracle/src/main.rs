@@ -1,6 +1,8 @@
 //! Writes lists or frames with the original's answers into a folder, or
 //! compares it with a port; see README.md.
 
+#[cfg(feature = "archive")]
+mod archive;
 mod calls;
 mod diff;
 mod export_steps;
@@ -10,6 +12,10 @@ mod filters;
 mod frame;
 mod limits;
 mod list;
+#[cfg(feature = "archive")]
+mod list_steps;
+#[cfg(feature = "archive")]
+mod long_lists;
 mod malformed;
 mod marks;
 mod model;
@@ -64,6 +70,9 @@ Name one folder, into which the lists are written, or one of these:
                            to_u64 takes, or as the gain that scale and
                            bandwidth_mul take with NUMBER
   calls FILE               the same, on the calls of a file
+  lists SEED CALLS         compares the original with the archive, which is linked
+                           by the feature `archive`: events with long lists of
+                           acked numbers, among other calls
   serve                    is the original as a port";
 
 /// The seed of the kept frames' chosen calls, how many there are of each kind,
@@ -121,8 +130,19 @@ fn compare(arguments: &[&str]) -> bool {
             let steps = text::steps(&text).unwrap_or_else(|why| fail(&why));
             diff::follow(&mut port(), steps)
         }
+        ["lists", seed, calls] => long_lists(number(seed), number(calls)),
         _ => fail(USAGE),
     }
+}
+
+#[cfg(feature = "archive")]
+fn long_lists(seed: u64, calls: u64) -> bool {
+    long_lists::run(seed, calls)
+}
+
+#[cfg(not(feature = "archive"))]
+fn long_lists(_: u64, _: u64) -> bool {
+    fail("The command `lists` needs the archive: build with `--features archive`.")
 }
 
 fn port() -> Port {

@@ -17,7 +17,7 @@ use crate::replies::MOMENT;
 
 /// What has to occur, each at least `LEAST` times. Cases with the same number
 /// are of one point at which document 01 is silent or easily misread.
-const WANTED: [&str; 83] = [
+const WANTED: [&str; 87] = [
     "fact 02: queue rounds 0, the first queueing round sets reached",
     "fact 02: the same on a fresh model",
     "fact 02: minimum inflight = 2600 = target, queueing",
@@ -97,6 +97,10 @@ const WANTED: [&str; 83] = [
     "event: bandwidth_lo held up by the latest bandwidth",
     "event: a round's end lowers the latest bandwidth",
     "event: a round's end lowers the latest inflight",
+    "event: a round ends, and not by the last acked number",
+    "event: a round ends, and not by the first acked number",
+    "event: a round ends, and only by the acked number in the middle",
+    "event: no round ends, and an acked number is the end",
     "cap of a set inflight_lo lowers it",
     "cap of an unset inflight_lo",
     "slope at 30 rounds",
@@ -310,6 +314,7 @@ impl Marks {
 
         let ended = after[ROUND_ENDED] == 1;
         self.rounds += ended as u32;
+        self.out_of_order(sample.acked(), ended, before);
         self.mark(
             "event: a round's end lowers the latest bandwidth",
             ended && after[BANDWIDTH_LATEST] < before[BANDWIDTH_LATEST],
@@ -392,6 +397,27 @@ impl Marks {
         self.mark(
             "fact 11: inflight_lo would differ by the exact 1 - beta",
             inflight.max(bytes) != after[INFLIGHT_LO],
+        );
+    }
+
+    /// The acked numbers, in any order, of an event that ended a round or not.
+    fn out_of_order(&mut self, acked: &[u64], ended: bool, before: &State) {
+        let upto = |number: &u64| before[END_SET] == 1 && *number <= before[END];
+        self.mark(
+            "event: a round ends, and not by the last acked number",
+            ended && acked.last().is_some_and(upto),
+        );
+        self.mark(
+            "event: a round ends, and not by the first acked number",
+            ended && acked.first().is_some_and(upto),
+        );
+        self.mark(
+            "event: a round ends, and only by the acked number in the middle",
+            ended && matches!(acked, [first, _, last] if upto(first) && upto(last)),
+        );
+        self.mark(
+            "event: no round ends, and an acked number is the end",
+            !ended && before[END_SET] == 1 && acked.contains(&before[END]),
         );
     }
 

@@ -141,7 +141,7 @@ pub struct Record {
 }
 
 /// What the sampler answers to an event, the totals after the event, and the
-/// slice of acked numbers: the first `acked_length` of `acked`.
+/// slice of acked numbers, as they came: the first `acked_length` of `acked`.
 #[derive(Clone, Copy, Debug, Default)]
 pub struct Sample {
     pub bandwidth: Option<u64>,
@@ -372,6 +372,11 @@ impl Sample {
             acked_length: number(sample::ACKED_COUNT).min(MOST_ACKED as u64) as usize,
             acked,
         }
+    }
+
+    /// The slice of acked numbers.
+    pub fn acked(&self) -> &[u64] {
+        &self.acked[..self.acked_length]
     }
 }
 

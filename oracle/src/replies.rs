@@ -1,5 +1,6 @@
-//! The replies of the port, by document 01, "Replies and bounds": read from
-//! its words, apart from the port's code.
+//! The replies of the port, by document 01, "Replies and bounds", and by
+//! document 02 where it changes that: read from their words, apart from the
+//! port's code.
 
 use guovssalu_sys::table::argument::bdp;
 use guovssalu_sys::table::argument::check_persistent_queue;
@@ -56,6 +57,14 @@ pub const REFUSED_START: Start = Start {
 /// parameters or with the start's own: the first row of the table that holds,
 /// or 0.
 pub fn reply(call: &Call, state: &State, start: &Start) -> u64 {
+    match call {
+        Call::Event(sample) => reply_with(call, sample.acked(), state, start),
+        _ => reply_with(call, &[], state, start),
+    }
+}
+
+/// The same; an event has these acked numbers in place of its own.
+pub fn reply_with(call: &Call, acked: &[u64], state: &State, start: &Start) -> u64 {
     let moment = moment(call, state);
     if !stored(call, state) || takes_parameters(call) && !parameters(start) {
         1
@@ -65,7 +74,7 @@ pub fn reply(call: &Call, state: &State, start: &Start) -> u64 {
         3
     } else if total_falls(call, state) {
         4
-    } else if overflows(call, state, start) {
+    } else if overflows(call, acked, state, start) {
         5
     } else {
         0
@@ -73,10 +82,18 @@ pub fn reply(call: &Call, state: &State, start: &Start) -> u64 {
 }
 
 /// The number of the reply to a call that is refused for its words, none where
-/// they make a call. By docs/LAYOUT.md a malformed argument is a bad one, and so
-/// is a number that is no call's: 2. A malformed parameter is one out of bounds:
-/// 1, as where another number of row 1 is out of its bounds.
+/// they make a call, in a run that is lent no lists. By docs/LAYOUT.md a
+/// malformed argument is a bad one, and so is a number that is no call's: 2. A
+/// malformed parameter is one out of bounds: 1, as where another number of row 1
+/// is out of its bounds.
 pub fn malformed(words: &[u64], state: &State) -> Option<u64> {
+    malformed_with(words, 0, state)
+}
+
+/// The same in a run that is lent lists of so many words. More than three acked
+/// numbers stand in the lists, from the index on that stands in the call; where
+/// the lists don't have them all, it is a bad argument.
+pub fn malformed_with(words: &[u64], lists: usize, state: &State) -> Option<u64> {
     let start = REFUSED_START.with_parameters(&words[PARAMS_IN_CALL..]);
     let (number, arguments) = (words[NUMBER_IN_CALL], &words[ARGUMENTS_IN_CALL..]);
     let Some(call) = Call::of(number, arguments, &start) else {
@@ -98,7 +115,10 @@ pub fn malformed(words: &[u64], state: &State) -> Option<u64> {
                 sample::LAST_PACKET_SEND_STATE_IS_VALID,
                 sample::LAST_PACKET_SEND_STATE_IS_APP_LIMITED,
             ];
-            pairs.iter().any(pair) || flags.iter().any(flag) || words[sample::ACKED_COUNT] > 3
+            let count = words[sample::ACKED_COUNT] as u128;
+            let after = words[sample::ACKED_PACKETS] as u128 + count;
+            let outside = count > 3 && after > lists as u128;
+            pairs.iter().any(pair) || flags.iter().any(flag) || outside
         }
         Call::PersistentQueue { .. } => float(&check_persistent_queue::TARGET_GAIN),
         Call::SetPacingGain(_) => float(&set_pacing_gain::PACING_GAIN),
@@ -315,15 +335,14 @@ fn total_falls(call: &Call, state: &State) -> bool {
     }
 }
 
-/// Whether the call's rule adds 1 to a counter that is full.
-fn overflows(call: &Call, state: &State, start: &Start) -> bool {
+/// Whether the call's rule adds 1 to a counter that is full. It is the greatest
+/// acked number that ends a round.
+fn overflows(call: &Call, acked: &[u64], state: &State, start: &Start) -> bool {
     let full = |field: usize| state[field] == u64::MAX;
     match call {
         Call::Event(sample) => {
-            let acked = &sample.acked[..sample.acked_length];
-            let ends = acked
-                .last()
-                .is_some_and(|&last| state[END_SET] == 0 || last > state[END]);
+            let greatest = acked.iter().max();
+            let ends = greatest.is_some_and(|&it| state[END_SET] == 0 || it > state[END]);
             ends && full(ROUND_TRIP_COUNT)
                 || sample.total_lost > state[TOTAL_LOST] && full(LOSS_EVENTS_IN_ROUND)
         }

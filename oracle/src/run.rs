@@ -123,6 +123,21 @@ impl<'a> Run<'a> {
         }));
     }
 
+    /// An event that acks these numbers, and nothing else; whether it ended a
+    /// round.
+    pub fn acked(&mut self, numbers: &[u64]) -> bool {
+        let mut acked = [0; MOST_ACKED];
+        acked[..numbers.len()].copy_from_slice(numbers);
+        self.call(Call::Event(Sample {
+            total_acked: self.state[TOTAL_ACKED],
+            total_lost: self.state[TOTAL_LOST],
+            acked_length: numbers.len(),
+            acked,
+            ..NONE
+        }));
+        self.state[ROUND_ENDED] == 1
+    }
+
     /// An event with a sample of this bandwidth that ends no round.
     pub fn sampled(&mut self, bandwidth: u64) {
         self.event(

@@ -83,6 +83,19 @@ fn marked(run: &mut Run, usual: Start) {
     assert_eq!(run.state[PROBE_UP_ROUNDS], 30);
     run.call(Call::RaiseSlope { cwnd: BYTES });
     run.call(Call::RaiseSlope { cwnd: 0 });
+    // Request d: the greatest acked number ends the round, an empty list none.
+    for (acked, ends) in [
+        (&[6, 5][..], true),
+        (&[5, 6], true),
+        (&[4, 6, 5], true),
+        (&[5, 5, 4], false),
+    ] {
+        run.start(usual);
+        run.sent(0, 5, 1300);
+        assert!(!run.acked(&[]) && run.acked(&[0]));
+        run.sent(0, 7, 1300);
+        assert_eq!(run.acked(acked), ends, "{acked:?} at the end 5");
+    }
     // 12: a fresh model reports growth.
     run.start(usual);
     assert_eq!(run.call(Call::BandwidthGrowth), 1);

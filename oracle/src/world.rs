@@ -33,6 +33,7 @@ use crate::model::field::PROBE_UP_BYTES;
 use crate::model::field::PROBE_UP_ROUNDS;
 use crate::model::Call;
 use crate::model::Record;
+use crate::model::Sample;
 use crate::model::Start;
 use crate::model::State;
 use crate::model::FIELDS;
@@ -214,6 +215,9 @@ impl World {
     }
 
     fn call(&mut self, call: &Call) -> Answer {
+        if let Call::Event(sample) = call {
+            return self.event(sample, sample.acked());
+        }
         if let Call::Start(start) = call {
             self.start = *start;
         }
@@ -225,13 +229,19 @@ impl World {
         } else if let Call::Start(_) = call {
             self.start_refused();
         }
-        match call {
-            Call::Event(_) => {
-                let record = self.state[CARRIED..].to_vec();
-                self.answer(reply, answer, &record)
-            }
-            _ => self.answer(reply, answer, &[]),
+        self.answer(reply, answer, &[])
+    }
+
+    /// Takes an event with these acked numbers, of which there may be more than
+    /// a call has room for; the words of the answer.
+    pub fn event(&mut self, sample: &Sample, acked: &[u64]) -> Answer {
+        let call = Call::Event(*sample);
+        let reply = replies::reply_with(&call, acked, &self.state, &self.start);
+        if reply == 0 {
+            self.host.event_of(sample, acked);
+            self.state = self.host.state();
         }
+        self.answer(reply, 0, &self.state[CARRIED..])
     }
 
     /// Takes a call that is refused for its words. The record comes back as it

@@ -20,8 +20,5 @@ one-event-event-words κ a x y s t p q = p ∙ sym q
 pub one-sample-sample-from : OneReply sample.sample_from.Reads.Learnt
 one-sample-sample-from κ a x y s t p q = p ∙ sym q
 
-pub one-sample-acked-count : OneReply sample.acked_count.Reads.Learnt
-one-sample-acked-count κ a x y s t p q = p ∙ sym q
-
-pub one-sample-acked-numbers : OneReply sample.acked_numbers.Reads.Learnt
-one-sample-acked-numbers κ a x y s t p q = p ∙ sym q
+pub one-sample-greatest-acked : OneReply sample.greatest_acked.Reads.Learnt
+one-sample-greatest-acked κ a x y s t p q = p ∙ sym q

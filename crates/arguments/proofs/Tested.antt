@@ -1,13 +1,13 @@
 -- What passes the bounds is written as it was handed in (specs/Tested.antt). Assumes nothing.
-use Prim.Native.Nat.{ℕ, zero, suc, _^_, _≤_}
+use Prim.Native.Nat.{ℕ, zero, suc, _+_, _^_, _≤_, _<_}
 use mathlib.Core.Bool.{Bool, true, false, cond, not, _&&_, true≢false}
-use mathlib.Core.List.{List}
+use mathlib.Core.List.{List, [], _∷_, _++_}
 use mathlib.Core.Path.{_≡_, refl, sym, ap, subst, _∙_}
 use native.Mathlib.Omega.{arith}
 use lib.Dec.{T, ltb, leb, eqb}
 use lib.Ieee.{Float, nan, inf, fin, binary32, ofBits, toBits, le, isNan}
 use lib.Ieee.Bits.{toBits-ofBits}
-use lib.ListN.{getD}
+use lib.ListN.{length, getD, take, drop, length-take}
 use borrow.Author.Tests.{eqb-true, leb-true, ltb-true}
 use Rattle.units.specs.declared.maybe.MaybeBandwidth.the-variants.{Unset, Set}
 use Rattle.state.specs.Bounds.{all, within, maybeOk}
@@ -19,9 +19,10 @@ use Rattle.words.specs.declared.maybe.Maybe.{Maybe}
 use Rattle.words.specs.Word.{outside, orOutside, flagWord, flagOf, flagFits, floatWord, floatOf}
 use Rattle.words.specs.Maybe.{unset, held, isUnset, maybeOf, bandwidthMaybe, bandwidthOf, lengthMaybe, lengthOf}
 use Rattle.arguments.specs.CongestionEvent.{eventFits, eventFromWord, eventFrom, wordsFrom, eventWords}
-use Rattle.arguments.specs.Sample.{sampleFits, sampleFrom, sampleWords}
+use Rattle.arguments.specs.Sample.{ackedFits, ackedOf, sampleFits, sampleFrom, sampleWords}
 use Rattle.arguments.specs.Params.{paramsFrom, paramsWords}
 use Rattle.arguments.specs.Tested.{Tested}
+use Rattle.arguments.proofs.Acked.{acked-listed, place-fits, many-long}
 
 -- ---- a flag
 flag-same : (w : ℕ) → flagFits w ≡ true → flagWord (flagOf w) ≡ w
@@ -100,16 +101,29 @@ sample-same l h =
     let a = flagFits (getD l 7 0) in
     let b = flagFits (getD l 12 0) in
     let c = flagFits (getD l 13 0) in
-    let d = leb (getD l 18 0) 3 in
+    let d = ackedFits l in
     let app = flag-same (getD l 7 0) (and-left a b (and-left (a && b) c (and-left (a && b && c) d fits))) in
     let valid = flag-same (getD l 12 0) (and-right a b (and-left (a && b) c (and-left (a && b && c) d fits))) in
     let limited = flag-same (getD l 13 0) (and-right (a && b) c (and-left (a && b && c) d fits)) in
     simp (fits, rate, send, ack, time, app, valid, limited)
 
-count-few : (l : List ℕ) → all (sampleTests (sampleFrom l)) ≡ true → getD l 18 0 ≤ 3
+-- so that the acked numbers are there
+sample-acked : (l : List ℕ) → all (sampleTests (sampleFrom l)) ≡ true → ackedFits l ≡ true
 unfolding sampleFits
-count-few l h =
-    leb-true (getD l 18 0) 3 (and-right (flagFits (getD l 7 0) && flagFits (getD l 12 0) && flagFits (getD l 13 0)) (leb (getD l 18 0) 3) (sample-fine l h))
+sample-acked l h = and-right (flagFits (getD l 7 0) && flagFits (getD l 12 0) && flagFits (getD l 13 0)) (ackedFits l) (sample-fine l h)
+
+acked-count : (l : List ℕ) → all (sampleTests (sampleFrom l)) ≡ true → length (ackedOf l) ≡ getD l 18 0
+unfolding ackedOf
+acked-count l h = go (leb (getD l 18 0) 3) refl
+  where
+    go : (t : Bool) → leb (getD l 18 0) 3 ≡ t → length (cond t (take (getD l 18 0) (getD l 19 0 ∷ getD l 20 0 ∷ getD l 21 0 ∷ [])) (cond (ackedFits l) (take (getD l 18 0) (drop (49 + getD l 19 0) l)) [])) ≡ getD l 18 0
+    go true e = rw length-take (omega (arith, leb-true (getD l 18 0) 3 e))
+    go false e = rw (sample-acked l h) (many-long l e (sample-acked l h))
+
+acked-listed-in : (l lists : List ℕ) → length l ≡ 49 → 3 < getD l 18 0 → all (sampleTests (sampleFrom (l ++ lists))) ≡ true → (getD l 19 0 + getD l 18 0 ≤ length lists) × (ackedOf (l ++ lists) ≡ take (getD l 18 0) (drop (getD l 19 0) lists))
+acked-listed-in l lists n more h =
+    let fits = sample-acked (l ++ lists) h in
+    (place-fits l lists n more fits, acked-listed l lists n more fits)
 
 params-same : (l : List ℕ) → paramsOk (paramsFrom l) ≡ true → paramsWords (paramsFrom l) ≡ wordsFrom l 38 11
 unfolding paramsOk paramsFrom paramsWords wordsFrom
@@ -142,7 +156,8 @@ tested =
     record {
       event = event-same;
       sample = sample-same;
-      count = count-few;
+      count = acked-count;
+      listed = acked-listed-in;
       gain = float-same 0x3a80_0000 0x4100_0000;
       parameters = params-same;
     }

@@ -2,4 +2,5 @@
 pub mod Params
 pub mod CongestionEvent
 pub mod Sample
+pub mod Alike
 pub mod Tested

@@ -1,19 +1,40 @@
--- What an event's call is given: the sampler's answer in words 1 to 17 of the call, the acked packets' numbers in 18 to
--- 21. A flag that no writer writes, and a count above the room, make the extra acked bytes out of bounds. Definitions
--- only.
-use Prim.Native.Nat.{ℕ, min}
-use mathlib.Core.Bool.{Bool, _&&_}
+-- What an event's call is given: the sampler's answer in words 1 to 17 of the call, the acked packets' numbers by words
+-- 18 to 21. A flag that no writer writes, and a place outside of the lists, make the extra acked bytes out of bounds.
+-- Definitions only.
+use Prim.Native.Nat.{ℕ, _+_}
+use mathlib.Core.Bool.{Bool, cond, _&&_, _||_}
 use mathlib.Core.List.{List, [], _∷_, _++_}
 use lib.Dec.{leb}
-use lib.ListN.{take}
+use lib.ListN.{length, take, drop}
 use Rattle.state.specs.declared.congestion_event.CongestionEventSample.{CongestionEventSample}
 use Rattle.words.specs.Word.{word, orOutside, flagWord, flagOf, flagFits}
 use Rattle.words.specs.Maybe.{maybeWords, bandwidthMaybe, bandwidthOf, lengthMaybe, lengthOf}
 use Rattle.arguments.specs.CongestionEvent.{sendTimeStateOf}
 
--- its three flags, sample_is_app_limited and the send state's is_valid and is_app_limited; the count of acked numbers
+-- ---- the acked numbers: word 18 says how many. Up to three are the first of words 19 to 21. More stand in the lists,
+-- from the index on that word 19 says. Of a call the words 0 to 48 are its own, and the words from 49 on are the lists'
+-- (`callAt`, crates/dispatch/specs/OneCall.antt)
+abbrev pub ackedCount : List ℕ → ℕ
+ackedCount l = word l 18
+
+abbrev pub listStart : List ℕ → ℕ
+listStart l = 49 + word l 19
+
+-- the lists have so many from there on: always false where more than three are to come from no lists
+unfoldable pub ackedFits : List ℕ → Bool
+ackedFits l = leb (ackedCount l) 3 || leb (listStart l + ackedCount l) (length l)
+
+-- where they have not, there are none, and the event is refused
+unfoldable pub ackedOf : List ℕ → List ℕ
+ackedOf l =
+    cond (leb (ackedCount l) 3)
+    (take (ackedCount l) (word l 19 ∷ word l 20 ∷ word l 21 ∷ []))
+    (cond (ackedFits l) (take (ackedCount l) (drop (listStart l) l)) [])
+
+-- ---- the sampler's answer. Its three flags, sample_is_app_limited and the send state's is_valid and is_app_limited;
+-- and the place of the acked numbers
 unfoldable pub sampleFits : List ℕ → Bool
-sampleFits l = flagFits (word l 7) && flagFits (word l 12) && flagFits (word l 13) && leb (word l 18) 3
+sampleFits l = flagFits (word l 7) && flagFits (word l 12) && flagFits (word l 13) && ackedFits l
 
 unfoldable pub sampleFrom : List ℕ → CongestionEventSample
 sampleFrom l =
@@ -28,16 +49,6 @@ sampleFrom l =
       state = sendTimeStateOf (word l 12) (word l 13) (word l 14) (word l 15);
       totals = record { acked = word l 16; lost = word l 17 };
     }
-
--- the first of three numbers, as many as word 18 says, 0 to 3
-abbrev pub ackedCount : List ℕ → ℕ
-ackedCount l = min (word l 18) 3
-
-abbrev pub ackedNumbers : List ℕ → List ℕ
-ackedNumbers l = word l 19 ∷ word l 20 ∷ word l 21 ∷ []
-
-unfoldable pub ackedOf : List ℕ → List ℕ
-ackedOf l = take (ackedCount l) (ackedNumbers l)
 
 -- ---- into words: what a caller writes for the sampler's answer (docs/LAYOUT.md)
 unfoldable pub sampleWords : CongestionEventSample → List ℕ

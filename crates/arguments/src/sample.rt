@@ -1,18 +1,24 @@
-// What an event's call is given: the sampler's answer, words 1 to 17, and the acked packets' numbers, 18 to 21.
+// What an event's call is given: the sampler's answer, words 1 to 17, and the acked packets' numbers, by words 18 to 21.
 ghost use mathlib.Core.Path.{_≡_};
-ghost use Rattle.arguments.specs.Sample.{sampleFits, sampleFrom, ackedCount, ackedNumbers};
+ghost use mathlib.Core.List.{_++_};
+ghost use lib.ListN.{length};
+ghost use Rattle.filters.specs.RoundTripCounter.{greatest};
+ghost use Rattle.arguments.specs.Sample.{ackedFits, sampleFits, sampleFrom, ackedOf};
 use crate::congestion_event::send_time_state_of;
-use numbers::smaller;
+use filters::round_trip_counter::greatest_of;
+use numbers::less;
 use state::congestion_event::CongestionEventSample;
 use state::parts::Totals;
+use units::MaybeNumber;
 use words::maybe::bandwidth_of;
 use words::maybe::length_of;
 use words::word::flag_fits;
 use words::word::or_outside;
 
-// The sampler's answer in a call's words.
-pub fn sample_from(n: &[u64; 49]) -> CongestionEventSample
-    ensures { λ r. ⌜ r ≡ sampleFrom (now (n .entry)) ⌝ }
+// The sampler's answer in a call's words, with the lists that they can name a place of.
+pub fn sample_from(n: &[u64; 49], lists: &[u64]) -> CongestionEventSample
+    requires { ⌜ length (now n) ≡ 49 ⌝ }
+    ensures { λ r. ⌜ r ≡ sampleFrom (now (n .entry) ++ now (lists .entry)) ⌝ }
 {
     CongestionEventSample {
         bandwidth: bandwidth_of(n[1], n[2]),
@@ -21,7 +27,7 @@ pub fn sample_from(n: &[u64; 49]) -> CongestionEventSample
         applimited: n[7] == 1,
         rtt: length_of(n[8], n[9]),
         inflight: n[10],
-        extra: or_outside(sample_fits(n), n[11]),
+        extra: or_outside(sample_fits(n, lists), n[11]),
         state: send_time_state_of(n[12], n[13], n[14], n[15]),
         totals: Totals {
             acked: n[16],
@@ -30,23 +36,38 @@ pub fn sample_from(n: &[u64; 49]) -> CongestionEventSample
     }
 }
 
-// Whether a writer writes the sample's three flags and the count of acked numbers.
-fn sample_fits(n: &[u64; 49]) -> bool
-    ensures { λ r. ⌜ r ≡ sampleFits (now (n .entry)) ⌝ }
+// Whether a writer writes the sample's three flags, and the acked numbers are there.
+fn sample_fits(n: &[u64; 49], lists: &[u64]) -> bool
+    requires { ⌜ length (now n) ≡ 49 ⌝ }
+    ensures { λ r. ⌜ r ≡ sampleFits (now (n .entry) ++ now (lists .entry)) ⌝ }
 {
-    flag_fits(n[7]) & flag_fits(n[12]) & flag_fits(n[13]) & (n[18] <= 3)
+    flag_fits(n[7]) & flag_fits(n[12]) & flag_fits(n[13]) & acked_fits(n, lists)
 }
 
-// How many of the three numbers count.
-pub fn acked_count(n: &[u64; 49]) -> usize
-    ensures { λ r. ⌜ r ≡ ackedCount (now (n .entry)) ⌝ }
+// Whether there are as many acked numbers as the count says: up to three in the call, more in the lists.
+fn acked_fits(n: &[u64; 49], lists: &[u64]) -> bool
+    requires { ⌜ length (now n) ≡ 49 ⌝ }
+    ensures { λ r. ⌜ r ≡ ackedFits (now (n .entry) ++ now (lists .entry)) ⌝ }
 {
-    smaller(n[18], 3) as usize
+    let count = n[18];
+    let room = lists.len() as u64;
+    (count <= 3) | ((count <= room) & (n[19] <= less(room, count)))
 }
 
-// The three numbers.
-pub fn acked_numbers(n: &[u64; 49]) -> [u64; 3]
-    ensures { λ r. ⌜ r ≡ ackedNumbers (now (n .entry)) ⌝ }
+// The greatest of the acked numbers, if there are any.
+pub fn greatest_acked(n: &[u64; 49], lists: &[u64]) -> MaybeNumber
+    requires { ⌜ length (now n) ≡ 49 ⌝ }
+    ensures { λ r. ⌜ r ≡ greatest (ackedOf (now (n .entry) ++ now (lists .entry))) ⌝ }
 {
-    [n[19], n[20], n[21]]
+    let count = n[18];
+    if count <= 3 {
+        let few = [n[19], n[20], n[21]];
+        return greatest_of(&few[..count as usize]);
+    }
+    if !acked_fits(n, lists) {
+        return MaybeNumber::Unset;
+    }
+    let start = n[19] as usize;
+    let end = start + count as usize;
+    greatest_of(&lists[start..end])
 }

@@ -12,8 +12,8 @@ pub one-send :
 one-send κ a x y s t p q = (p .0 ∙ sym (q .0), p .1 ∙ sym (q .1))
 
 pub one-event-start :
-    (κ : Lfts 2) (a : Dens κ call.event_start.Kinds.ps) (x y : resT call.event_start.Kinds.r κ .Denot) (s t : AtExit (endedOf 2 call.event_start.Kinds.ps call.event_start.Kinds.r) κ) →
-    call.event_start.Reads.Learnt κ a x s → call.event_start.Reads.Learnt κ a y t → (x ≡ y) × (now (s .1 .1 .1 .1 .0) ≡ now (t .1 .1 .1 .1 .0))
+    (κ : Lfts 3) (a : Dens κ call.event_start.Kinds.ps) (x y : resT call.event_start.Kinds.r κ .Denot) (s t : AtExit (endedOf 3 call.event_start.Kinds.ps call.event_start.Kinds.r) κ) →
+    call.event_start.Reads.Learnt κ a x s → call.event_start.Reads.Learnt κ a y t → (x ≡ y) × (now (s .1 .1 .1 .1 .1 .0) ≡ now (t .1 .1 .1 .1 .1 .0))
 one-event-start κ a x y s t p q = (p .0 ∙ sym (q .0), p .1 ∙ sym (q .1))
 
 pub one-event-finish :

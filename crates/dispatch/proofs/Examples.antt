@@ -20,12 +20,12 @@ use Rattle.layout.specs.NetworkModel.{modelFrom}
 use Rattle.layout.specs.Cycle.{cycleFrom}
 use Rattle.arguments.specs.Params.{paramsFrom}
 use Rattle.arguments.specs.CongestionEvent.{eventFits, eventFromWord, wordsFrom, eventWords}
-use Rattle.arguments.specs.Sample.{sampleFits, sampleFrom, ackedOf}
+use Rattle.arguments.specs.Sample.{ackedFits, sampleFits, sampleFrom, ackedOf}
 use Rattle.calls.specs.Change.{changeOf, changeMore}
 use Rattle.calls.specs.Enter.{enterOf}
 use Rattle.dispatch.specs.Outcome.{eventOutcome, finishOutcome, enterOutcome, changeOutcome, outcomeOf}
 use Rattle.dispatch.specs.Examples.{outcomeExamples}
 
 pub outcome-examples : all outcomeExamples ≡ true
-unfolding all outcomeExamples Ieee.ofBits Ieee.le maxGet maxUpdate endsRound roundsFull roundsEnded roundsAcked settled within paramsOk roundOk modelTests rowOf storedNumber givenNumber H.eventTests H.sampleTests E.stateAfter E.isFull E.eventNumber E.eventAfter E.eventNext E.roundNext E.roundAfter E.deliveredBy finishNumber cycleTests entryNumber modelFrom cycleFrom paramsFrom eventFits eventFromWord wordsFrom eventWords sampleFits sampleFrom ackedOf changeOf changeMore enterOf eventOutcome finishOutcome enterOutcome changeOutcome outcomeOf
+unfolding all outcomeExamples Ieee.ofBits Ieee.le maxGet maxUpdate endsRound roundsFull roundsEnded roundsAcked settled within paramsOk roundOk modelTests rowOf storedNumber givenNumber H.eventTests H.sampleTests E.stateAfter E.isFull E.eventNumber E.eventAfter E.eventNext E.roundNext E.roundAfter E.deliveredBy finishNumber cycleTests entryNumber modelFrom cycleFrom paramsFrom eventFits eventFromWord wordsFrom eventWords ackedFits sampleFits sampleFrom ackedOf changeOf changeMore enterOf eventOutcome finishOutcome enterOutcome changeOutcome outcomeOf
 outcome-examples = refl

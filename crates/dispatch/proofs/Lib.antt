@@ -1,4 +1,5 @@
 -- Laws, and theorems about the contracts.
+pub mod Alike
 pub mod Examples
 pub mod OneCall
 pub mod Parts

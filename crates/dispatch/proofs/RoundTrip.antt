@@ -1,5 +1,6 @@
 -- What was written is read back as it was (specs/RoundTrip.antt): word by word. Assumes nothing.
-use Prim.Native.Nat.{ℕ, _+_, _≤_}
+use Prim.Native.Nat.{ℕ, _+_}
+use mathlib.Core.Bool.{true}
 use mathlib.Core.List.{List, _∷_, _++_}
 use mathlib.Core.Path.{_≡_, refl, _∙_}
 use lib.Dec.{T}
@@ -7,7 +8,6 @@ use lib.Ieee.{binary32, fits}
 use native.Mathlib.Nat.{add-zero}
 use lib.ListN.{length, getD}
 use lib.Seq.{getD-append-add}
-use borrow.Author.Tests.{le-leb}
 use Rattle.state.specs.declared.network_model.NetworkModel.{NetworkModel}
 use Rattle.state.specs.declared.params.Params.{Params}
 use Rattle.state.specs.declared.congestion_event.CongestionEvent.{CongestionEvent}
@@ -16,7 +16,7 @@ use Rattle.state.specs.declared.cycle.Cycle.{Cycle}
 use Rattle.layout.specs.NetworkModel.{modelFrom, modelWords}
 use Rattle.layout.specs.Cycle.{cycleFrom, cycleWords}
 use Rattle.arguments.specs.CongestionEvent.{eventFits, eventFromWord, eventFrom, eventWords}
-use Rattle.arguments.specs.Sample.{sampleFits, sampleFrom, sampleWords}
+use Rattle.arguments.specs.Sample.{ackedFits, sampleFits, sampleFrom, sampleWords}
 use Rattle.arguments.specs.Params.{paramsFrom, paramsWords}
 use Rattle.dispatch.specs.RoundTrip.{AreF32, RoundTrip}
 use Rattle.words.proofs.Back.{flag-written, flag-back, float-back, bandwidth-back, plain-back, plain-back, length-back}
@@ -53,9 +53,9 @@ record-length : (e : CongestionEvent) → length (eventWords e) ≡ 16
 unfolding eventWords
 record-length e = refl
 
-sample-back : (number : ℕ) (after : List ℕ) (s : CongestionEventSample) → getD after 0 0 ≤ 3 → sampleFrom (number ∷ (sampleWords s ++ after)) ≡ s
+sample-back : (number : ℕ) (after : List ℕ) (s : CongestionEventSample) → ackedFits (number ∷ (sampleWords s ++ after)) ≡ true → sampleFrom (number ∷ (sampleWords s ++ after)) ≡ s
 unfolding sampleFrom sampleFits sampleWords
-sample-back number after s few = simp (flag-written, le-leb (getD after 0 0) 3 few, bandwidth-back, length-back, flag-back)
+sample-back number after s fits = simp (fits, flag-written, bandwidth-back, length-back, flag-back)
 
 module _ (before after : List ℕ) (p : Params) (h : length before ≡ 38) where
   at : (i : ℕ) → getD (before ++ (paramsWords p ++ after)) (38 + i) 0 ≡ getD (paramsWords p ++ after) i 0

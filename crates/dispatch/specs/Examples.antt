@@ -38,6 +38,13 @@ shows words state n event =
 abbrev replies : List ℕ → ℕ → Bool
 replies words n = shows words sound n (zeros 16)
 
+-- an event in a model whose round ends at `end`, with lists of 9, 4, 1, 2 and 3, that names `count` numbers of them
+-- from `start` on: its answer is the number n, and these 16 words
+abbrev lists : (count start end n : ℕ) → List ℕ → Bool
+lists count start end n event =
+    let words = with (with (call 3) 18 count) 19 start ++ (9 ∷ 4 ∷ 1 ∷ 2 ∷ 3 ∷ []) in
+    shows words (with (with sound 2 1) 3 end) n event
+
 unfoldable pub outcomeExamples : List Bool
 outcomeExamples =
     -- numbers that are no call's; with a stored number out of bounds it is 1
@@ -66,9 +73,24 @@ outcomeExamples =
     ∷ replies (with (call 4) 33 1) 2
     ∷ replies (with (call 4) 30 2) 2
     ∷ replies (with (call 4) 28 1) 0
-    -- an event that is refused, for a flag of 7, a pair of 0 and 9, or a count of 4: its record comes back as it was
+    -- an event that is refused, for a flag of 7, a pair of 0 and 9, or a count of 4 where no lists are lent: its record
+    -- comes back as it was
     ∷ shows (with (with (call 3) 29 7) 33 9) sound 2 (with (with (zeros 16) 7 7) 11 9)
     ∷ shows (with (with (call 3) 18 4) 23 5) sound 2 (with (zeros 16) 1 5)
     ∷ shows (with (with (call 3) 7 2) 23 5) sound 2 (with (zeros 16) 1 5)
     ∷ shows (with (call 3) 18 3) sound 0 (with (zeros 16) 6 1)
+    -- four numbers of five words of lists: from word 0 or 1 on, not from 2 on; five from 0 on, and not six; places past
+    -- the last number. The round's end is 5, so that 9 ends it
+    ∷ lists 4 0 5 0 (with (zeros 16) 6 1)
+    ∷ lists 4 1 5 0 (zeros 16)
+    ∷ lists 4 2 5 2 (zeros 16)
+    ∷ lists 5 0 5 0 (with (zeros 16) 6 1)
+    ∷ lists 6 0 5 2 (zeros 16)
+    ∷ lists 4 0 9 0 (zeros 16)
+    ∷ lists 4 (2 ^ 64 - 1) 5 2 (zeros 16)
+    ∷ lists (2 ^ 64 - 1) 0 5 2 (zeros 16)
+    ∷ lists (2 ^ 64 - 1) (2 ^ 64 - 1) 5 2 (zeros 16)
+    -- of three in the call the first ends it, whatever the lists hold
+    ∷ lists 3 7 5 0 (with (zeros 16) 6 1)
+    ∷ lists 0 7 5 0 (zeros 16)
     ∷ []

@@ -2,5 +2,6 @@
 pub mod Examples
 pub mod Inner
 pub mod OneCall
+pub mod OnlyGreatest
 pub mod Outcome
 pub mod RoundTrip

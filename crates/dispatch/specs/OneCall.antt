@@ -1,12 +1,17 @@
 -- One call of a run in bytes: its words, and the words of its answer (docs/LAYOUT.md).
 use Prim.Native.Nat.{ℕ}
-use mathlib.Core.List.{List, [], _∷_}
+use mathlib.Core.List.{List, [], _∷_, _++_}
 use Rattle.words.specs.Words.{wordsAt}
 use Rattle.dispatch.specs.declared.outcome.Outcome.{Outcome}
 
--- the words of the call at an index
-abbrev pub callAt : List ℕ → ℕ → List ℕ
-callAt src at = wordsAt src at 49
+-- the 49 words of the call at an index
+abbrev pub ownAt : (src : List ℕ) → ℕ → List ℕ
+ownAt src at = wordsAt src at 49
+
+-- and after them the words of the lists that the run was lent, of which a call can name a place: word 49 + i is word i
+-- of the lists
+abbrev pub callAt : (src lists : List ℕ) → ℕ → List ℕ
+callAt src lists at = ownAt src at ++ lists
 
 -- docs/LAYOUT.md, "An answer": the reply's number, the answer, the event's record: 18 words, 144 bytes
 unfoldable pub answerWords : Outcome → List ℕ

@@ -1,11 +1,12 @@
 -- What was written is read back as it was: of every model, cycle, record, sampler's answer and parameters, within
 -- document 01's bounds or not. Definitions only.
-use Prim.Native.Nat.{ℕ, _≤_}
+use Prim.Native.Nat.{ℕ}
+use mathlib.Core.Bool.{true}
 use mathlib.Core.List.{List, _∷_, _++_}
 use mathlib.Core.Path.{_≡_}
 use lib.Dec.{T}
 use lib.Ieee.{Float, binary32, fits}
-use lib.ListN.{length, getD}
+use lib.ListN.{length}
 use Rattle.state.specs.declared.network_model.NetworkModel.{NetworkModel}
 use Rattle.state.specs.declared.params.Params.{Params}
 use Rattle.state.specs.declared.congestion_event.CongestionEvent.{CongestionEvent}
@@ -14,7 +15,7 @@ use Rattle.state.specs.declared.cycle.Cycle.{Cycle}
 use Rattle.layout.specs.NetworkModel.{modelFrom, modelWords}
 use Rattle.layout.specs.Cycle.{cycleFrom, cycleWords}
 use Rattle.arguments.specs.CongestionEvent.{eventFrom, eventWords}
-use Rattle.arguments.specs.Sample.{sampleFrom, sampleWords}
+use Rattle.arguments.specs.Sample.{ackedFits, sampleFrom, sampleWords}
 use Rattle.arguments.specs.Params.{paramsFrom, paramsWords}
 use Rattle.words.specs.Word.{floatWord, floatOf}
 
@@ -38,9 +39,9 @@ pub record RoundTrip : Type 0 where
   -- the state takes 50 words, the record 16
   pub stateLength : (m : NetworkModel) (c : Cycle) → length (modelWords m ++ cycleWords c) ≡ 50
   pub eventLength : (e : CongestionEvent) → length (eventWords e) ≡ 16
-  -- the sampler's answer in words 1 to 17 of a call, with a count of acked numbers that fits after it
-  pub sample : (number : ℕ) (after : List ℕ) (s : CongestionEventSample) → getD after 0 0 ≤ 3 →
-      sampleFrom (number ∷ (sampleWords s ++ after)) ≡ s
+  -- the sampler's answer in words 1 to 17 of a call, with acked numbers that are there after it
+  pub sample : (number : ℕ) (after : List ℕ) (s : CongestionEventSample) →
+      let l = number ∷ (sampleWords s ++ after) in ackedFits l ≡ true → sampleFrom l ≡ s
   -- the parameters in words 38 to 48
   pub parameters : (before after : List ℕ) (p : Params) → length before ≡ 38 → AreF32 p →
       paramsFrom (before ++ (paramsWords p ++ after)) ≡ p

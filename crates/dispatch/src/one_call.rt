@@ -13,7 +13,7 @@ ghost use Rattle.state.specs.Answers.{settled};
 ghost use Rattle.arguments.specs.CongestionEvent.{eventIn, eventWords};
 ghost use Rattle.dispatch.specs.Outcome.{noEvent, sendNumber, sendLeaves, eventStartNumber, eventStartLeaves, eventStartWords, eventFinishNumber, eventFinishLeaves};
 ghost use Rattle.dispatch.specs.Inner.{otherOutcome};
-ghost use Rattle.dispatch.specs.OneCall.{callAt, answerWords};
+ghost use Rattle.dispatch.specs.OneCall.{ownAt, callAt, answerWords};
 use crate::outcome::Outcome;
 use crate::outcome::carry_out;
 use crate::outcome::no_event;
@@ -21,8 +21,7 @@ use arguments::congestion_event::event_from;
 use arguments::congestion_event::event_in;
 use arguments::congestion_event::event_words;
 use arguments::params::params_from;
-use arguments::sample::acked_count;
-use arguments::sample::acked_numbers;
+use arguments::sample::greatest_acked;
 use arguments::sample::sample_from;
 use events::finish_tested;
 use events::start_tested;
@@ -45,8 +44,8 @@ pub fn send(
     to: usize,
 ) -> NetworkModel
     requires { ⌜ (at + 392 ≤ length (now calls)) × (to + 144 ≤ length (now answers)) × (fine ≡ modelOk model) ⌝ }
-    ensures { λ r. ⌜ r ≡ sendLeaves (callAt (now (calls .entry)) at) model ⌝ }
-    ensures { λ _. ⌜ now (answers .exit) ≡ sets (now (answers .entry)) to (allBytes (sendNumber (callAt (now (calls .entry)) at) model ∷ 0 ∷ noEvent)) ⌝ }
+    ensures { λ r. ⌜ r ≡ sendLeaves (ownAt (now (calls .entry)) at) model ⌝ }
+    ensures { λ _. ⌜ now (answers .exit) ≡ sets (now (answers .entry)) to (allBytes (sendNumber (ownAt (now (calls .entry)) at) model ∷ 0 ∷ noEvent)) ⌝ }
 {
     let time = get_word(calls, at + 8);
     let inflight = get_word(calls, at + 16);
@@ -58,29 +57,28 @@ pub fn send(
     changed.model
 }
 
-// Call 3, an event's start.
+// Call 3, an event's start, whose acked numbers can stand in the lists.
 pub fn event_start(
     model: NetworkModel,
     fine: bool,
     calls: &[u8],
     at: usize,
+    lists: &[u64],
     answers: &mut [u8],
     to: usize,
 ) -> NetworkModel
     requires { ⌜ (at + 392 ≤ length (now calls)) × (to + 144 ≤ length (now answers)) × (fine ≡ modelOk model) ⌝ }
-    ensures { λ r. ⌜ r ≡ eventStartLeaves (callAt (now (calls .entry)) at) model ⌝ }
-    ensures { λ _. ⌜ now (answers .exit) ≡ sets (now (answers .entry)) to (allBytes (eventStartNumber (callAt (now (calls .entry)) at) model ∷ 0 ∷ eventStartWords (callAt (now (calls .entry)) at) model)) ⌝ }
+    ensures { λ r. ⌜ r ≡ eventStartLeaves (callAt (now (calls .entry)) (now (lists .entry)) at) model ⌝ }
+    ensures { λ _. ⌜ now (answers .exit) ≡ sets (now (answers .entry)) to (allBytes (eventStartNumber (callAt (now (calls .entry)) (now (lists .entry)) at) model ∷ 0 ∷ eventStartWords (callAt (now (calls .entry)) (now (lists .entry)) at) model)) ⌝ }
 {
     let words = call_at(calls, at);
-    let acked = acked_numbers(&words);
-    let few = acked_count(&words);
     let happened = start_tested(
         model,
         fine,
         params_from(&words),
         event_from(&words),
-        sample_from(&words),
-        &acked[..few],
+        sample_from(&words, lists),
+        greatest_acked(&words, lists),
     );
     let reply = happened.reply;
     let event = happened.event;
@@ -115,8 +113,8 @@ pub fn event_finish(
     to: usize,
 ) -> NetworkModel
     requires { ⌜ (at + 392 ≤ length (now calls)) × (to + 144 ≤ length (now answers)) × (fine ≡ modelOk model) ⌝ }
-    ensures { λ r. ⌜ r ≡ eventFinishLeaves (callAt (now (calls .entry)) at) model ⌝ }
-    ensures { λ _. ⌜ now (answers .exit) ≡ sets (now (answers .entry)) to (allBytes (eventFinishNumber (callAt (now (calls .entry)) at) model ∷ 0 ∷ noEvent)) ⌝ }
+    ensures { λ r. ⌜ r ≡ eventFinishLeaves (ownAt (now (calls .entry)) at) model ⌝ }
+    ensures { λ _. ⌜ now (answers .exit) ≡ sets (now (answers .entry)) to (allBytes (eventFinishNumber (ownAt (now (calls .entry)) at) model ∷ 0 ∷ noEvent)) ⌝ }
 {
     let words = call_at(calls, at);
     let changed = finish_tested(model, fine, event_from(&words));
@@ -135,8 +133,8 @@ pub fn other(
     to: usize,
 ) -> Outcome
     requires { ⌜ (at + 392 ≤ length (now calls)) × (to + 144 ≤ length (now answers)) ⌝ }
-    ensures { λ r. ⌜ r ≡ otherOutcome (callAt (now (calls .entry)) at) model cycle ⌝ }
-    ensures { λ _. ⌜ now (answers .exit) ≡ sets (now (answers .entry)) to (allBytes (answerWords (otherOutcome (callAt (now (calls .entry)) at) model cycle))) ⌝ }
+    ensures { λ r. ⌜ r ≡ otherOutcome (ownAt (now (calls .entry)) at) model cycle ⌝ }
+    ensures { λ _. ⌜ now (answers .exit) ≡ sets (now (answers .entry)) to (allBytes (answerWords (otherOutcome (ownAt (now (calls .entry)) at) model cycle))) ⌝ }
 {
     let words = call_at(calls, at);
     let outcome = carry_out(model, cycle, &words);
@@ -148,7 +146,7 @@ pub fn other(
 // The words of the call at an index.
 fn call_at(calls: &[u8], at: usize) -> [u64; 49]
     requires { ⌜ at + 392 ≤ length (now calls) ⌝ }
-    ensures { λ r. ⌜ r ≡ callAt (now (calls .entry)) at ⌝ }
+    ensures { λ r. ⌜ r ≡ ownAt (now (calls .entry)) at ⌝ }
 {
     let mut words = [0u64; 49];
     get_words(calls, at, &mut words);

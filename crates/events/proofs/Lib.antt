@@ -2,3 +2,4 @@
 pub mod Room
 pub mod Determined
 pub mod Examples
+pub mod OnlyGreatest

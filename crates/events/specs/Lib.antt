@@ -1,3 +1,4 @@
 -- What an event must leave.
 pub mod Event
 pub mod Examples
+pub mod OnlyGreatest

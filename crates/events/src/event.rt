@@ -4,12 +4,14 @@ ghost use mathlib.Core.Bool.{true, false};
 ghost use Prim.Native.Nat.{_+_, _-_, _^_, _<_};
 ghost use lib.Dec.{ltb, eqb};
 ghost use Rattle.units.specs.Reply.{number};
+ghost use Rattle.filters.specs.RoundTripCounter.{listed};
 ghost use Rattle.state.specs.Answers.{settled};
 ghost use Rattle.state.specs.NetworkModel.{modelOk};
 ghost use Rattle.events.specs.Event.{cwndlimitedAfter, stateAfter, isChanged, maxbwAfter, bandwidthAfter, minrttAfter, rttAfter, deliveredBy, roundAfter, raisedBandwidth, latestRaised, seedOf, startOf, newestOf, latestAfter, eventAfter, eventNext, maxbwNext, roundNext, adaptLowerBounds, modelAfter, modelNext, isLower, isFull, eventNumber, finishNumber, finishNext};
 use filters::MaxBandwidthFilter;
 use filters::MinRttFilter;
 use filters::RoundTripCounter;
+use filters::round_trip_counter::greatest_of;
 use numbers::larger;
 use numbers::less;
 use numbers::smaller;
@@ -29,6 +31,7 @@ use state::refusals::refusal;
 use units::Bandwidth;
 use units::MaybeBandwidth;
 use units::MaybeDuration;
+use units::MaybeNumber;
 use units::Moment;
 use units::Reply;
 use units::counter::FULL;
@@ -57,33 +60,34 @@ pub fn on_congestion_event_start(
         (eventNext model event sample (now (acked .entry)))
         event ⌝ }
 {
-    start_tested(model, model.ok(), params, event, sample, acked)
+    let most = greatest_of(acked);
+    start_tested(model, model.ok(), params, event, sample, most)
 }
 
-// The same, where it is known whether the model is within its bounds.
+// The same, where it is known whether the model is within its bounds, and which of the acked numbers is the greatest.
 pub fn start_tested(
     model: NetworkModel,
     fine: bool,
     params: Params,
     event: CongestionEvent,
     sample: CongestionEventSample,
-    acked: &[u64],
+    most: MaybeNumber,
 ) -> Started
     requires { ⌜ fine ≡ modelOk model ⌝ }
-    ensures reply { λ r. ⌜ number (r .reply) ≡ eventNumber model params event sample (now (acked .entry)) ⌝ }
-    ensures model { λ r. ⌜ r .model ≡ settled (eventNumber model params event sample (now (acked .entry)))
-        (modelNext model params event sample (now (acked .entry)))
+    ensures reply { λ r. ⌜ number (r .reply) ≡ eventNumber model params event sample (listed most) ⌝ }
+    ensures model { λ r. ⌜ r .model ≡ settled (eventNumber model params event sample (listed most))
+        (modelNext model params event sample (listed most))
         model ⌝ }
-    ensures event { λ r. ⌜ r .event ≡ settled (eventNumber model params event sample (now (acked .entry)))
-        (eventNext model event sample (now (acked .entry)))
+    ensures event { λ r. ⌜ r .event ≡ settled (eventNumber model params event sample (listed most))
+        (eventNext model event sample (listed most))
         event ⌝ }
 {
-    let reply = event_reply(model, fine, params, event, sample, acked);
+    let reply = event_reply(model, fine, params, event, sample, most);
     let mut next = model;
     let mut after = event;
     if reply.is_done() {
         let rounds = model.rounds;
-        let answer = rounds.on_packets_acked(acked);
+        let answer = rounds.on_greatest_acked(most);
         let counter = answer.counter;
         after = event_after(model, event, sample, answer.ended);
         next = model_after(model, params, after, sample, counter);
@@ -103,10 +107,10 @@ fn event_reply(
     params: Params,
     event: CongestionEvent,
     sample: CongestionEventSample,
-    acked: &[u64],
+    most: MaybeNumber,
 ) -> Reply
     requires { ⌜ fine ≡ modelOk model ⌝ }
-    ensures { λ r. ⌜ number r ≡ eventNumber model params event sample (now (acked .entry)) ⌝ }
+    ensures { λ r. ⌜ number r ≡ eventNumber model params event sample (listed most) ⌝ }
 {
     let moment = model.moment;
     let time = event.time;
@@ -115,7 +119,7 @@ fn event_reply(
         argument: !(event.ok() & sample.ok()),
         earlier: time.is_before(moment),
         lower: is_lower(model, sample),
-        full: is_full(model, sample, acked),
+        full: is_full(model, sample, most),
     })
 }
 
@@ -126,11 +130,11 @@ fn is_lower(model: NetworkModel, sample: CongestionEventSample) -> bool
 }
 
 // Whether the event would raise a counter that is full.
-fn is_full(model: NetworkModel, sample: CongestionEventSample, acked: &[u64]) -> bool
-    ensures { λ r. ⌜ r ≡ isFull model sample (now (acked .entry)) ⌝ }
+fn is_full(model: NetworkModel, sample: CongestionEventSample, most: MaybeNumber) -> bool
+    ensures { λ r. ⌜ r ≡ isFull model sample (listed most) ⌝ }
 {
     let rounds = model.rounds;
-    let answer = rounds.on_packets_acked(acked);
+    let answer = rounds.on_greatest_acked(most);
     let reply = answer.reply;
     let lost = less(sample.totals.lost, model.totals.lost);
     !reply.is_done() | ((0 < lost) & (model.round.losses == FULL))

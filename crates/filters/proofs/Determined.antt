@@ -14,6 +14,7 @@ use mathlib.Core.Bool.{Bool}
 use Rattle.filters.proofs.max_bandwidth_filter.MaxBandwidthFilter as max-bandwidth-filter-maxbandwidthfilter
 use Rattle.filters.proofs.min_rtt_filter.MinRttFilter as min-rtt-filter-minrttfilter
 use Rattle.filters.proofs.round_trip_counter.RoundTripCounter as round-trip-counter-roundtripcounter
+use Rattle.filters.proofs.round_trip_counter.greatest_of as round-trip-counter-greatest-of
 use Rattle.filters.proofs.windowed_filter.Held as windowed-filter-held
 use Rattle.filters.proofs.windowed_filter.Reason as windowed-filter-reason
 use Rattle.filters.proofs.windowed_filter.WindowedFilter as windowed-filter-windowedfilter
@@ -68,6 +69,12 @@ one-round-trip-counter-roundtripcounter-on-packet-sent κ a x y s t p q = p ∙ 
 
 pub one-round-trip-counter-roundtripcounter-on-packets-acked : OneReply round-trip-counter-roundtripcounter.on_packets_acked.Reads.Learnt
 one-round-trip-counter-roundtripcounter-on-packets-acked κ a x y s t p q = acked (number-injective _ _ (p .0 ∙ sym (q .0))) (p .1 .0 ∙ sym (q .1 .0)) (p .1 .1 ∙ sym (q .1 .1))
+
+pub one-round-trip-counter-roundtripcounter-on-greatest-acked : OneReply round-trip-counter-roundtripcounter.on_greatest_acked.Reads.Learnt
+one-round-trip-counter-roundtripcounter-on-greatest-acked κ a x y s t p q = acked (number-injective _ _ (p .0 ∙ sym (q .0))) (p .1 .0 ∙ sym (q .1 .0)) (p .1 .1 ∙ sym (q .1 .1))
+
+pub one-round-trip-counter-greatest-of : OneReply round-trip-counter-greatest-of.Reads.Learnt
+one-round-trip-counter-greatest-of κ a x y s t p q = p ∙ sym q
 
 pub one-round-trip-counter-roundtripcounter-restart-round : OneReply round-trip-counter-roundtripcounter.restart_round.Reads.Learnt
 one-round-trip-counter-roundtripcounter-restart-round κ a x y s t p q = p ∙ sym q

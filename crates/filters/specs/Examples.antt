@@ -1,9 +1,13 @@
 -- document 01, "Marked examples": 9, about the windowed filter, and 10, about the max bandwidth filter. All twelve, in
--- one list with one proof, are in crates/laws/specs/Examples.antt. After them, why a windowed filter's estimates moved.
-use Prim.Native.Nat.{ℕ}
-use mathlib.Core.Bool.{Bool, true, false, _&&_}
+-- one list with one proof, are in crates/laws/specs/Examples.antt. After them, why a windowed filter's estimates moved,
+-- and which lists of acked numbers end a round.
+use Prim.Native.Nat.{ℕ, _-_, _^_}
+use mathlib.Core.Bool.{Bool, true, false, not, _&&_}
 use mathlib.Core.List.{List, [], _∷_, _++_}
 use lib.Dec.{eqb}
+use Rattle.units.specs.declared.maybe.MaybeNumber.{MaybeNumber}
+use Rattle.units.specs.declared.maybe.MaybeNumber.the-variants as Number
+use Rattle.filters.specs.declared.round_trip_counter.RoundTripCounter.{RoundTripCounter}
 use Rattle.filters.specs.declared.max_bandwidth_filter.MaxBandwidthFilter.{MaxBandwidthFilter}
 use Rattle.filters.specs.declared.windowed_filter.Held.{Held}
 use Rattle.filters.specs.declared.windowed_filter.Held.the-variants.{Unset, Set}
@@ -11,6 +15,7 @@ use Rattle.filters.specs.declared.windowed_filter.Sample.{Sample}
 use Rattle.filters.specs.declared.windowed_filter.WindowedFilter.{WindowedFilter}
 use Rattle.filters.specs.MaxBandwidthFilter.{maxAdvance}
 use Rattle.filters.specs.Reason.{reasonNumber, raisedReason, laterReason, windowedReason}
+use Rattle.filters.specs.RoundTripCounter.{roundsNew, roundsEnded, roundsAcked}
 use Rattle.filters.specs.WindowedFilter.{sampleAt, windowedNew, windowedReset, windowedNumber, windowedUpdate}
 
 abbrev same : List ℕ → List ℕ → Bool
@@ -99,4 +104,39 @@ reasonExamples =
     ∷ same (after 4 (sampleAt 1 0) (sampleAt 1 2) (sampleAt 0 5) (sampleAt 1 7)) (1 ∷ 7 ∷ 1 ∷ 7 ∷ 1 ∷ 7 ∷ [])
     -- the third raised, 2, then a quarter refresh, 5
     ∷ same (fourth 4 (sampleAt 1 0) (sampleAt 1 2) (sampleAt 0 5) (sampleAt 1 5)) (0 ∷ 5 ∷ 3 ∷ 5 ∷ 2 ∷ 5 ∷ [])
+    ∷ []
+
+-- ---- document 02, request d: the greatest number acked ends a round, or none does. The round's end is 5, and 7 was
+-- sent last
+abbrev round : RoundTripCounter
+round = record { count = 1; sent = 7; end = Number.Set 5 }
+
+abbrev ends : List ℕ → Bool
+ends acked = roundsEnded round acked
+
+abbrev endIs : MaybeNumber → ℕ → Bool
+endIs Number.Unset n = false
+endIs (Number.Set k) n = eqb k n
+
+unfoldable pub roundExamples : List Bool
+roundExamples =
+    -- in whatever order, 6 is past the end
+    ends (6 ∷ 5 ∷ [])
+    ∷ ends (5 ∷ 6 ∷ [])
+    ∷ ends (4 ∷ 6 ∷ 5 ∷ [])
+    ∷ ends (9 ∷ 1 ∷ 2 ∷ 3 ∷ [])
+    ∷ ends ((2 ^ 64 - 1) ∷ 0 ∷ [])
+    -- the end itself is not
+    ∷ not (ends (5 ∷ 4 ∷ []))
+    ∷ not (ends (4 ∷ 5 ∷ []))
+    ∷ not (ends (5 ∷ 5 ∷ 5 ∷ []))
+    -- the empty list ends none, before any end too, where any number does
+    ∷ not (ends [])
+    ∷ not (roundsEnded roundsNew [])
+    ∷ roundsEnded roundsNew (0 ∷ [])
+    -- the count rises, and the number sent last is the next end; or all stays
+    ∷ eqb (roundsAcked round (6 ∷ 5 ∷ []) .count) 2
+    ∷ endIs (roundsAcked round (6 ∷ 5 ∷ []) .end) 7
+    ∷ eqb (roundsAcked round (5 ∷ 4 ∷ []) .count) 1
+    ∷ endIs (roundsAcked round (5 ∷ 4 ∷ []) .end) 5
     ∷ []

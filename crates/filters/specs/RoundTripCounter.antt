@@ -1,9 +1,8 @@
--- Rounds: document 01, "Filters and rounds"; network_model.rs, RoundTripCounter.
-use Prim.Native.Nat.{ℕ, _+_, _-_, _^_}
+-- Rounds: document 01, "Filters and rounds"; network_model.rs, RoundTripCounter; document 02, request d.
+use Prim.Native.Nat.{ℕ, max, _+_, _-_, _^_}
 use mathlib.Core.Bool.{Bool, true, false, cond, not, _&&_}
-use mathlib.Core.List.{List}
+use mathlib.Core.List.{List, [], _∷_}
 use lib.Dec.{ltb, eqb}
-use lib.ListN.{length, getD}
 use Rattle.units.specs.declared.maybe.MaybeNumber.{MaybeNumber}
 use Rattle.units.specs.declared.maybe.MaybeNumber.the-variants as Number
 use Rattle.filters.specs.declared.round_trip_counter.RoundTripCounter.{RoundTripCounter}
@@ -25,9 +24,27 @@ abbrev pub isPast : MaybeNumber → ℕ → Bool
 isPast Number.Unset n = true
 isPast (Number.Set k) n = ltb k n
 
--- "the last of it is the largest acked. .. An empty slice ends no round"
+-- request d: "Take the greatest number in the slice." An empty one has none
+abbrev pub greatestOf : ℕ → List ℕ → ℕ
+greatestOf n [] = n
+greatestOf n (k ∷ acked) = greatestOf (max n k) acked
+
+abbrev pub greatest : List ℕ → MaybeNumber
+greatest [] = Number.Unset
+greatest (n ∷ acked) = Number.Set (greatestOf n acked)
+
+-- "The empty list still ends no round."
+abbrev pub isPassedBy : MaybeNumber → MaybeNumber → Bool
+isPassedBy e Number.Unset = false
+isPassedBy e (Number.Set n) = isPast e n
+
 unfoldable pub endsRound : MaybeNumber → List ℕ → Bool
-endsRound e acked = cond (eqb (length acked) 0) false (isPast e (getD acked (length acked - 1) 0))
+endsRound e acked = isPassedBy e (greatest acked)
+
+-- a number that may be missing, as a list: what a caller hands on who has looked for the greatest
+abbrev pub listed : MaybeNumber → List ℕ
+listed Number.Unset = []
+listed (Number.Set n) = n ∷ []
 
 -- "Replies and bounds", row 5: "the call's rule adds 1 to a counter that is 2^64 - 1"
 unfoldable pub roundsFull : RoundTripCounter → List ℕ → Bool

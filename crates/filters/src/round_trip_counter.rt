@@ -1,10 +1,11 @@
 // Round trips, counted by packet numbers.
+use numbers::larger;
 use units::MaybeNumber;
 use units::Reply;
 use units::counter::FULL;
 ghost use mathlib.Core.Path.{_≡_};
 ghost use Rattle.units.specs.Reply.{number};
-ghost use Rattle.filters.specs.RoundTripCounter.{roundsNew, roundsSent, roundsRestart, isPast, endsRound, roundsNumber, roundsAcked, roundsEnded};
+ghost use Rattle.filters.specs.RoundTripCounter.{roundsNew, roundsSent, roundsRestart, isPast, greatest, listed, endsRound, roundsNumber, roundsAcked, roundsEnded};
 
 pub struct RoundTripCounter {
     pub count: u64,
@@ -48,8 +49,17 @@ impl RoundTripCounter {
         ensures counter { λ r. ⌜ r .counter ≡ roundsAcked self (now (acked .entry)) ⌝ }
         ensures ended { λ r. ⌜ r .ended ≡ roundsEnded self (now (acked .entry)) ⌝ }
     {
+        self.on_greatest_acked(greatest_of(acked))
+    }
+
+    // The same, where the greatest of the acked numbers is known.
+    pub fn on_greatest_acked(self, most: MaybeNumber) -> Acked
+        ensures reply { λ r. ⌜ number (r .reply) ≡ roundsNumber self (listed most) ⌝ }
+        ensures counter { λ r. ⌜ r .counter ≡ roundsAcked self (listed most) ⌝ }
+        ensures ended { λ r. ⌜ r .ended ≡ roundsEnded self (listed most) ⌝ }
+    {
         let end = self.end;
-        if !ends_round(end, acked) {
+        if !is_passed_by(end, most) {
             return Acked {
                 reply: Reply::Done,
                 counter: self,
@@ -97,13 +107,28 @@ fn is_past(end: MaybeNumber, packet: u64) -> bool
     last < packet
 }
 
-// Whether the last of the acked numbers, if there is one, lies past the end.
-fn ends_round(end: MaybeNumber, acked: &[u64]) -> bool
-    ensures { λ r. ⌜ r ≡ endsRound end (now (acked .entry)) ⌝ }
+// Whether a number lies past the end, if there is one.
+fn is_passed_by(end: MaybeNumber, most: MaybeNumber) -> bool
+    ensures { λ r. ⌜ r ≡ endsRound end (listed most) ⌝ }
 {
-    if acked.len() == 0 {
+    let MaybeNumber::Set(packet) = most else {
         return false;
+    };
+    is_past(end, packet)
+}
+
+// The greatest of some numbers, if there are any.
+pub fn greatest_of(numbers: &[u64]) -> MaybeNumber
+    ensures { λ r. ⌜ r ≡ greatest (now (numbers .entry)) ⌝ }
+{
+    if numbers.len() == 0 {
+        return MaybeNumber::Unset;
     }
-    let last = acked.len() - 1;
-    is_past(end, acked[last])
+    let mut most = numbers[0];
+    let mut i: usize = 1;
+    while i < numbers.len() {
+        most = larger(most, numbers[i]);
+        i += 1;
+    }
+    MaybeNumber::Set(most)
 }

@@ -9,6 +9,7 @@ use Rattle.guovssalu.proofs.conversions as conversions
 use Rattle.guovssalu.proofs.slope.guovssalu_raise_inflight_high_slope as slope
 use Rattle.guovssalu.proofs.filter_run.guovssalu_filter_run as filter
 use Rattle.guovssalu.proofs.model_run.guovssalu_run as run
+use Rattle.guovssalu.proofs.model_run.guovssalu_run_lists as lists
 
 pub one-u64-to-f32 : OneReply conversions.guovssalu_u64_to_f32.Reads.Learnt
 one-u64-to-f32 κ a x y s t p q = p ∙ sym q
@@ -45,3 +46,8 @@ pub one-run :
     (κ : Lfts 3) (a : Dens κ run.Kinds.ps) (x y : resT run.Kinds.r κ .Denot) (s t : AtExit (endedOf 3 run.Kinds.ps run.Kinds.r) κ) →
     run.Reads.Learnt κ a x s → run.Reads.Learnt κ a y t → (x ≡ y) × ((now (s .0) ≡ now (t .0)) × (now (s .1 .1 .0) ≡ now (t .1 .1 .0)))
 one-run κ a x y s t p q = (p .0 ∙ sym (q .0), (p .1 .0 ∙ sym (q .1 .0), p .1 .1 ∙ sym (q .1 .1)))
+
+pub one-run-lists :
+    (κ : Lfts 4) (a : Dens κ lists.Kinds.ps) (x y : resT lists.Kinds.r κ .Denot) (s t : AtExit (endedOf 4 lists.Kinds.ps lists.Kinds.r) κ) →
+    lists.Reads.Learnt κ a x s → lists.Reads.Learnt κ a y t → (x ≡ y) × ((now (s .0) ≡ now (t .0)) × (now (s .1 .1 .1 .0) ≡ now (t .1 .1 .1 .0)))
+one-run-lists κ a x y s t p q = (p .0 ∙ sym (q .0), (p .1 .0 ∙ sym (q .1 .0), p .1 .1 ∙ sym (q .1 .1)))

@@ -10,7 +10,7 @@ use Rattle.words.specs.Words.{wordAt, allBytes}
 use Rattle.dispatch.specs.Examples.{same, zeros, with}
 use Rattle.pairs.specs.Pairs.{runRow}
 use Rattle.guovssalu.specs.FilterRun.{runOut}
-use Rattle.guovssalu.specs.ModelRun.{modelRow, stateOut, answersOut}
+use Rattle.guovssalu.specs.ModelRun.{noLists, modelRow, stateOut, answersOut}
 use Rattle.guovssalu.specs.Slope.{slopeRow, slopeOut}
 
 -- bytes that a call may write over
@@ -83,7 +83,7 @@ exportExamples =
     ∷ same (slopeOut 31 26_000 (room 17)) (room 17)
     -- no call: done, and the state written as it was
     ∷ eqb (modelRow (zeros 400) [] 0) 0
-    ∷ same (stateOut (zeros 400) [] []) (zeros 400)
+    ∷ same (stateOut (zeros 400) [] noLists []) (zeros 400)
     -- a flag of 2, a number that is unset, a float of 33 bits, a phase past the last; and those that are states
     ∷ eqb (modelRow (states 12 2) [] 0) 1
     ∷ eqb (modelRow (states 12 1) [] 0) 0
@@ -104,9 +104,9 @@ exportExamples =
     -- a byte is missing for an answer: nothing is written
     ∷ eqb (modelRow (zeros 400) (call 45 ++ call 12) 288) 0
     ∷ eqb (modelRow (zeros 400) (call 45 ++ call 12) 287) 7
-    ∷ same (answersOut (zeros 400) (call 12) (room 143)) (room 143)
-    ∷ same (answersOut (states 12 2) (call 12) (room 144)) (room 144)
-    ∷ same (stateOut (states 12 2) (call 12) (room 144)) (states 12 2)
+    ∷ same (answersOut (zeros 400) (call 12) noLists (room 143)) (room 143)
+    ∷ same (answersOut (states 12 2) (call 12) noLists (room 144)) (room 144)
+    ∷ same (stateOut (states 12 2) (call 12) noLists (room 144)) (states 12 2)
     ∷ []
 
 -- ---- a run that begins with a start (docs/LAYOUT.md has the words)
@@ -133,10 +133,10 @@ abbrev pub firstCalls : List ℕ
 firstCalls = allBytes (startAt 5 100 ++ sends 9 7 ++ sends 8 6)
 
 abbrev pub firstState : List ℕ
-firstState = stateOut (zeros 400) firstCalls (room 432)
+firstState = stateOut (zeros 400) firstCalls noLists (room 432)
 
 abbrev pub firstAnswers : List ℕ
-firstAnswers = answersOut (zeros 400) firstCalls (room 432)
+firstAnswers = answersOut (zeros 400) firstCalls noLists (room 432)
 
 unfoldable pub startExamples : List Bool
 startExamples =

@@ -1,7 +1,8 @@
--- The exported run of the model: calls, carried out in order on a state in lent bytes (docs/LAYOUT.md). `modelRow` is
--- what it replies, `answersOut` and `stateOut` are the bytes that it leaves; one call is `outcomeOf` in
--- crates/dispatch/specs/Outcome.antt. A run in bytes that begins with a start is worked out in Examples.antt
--- (`startExamples`), three that go on from each other, with events, in crates/theorems/specs/Examples.antt.
+-- The exported runs of the model: calls, carried out in order on a state in lent bytes (docs/LAYOUT.md), with lists
+-- from which a call can take numbers, or with none. `modelRow` is what they reply, whatever the lists are; `answersOut`
+-- and `stateOut` are the bytes that they leave; one call is `outcomeOf` in crates/dispatch/specs/Outcome.antt. A run in
+-- bytes that begins with a start is worked out in Examples.antt (`startExamples`), four with events, one of them with
+-- lists, in crates/theorems/specs/Examples.antt.
 use Prim.Native.Nat.{ℕ, zero, suc, _+_, _*_, _/_, _%_}
 use mathlib.Core.Bool.{Bool, false, not, _&&_, _||_}
 use mathlib.Core.List.{List, [], _++_}
@@ -31,27 +32,33 @@ encodesNone s = eqb (length s) 400 && not (isState (stateIn s))
 abbrev pub callsIn : List ℕ → ℕ
 callsIn src = length src / 392
 
+-- a run without lists
+abbrev pub noLists : List ℕ
+noLists = []
+
 -- the call at an index, carried out
-unfoldable pub outcomeAt : NetworkModel → Cycle → List ℕ → ℕ → Outcome
-outcomeAt m y src at = outcomeOf (callAt src at) m y
+unfoldable pub outcomeAt : NetworkModel → Cycle → (src lists : List ℕ) → ℕ → Outcome
+outcomeAt m y src lists at = outcomeOf (callAt src lists at) m y
 
 -- the answers to the n calls from an index on, each carried out in the state that the one before it left
-unfoldable pub answersTo : NetworkModel → Cycle → List ℕ → ℕ → ℕ → List ℕ
-answersTo m y src at zero = []
-answersTo m y src at (suc n) =
-    let t = outcomeAt m y src at in answerWords t ++ answersTo (t .model) (t .cycle) src (at + 392) n
+unfoldable pub answersTo : NetworkModel → Cycle → (src lists : List ℕ) → ℕ → ℕ → List ℕ
+answersTo m y src lists at zero = []
+answersTo m y src lists at (suc n) =
+    let t = outcomeAt m y src lists at in answerWords t ++ answersTo (t .model) (t .cycle) src lists (at + 392) n
 
 -- the words of the state that they leave
-unfoldable pub leftBy : NetworkModel → Cycle → List ℕ → ℕ → ℕ → List ℕ
-leftBy m y src at zero = stateWords m y
-leftBy m y src at (suc n) = let t = outcomeAt m y src at in leftBy (t .model) (t .cycle) src (at + 392) n
+unfoldable pub leftBy : NetworkModel → Cycle → (src lists : List ℕ) → ℕ → ℕ → List ℕ
+leftBy m y src lists at zero = stateWords m y
+leftBy m y src lists at (suc n) =
+    let t = outcomeAt m y src lists at in leftBy (t .model) (t .cycle) src lists (at + 392) n
 
 -- all of them, from a state in bytes
-unfoldable pub answersFrom : (state src : List ℕ) → List ℕ
-answersFrom state src = answersTo (modelFrom (stateIn state)) (cycleFrom (stateIn state)) src 0 (callsIn src)
+unfoldable pub answersFrom : (state src lists : List ℕ) → List ℕ
+answersFrom state src lists =
+    answersTo (modelFrom (stateIn state)) (cycleFrom (stateIn state)) src lists 0 (callsIn src)
 
-unfoldable pub wordsLeft : (state src : List ℕ) → List ℕ
-wordsLeft state src = leftBy (modelFrom (stateIn state)) (cycleFrom (stateIn state)) src 0 (callsIn src)
+unfoldable pub wordsLeft : (state src lists : List ℕ) → List ℕ
+wordsLeft state src lists = leftBy (modelFrom (stateIn state)) (cycleFrom (stateIn state)) src lists 0 (callsIn src)
 
 -- docs/LAYOUT.md, "What the run itself replies", 1, 2 and 7: "Of several the lowest is given; then no byte is written"
 unfoldable pub modelRow : (state src : List ℕ) (room : ℕ) → ℕ
@@ -59,9 +66,9 @@ modelRow state src room =
     let uneven = not (eqb (length state) 400) || not (eqb (length src % 392) 0) in
     orShort (lowest (stored (encodesNone state) (argument uneven noRows))) (ltb room (144 * callsIn src))
 
-unfoldable pub answersOut : (state src out : List ℕ) → List ℕ
-answersOut state src out = answered (modelRow state src (length out)) (answersFrom state src) out
+unfoldable pub answersOut : (state src lists out : List ℕ) → List ℕ
+answersOut state src lists out = answered (modelRow state src (length out)) (answersFrom state src lists) out
 
 -- "leaves the new state in the state's bytes", the same place
-unfoldable pub stateOut : (state src out : List ℕ) → List ℕ
-stateOut state src out = answered (modelRow state src (length out)) (wordsLeft state src) state
+unfoldable pub stateOut : (state src lists out : List ℕ) → List ℕ
+stateOut state src lists out = answered (modelRow state src (length out)) (wordsLeft state src lists) state

@@ -5,7 +5,7 @@ ghost use lib.ListN.{length};
 ghost use lib.Seq.{sets};
 ghost use Rattle.units.specs.Reply.{number};
 ghost use Rattle.words.specs.Words.{allBytes};
-ghost use Rattle.guovssalu.specs.ModelRun.{stateIn, encodesNone, callsIn, answersTo, leftBy, modelRow, stateOut, answersOut};
+ghost use Rattle.guovssalu.specs.ModelRun.{stateIn, encodesNone, callsIn, noLists, answersTo, leftBy, modelRow, stateOut, answersOut};
 use dispatch::one_call::event_finish;
 use dispatch::one_call::event_start;
 use dispatch::one_call::other;
@@ -30,15 +30,38 @@ use words::put_words;
 #[no_mangle]
 pub extern "C" fn guovssalu_run(state: &mut [u8], calls: &[u8], answers: &mut [u8]) -> u64
     ensures { λ r. ⌜ r ≡ modelRow (now (state .entry)) (now (calls .entry)) (length (now (answers .entry))) ⌝ }
-    ensures { λ _. ⌜ now (state .exit) ≡ stateOut (now (state .entry)) (now (calls .entry)) (now (answers .entry)) ⌝ }
-    ensures { λ _. ⌜ now (answers .exit) ≡ answersOut (now (state .entry)) (now (calls .entry)) (now (answers .entry)) ⌝ }
+    ensures { λ _. ⌜ now (state .exit) ≡ stateOut (now (state .entry)) (now (calls .entry)) noLists (now (answers .entry)) ⌝ }
+    ensures { λ _. ⌜ now (answers .exit) ≡ answersOut (now (state .entry)) (now (calls .entry)) noLists (now (answers .entry)) ⌝ }
+{
+    let none = [0u64; 0];
+    guovssalu_run_lists(state, calls, &none, answers)
+}
+
+// The same with lists of words, from which an event takes more acked numbers than a call has room for, by their start
+// and their count.
+#[no_mangle]
+pub extern "C" fn guovssalu_run_lists(
+    state: &mut [u8],
+    calls: &[u8],
+    lists: &[u64],
+    answers: &mut [u8],
+) -> u64
+    ensures { λ r. ⌜ r ≡ modelRow (now (state .entry)) (now (calls .entry)) (length (now (answers .entry))) ⌝ }
+    ensures { λ _. ⌜ now (state .exit) ≡ stateOut (now (state .entry)) (now (calls .entry)) (now (lists .entry)) (now (answers .entry)) ⌝ }
+    ensures { λ _. ⌜ now (answers .exit) ≡ answersOut (now (state .entry)) (now (calls .entry)) (now (lists .entry)) (now (answers .entry)) ⌝ }
 {
     let reply = model_reply(state, calls, answers.len());
     if !reply.is_done() {
         return reply.row();
     }
     let words = state_in(state);
-    let left = run_calls(model_from(&words), cycle_from(&words), calls, answers);
+    let left = run_calls(
+        model_from(&words),
+        cycle_from(&words),
+        calls,
+        lists,
+        answers,
+    );
     put_words(state, 0, &left);
     reply.row()
 }
@@ -77,10 +100,16 @@ fn state_in(state: &[u8]) -> [u64; 50]
 }
 
 // Makes the calls in order from a model and a cycle, writes their answers, and gives the words of the state that they leave.
-fn run_calls(model: NetworkModel, cycle: Cycle, calls: &[u8], answers: &mut [u8]) -> [u64; 50]
+fn run_calls(
+    model: NetworkModel,
+    cycle: Cycle,
+    calls: &[u8],
+    lists: &[u64],
+    answers: &mut [u8],
+) -> [u64; 50]
     requires { ⌜ 144 * callsIn (now calls) ≤ length (now answers) ⌝ }
-    ensures { λ r. ⌜ r ≡ leftBy model cycle (now (calls .entry)) 0 (callsIn (now (calls .entry))) ⌝ }
-    ensures { λ _. ⌜ now (answers .exit) ≡ sets (now (answers .entry)) 0 (allBytes (answersTo model cycle (now (calls .entry)) 0 (callsIn (now (calls .entry))))) ⌝ }
+    ensures { λ r. ⌜ r ≡ leftBy model cycle (now (calls .entry)) (now (lists .entry)) 0 (callsIn (now (calls .entry))) ⌝ }
+    ensures { λ _. ⌜ now (answers .exit) ≡ sets (now (answers .entry)) 0 (allBytes (answersTo model cycle (now (calls .entry)) (now (lists .entry)) 0 (callsIn (now (calls .entry))))) ⌝ }
 {
     let count = calls.len() / 392;
     let mut m = model;
@@ -94,7 +123,7 @@ fn run_calls(model: NetworkModel, cycle: Cycle, calls: &[u8], answers: &mut [u8]
         if call == 1 {
             m = send(m, fine, calls, at, answers, to);
         } else if call == 3 {
-            m = event_start(m, fine, calls, at, answers, to);
+            m = event_start(m, fine, calls, at, lists, answers, to);
         } else if call == 4 {
             m = event_finish(m, fine, calls, at, answers, to);
         } else {

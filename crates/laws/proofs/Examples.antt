@@ -7,8 +7,9 @@ use Rattle.numbers.specs.FloatToInt.{roundAway}
 use Rattle.numbers.specs.Scaling.{scaled, scaledF64}
 use Rattle.numbers.specs.Examples.{all, conversions}
 use Rattle.units.specs.Bandwidth.{timesF32}
-use Rattle.filters.specs.Examples.{filterExamples, reasonExamples}
+use Rattle.filters.specs.Examples.{filterExamples, reasonExamples, roundExamples}
 use Rattle.filters.specs.MaxBandwidthFilter.{maxGet, maxAdvance}
+use Rattle.filters.specs.RoundTripCounter.{endsRound, roundsFull, roundsEnded, roundsAcked}
 use Rattle.filters.specs.Reason.{raisedReason, shiftedReason, renewedReason, agedReason, windowedReason}
 use Rattle.filters.specs.WindowedFilter.{isReplaced, raised, shifted, lingers, renewed, aged, windowedReset, windowedNumber, windowedUpdate}
 use Rattle.state.specs.Answers.{settled}
@@ -33,3 +34,7 @@ marked-examples = refl
 pub reason-examples : all reasonExamples ≡ true
 unfolding all reasonExamples windowedReset isReplaced raised shifted lingers renewed aged windowedUpdate raisedReason shiftedReason renewedReason agedReason windowedReason
 reason-examples = refl
+
+pub round-examples : all roundExamples ≡ true
+unfolding all roundExamples endsRound roundsFull roundsEnded roundsAcked
+round-examples = refl

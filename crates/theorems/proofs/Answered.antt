@@ -25,30 +25,30 @@ record From (l : List ℕ) (t : Outcome) : Type 0 where
   pub rest : List ℕ
   pub split : l ≡ allBytes (answerWords t) ++ rest
 
-length-outcome : (calls : List ℕ) (at : ℕ) (s : State) → length (allBytes (answerWords (outcomeIn (callAt calls at) s))) ≡ 144
+length-outcome : (calls lists : List ℕ) (at : ℕ) (s : State) → length (allBytes (answerWords (outcomeIn (callAt calls lists at) s))) ≡ 144
 unfolding outcomeAt
-length-outcome calls at s = length-answer (s .model) (s .cycle) calls at
+length-outcome calls lists at s = length-answer (s .model) (s .cycle) calls lists at
 
-abbrev answers : List ℕ → ℕ → ℕ → State → List ℕ
-answers calls at n s = allBytes (answersTo (s .model) (s .cycle) calls at n)
+abbrev answers : (calls lists : List ℕ) → ℕ → ℕ → State → List ℕ
+answers calls lists at n s = allBytes (answersTo (s .model) (s .cycle) calls lists at n)
 
 -- the first answer, and the others
-answers-more : (calls : List ℕ) (at n : ℕ) (s : State) (rest : List ℕ) →
-    answers calls at (suc n) s ++ rest ≡ allBytes (answerWords (outcomeIn (callAt calls at) s)) ++ (answers calls (at + 392) n (afterStep (stepOf (callAt calls at)) s) ++ rest)
+answers-more : (calls lists : List ℕ) (at n : ℕ) (s : State) (rest : List ℕ) →
+    answers calls lists at (suc n) s ++ rest ≡ allBytes (answerWords (outcomeIn (callAt calls lists at) s)) ++ (answers calls lists (at + 392) n (afterStep (stepOf (callAt calls lists at)) s) ++ rest)
 unfolding answersTo outcomeAt
-answers-more calls at n s rest =
-    let t = outcomeIn (callAt calls at) s in
-    let more = answers calls (at + 392) n (stateLeft t) in
-    ap (λ (l : List ℕ). l ++ rest) (allBytes-append (answerWords t) (answersTo (t .model) (t .cycle) calls (at + 392) n))
+answers-more calls lists at n s rest =
+    let t = outcomeIn (callAt calls lists at) s in
+    let more = answers calls lists (at + 392) n (stateLeft t) in
+    ap (λ (l : List ℕ). l ++ rest) (allBytes-append (answerWords t) (answersTo (t .model) (t .cycle) calls lists (at + 392) n))
     ∙ append-assoc (allBytes (answerWords t)) more rest
-    ∙ ap (λ (z : State). allBytes (answerWords t) ++ (answers calls (at + 392) n z ++ rest)) (every-outcome (callAt calls at) s .leaves)
+    ∙ ap (λ (z : State). allBytes (answerWords t) ++ (answers calls lists (at + 392) n z ++ rest)) (every-outcome (callAt calls lists at) s .leaves)
 
-length-answers : (calls : List ℕ) (at n : ℕ) (s : State) → length (answers calls at n s) ≡ 144 * n
+length-answers : (calls lists : List ℕ) (at n : ℕ) (s : State) → length (answers calls lists at n s) ≡ 144 * n
 unfolding answersTo allBytes outcomeAt
-length-answers calls at zero s = refl
-length-answers calls at (suc n) s =
-    let t = outcomeIn (callAt calls at) s in
-    rw (allBytes-append, length-append, length-outcome calls at s) (omega (arith, length-answers calls (at + 392) n (stateLeft t)))
+length-answers calls lists at zero s = refl
+length-answers calls lists at (suc n) s =
+    let t = outcomeIn (callAt calls lists at) s in
+    rw (allBytes-append, length-append, length-outcome calls lists at s) (omega (arith, length-answers calls lists (at + 392) n (stateLeft t)))
 
 next-answer : (i : ℕ) → 144 + 144 * i ≡ 144 * suc i
 next-answer i = omega arith
@@ -56,21 +56,21 @@ next-answer i = omega arith
 next-call : (at i : ℕ) → at + 392 * suc i ≡ at + 392 + 392 * i
 next-call at i = omega arith
 
-answer-at : (calls : List ℕ) (i at n : ℕ) (s : State) (rest : List ℕ) → i < n →
-    From (drop (144 * i) (answers calls at n s ++ rest)) (outcomeIn (callAt calls (at + 392 * i)) (walk (stepsFrom calls at i) s))
+answer-at : (calls lists : List ℕ) (i at n : ℕ) (s : State) (rest : List ℕ) → i < n →
+    From (drop (144 * i) (answers calls lists at n s ++ rest)) (outcomeIn (callAt calls lists (at + 392 * i)) (walk (stepsFrom calls lists at i) s))
 unfolding stepsFrom walk
-answer-at calls i at zero s rest l = absurd (omega (arith, l))
-answer-at calls zero at (suc n) s rest l = rw add-zero (record { rest = _; split = answers-more calls at n s rest })
-answer-at calls (suc i) at (suc n) s rest l =
-    let first = allBytes (answerWords (outcomeIn (callAt calls at) s)) in
-    let z = afterStep (stepOf (callAt calls at)) s in
-    let more = answers calls (at + 392) n z ++ rest in
-    let e : drop (144 * suc i) (answers calls at (suc n) s ++ rest) ≡ drop (144 * i) more =
-    ap (λ (k : ℕ). drop k (answers calls at (suc n) s ++ rest)) (sym (next-answer i))
-    ∙ sym (drop-drop (144 * i) 144 (answers calls at (suc n) s ++ rest))
-    ∙ ap (λ (l : List ℕ). drop (144 * i) (drop 144 l)) (answers-more calls at n s rest)
-    ∙ ap (drop (144 * i)) (drop-at first more 144 (length-outcome calls at s)) in
-    rw (e, next-call at i) (answer-at calls i (at + 392) n z rest (omega arith))
+answer-at calls lists i at zero s rest l = absurd (omega (arith, l))
+answer-at calls lists zero at (suc n) s rest l = rw add-zero (record { rest = _; split = answers-more calls lists at n s rest })
+answer-at calls lists (suc i) at (suc n) s rest l =
+    let first = allBytes (answerWords (outcomeIn (callAt calls lists at) s)) in
+    let z = afterStep (stepOf (callAt calls lists at)) s in
+    let more = answers calls lists (at + 392) n z ++ rest in
+    let e : drop (144 * suc i) (answers calls lists at (suc n) s ++ rest) ≡ drop (144 * i) more =
+    ap (λ (k : ℕ). drop k (answers calls lists at (suc n) s ++ rest)) (sym (next-answer i))
+    ∙ sym (drop-drop (144 * i) 144 (answers calls lists at (suc n) s ++ rest))
+    ∙ ap (λ (l : List ℕ). drop (144 * i) (drop 144 l)) (answers-more calls lists at n s rest)
+    ∙ ap (drop (144 * i)) (drop-at first more 144 (length-outcome calls lists at s)) in
+    rw (e, next-call at i) (answer-at calls lists i (at + 392) n z rest (omega arith))
 
 -- ---- a run that is done
 abbrev pub outcomeOfCall : Run → ℕ → Outcome
@@ -82,17 +82,17 @@ module _ (r : Run) (ran : Ran r) (done : r .reply ≡ 0) (i : ℕ) (l : i < coun
   answer-from =
       let row = modelRow (r .state) (r .calls) (length (r .answers)) in
       let row-done = eq-eqb row 0 (sym (run-is r ran .0) ∙ done) in
-      let all = answers (r .calls) 0 (count r) (stateFrom (r .state)) in
-      let room : 0 + length all ≤ length (r .answers) = omega (arith, length-answers (r .calls) 0 (count r) (stateFrom (r .state)), run-room (r .state) (r .calls) (length (r .answers)) row-done) in
+      let all = answers (r .calls) (r .lists) 0 (count r) (stateFrom (r .state)) in
+      let room : 0 + length all ≤ length (r .answers) = omega (arith, length-answers (r .calls) (r .lists) 0 (count r) (stateFrom (r .state)), run-room (r .state) (r .calls) (length (r .answers)) row-done) in
       let whole : r .written ≡ all ++ drop (length all) (r .answers) =
       run-is r ran .2 ∙ rw row-done (sets-eq all (r .answers) 0 room ∙ ap (λ (k : ℕ). all ++ drop k (r .answers)) (zero-add (length all))) in
-      rw (whole, ← zero-add (392 * i)) (answer-at (r .calls) i 0 (count r) (stateFrom (r .state)) (drop (length all) (r .answers)) l)
+      rw (whole, ← zero-add (392 * i)) (answer-at (r .calls) (r .lists) i 0 (count r) (stateFrom (r .state)) (drop (length all) (r .answers)) l)
 
   pub answer-bytes : answer r i ≡ allBytes (answerWords (outcomeOfCall r i))
   unfolding outcomeAt
   answer-bytes =
       let f = answer-from in
-      ap (take 144) (f .split) ∙ take-at (allBytes (answerWords (outcomeOfCall r i))) (f .rest) 144 (length-outcome (r .calls) (392 * i) (before r i))
+      ap (take 144) (f .split) ∙ take-at (allBytes (answerWords (outcomeOfCall r i))) (f .rest) 144 (length-outcome (r .calls) (r .lists) (392 * i) (before r i))
 
   -- its first two words, numbers of 64 bits
   pub reply-word : outcomeOfCall r i .reply < 2 ^ 64 → answerWord r i 0 ≡ outcomeOfCall r i .reply

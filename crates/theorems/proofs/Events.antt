@@ -19,7 +19,7 @@ use Rattle.drift.specs.Calls.{Call, State}
 use Rattle.drift.specs.Drift.{OfEvent}
 use Rattle.drift.specs.Exact.{Effect}
 use Rattle.theorems.specs.Steps.{Step, Replies, judgeStep, enterStep, changeStep, stepOf, afterStep, stepsFrom, walk}
-use Rattle.theorems.specs.Runs.{Run, Ran, AreBytes, stateFrom, count, call, before, Each, OfEvents}
+use Rattle.theorems.specs.Runs.{Run, Ran, IsLent, stateFrom, count, call, before, Each, OfEvents}
 use Rattle.theorems.proofs.Answered.{outcomeOfCall, reply-word}
 use Rattle.theorems.proofs.Choice.{arms, either}
 use Rattle.theorems.proofs.Decoded.{every-outcome}
@@ -67,16 +67,16 @@ module _ (Q : Params → CongestionEvent → CongestionEventSample → Type 0) (
 next-call : (at i : ℕ) → at + 392 * suc i ≡ at + 392 + 392 * i
 next-call at i = omega arith
 
-along-each : (P : Call → Type 0) (calls : List ℕ) (at n : ℕ) (s : State)
-    → ((i : ℕ) → i < n → OfStep P (stepOf (callAt calls (at + 392 * i))) (walk (stepsFrom calls at i) s)) → AlongSteps P (stepsFrom calls at n) s
+along-each : (P : Call → Type 0) (calls lists : List ℕ) (at n : ℕ) (s : State)
+    → ((i : ℕ) → i < n → OfStep P (stepOf (callAt calls lists (at + 392 * i))) (walk (stepsFrom calls lists at i) s)) → AlongSteps P (stepsFrom calls lists at n) s
 unfolding stepsFrom walk
-along-each P calls at zero s h = tt
-along-each P calls at (suc n) s h =
+along-each P calls lists at zero s h = tt
+along-each P calls lists at (suc n) s h =
     let here : at + 392 * 0 ≡ at = omega arith in
-    let z = afterStep (stepOf (callAt calls at)) s in (
-      subst (λ (k : ℕ). OfStep P (stepOf (callAt calls k)) s) here (h 0 (omega arith)),
-      along-each P calls (at + 392) n z
-          (λ i l. subst (λ (k : ℕ). OfStep P (stepOf (callAt calls k)) (walk (stepsFrom calls (at + 392) i) z)) (next-call at i) (h (suc i) (omega arith))),
+    let z = afterStep (stepOf (callAt calls lists at)) s in (
+      subst (λ (k : ℕ). OfStep P (stepOf (callAt calls lists k)) s) here (h 0 (omega arith)),
+      along-each P calls lists (at + 392) n z
+          (λ i l. subst (λ (k : ℕ). OfStep P (stepOf (callAt calls lists k)) (walk (stepsFrom calls lists (at + 392) i) z)) (next-call at i) (h (suc i) (omega arith))),
     )
 
 module _ (effect : Call → State → Effect) (parts : ℕ) (W : List ℕ → Type 0) (Q : Params → CongestionEvent → CongestionEventSample → Type 0) (of-words : (w : List ℕ) → W w → Q (paramsFrom w) (eventFrom w) (sampleFrom w)) where
@@ -90,15 +90,14 @@ module _ (effect : Call → State → Effect) (parts : ℕ) (W : List ℕ → Ty
       of-words w (h i (record { done = done; made = l; named = e; accepted = reply-word r ran done i l small ∙ z })))
       (every-outcome w (before r i) .replies)
 
-  fair : (r : Run) → Ran r → AreBytes (r .state) × AreBytes (r .calls) → OfEvents W r → Fair effect parts (OfEvent Q) r
+  fair : (r : Run) → Ran r → IsLent r → OfEvents W r → Fair effect parts (OfEvent Q) r
   fair r ran b h =
       record {
         ran = ran;
-        state = b .0;
-        calls = b .1;
-        along = λ done. along-each (OfEvent Q) (r .calls) 0 (count r) (stateFrom (r .state)) (λ i l. rw (zero-add (392 * i)) (event-at r ran h done i l));
+        lent = b;
+        along = λ done. along-each (OfEvent Q) (r .calls) (r .lists) 0 (count r) (stateFrom (r .state)) (λ i l. rw (zero-add (392 * i)) (event-at r ran h done i l));
       }
 
-  pub each-fair : (runs : List Run) → Each Ran runs → Each (λ r. AreBytes (r .state) × AreBytes (r .calls)) runs → Each (OfEvents W) runs → Each (Fair effect parts (OfEvent Q)) runs
+  pub each-fair : (runs : List Run) → Each Ran runs → Each IsLent runs → Each (OfEvents W) runs → Each (Fair effect parts (OfEvent Q)) runs
   each-fair [] a b c = tt
   each-fair (r ∷ runs) a b c = (fair r (a .0) (b .0) (c .0), each-fair runs (a .1) (b .1) (c .1))

@@ -2,7 +2,7 @@
 use Prim.Native.Nat.{ℕ}
 use mathlib.Core.Bool.{Bool, true, false, not, _&&_}
 use mathlib.Core.List.{List}
-use mathlib.Core.Logic.{_↔_}
+use mathlib.Core.Logic.{_↔_, inl, inr}
 use mathlib.Core.Path.{_≡_, refl, sym, subst, _∙_}
 use lib.Dec.{eqb}
 use lib.ListN.{length}
@@ -18,13 +18,20 @@ use Rattle.theorems.specs.Runs.{Run, Ran, FilterRun, Filtered, SlopeRun,
 
 -- ---- what is replied and left
 pub run-is : (r : Run) → Ran r →
-    (r .reply ≡ modelRow (r .state) (r .calls) (length (r .answers))) × (r .left ≡ stateOut (r .state) (r .calls) (r .answers)) × (r .written ≡ answersOut (r .state) (r .calls) (r .answers))
-run-is r h =
+    (r .reply ≡ modelRow (r .state) (r .calls) (length (r .answers))) × (r .left ≡ stateOut (r .state) (r .calls) (r .lists) (r .answers)) × (r .written ≡ answersOut (r .state) (r .calls) (r .lists) (r .answers))
+run-is r (inl h) =
     let c = h .4 in
     let f = h .5 in (
-      sym (f .3) ∙ c .0 ∙ (λ i. modelRow (f .0 i) (f .1 i) (length (f .2 i))),
-      sym (f .4) ∙ c .1 .0 ∙ (λ i. stateOut (f .0 i) (f .1 i) (f .2 i)),
-      sym (f .5) ∙ c .1 .1 ∙ (λ i. answersOut (f .0 i) (f .1 i) (f .2 i)),
+      sym (f .4) ∙ c .0 ∙ (λ i. modelRow (f .0 i) (f .1 i) (length (f .3 i))),
+      sym (f .5) ∙ c .1 .0 ∙ (λ i. stateOut (f .0 i) (f .1 i) (f .2 i) (f .3 i)),
+      sym (f .6) ∙ c .1 .1 ∙ (λ i. answersOut (f .0 i) (f .1 i) (f .2 i) (f .3 i)),
+    )
+run-is r (inr h) =
+    let c = h .4 in
+    let f = h .5 in (
+      sym (f .4) ∙ c .0 ∙ (λ i. modelRow (f .0 i) (f .1 i) (length (f .3 i))),
+      sym (f .5) ∙ c .1 .0 ∙ (λ i. stateOut (f .0 i) (f .1 i) (f .2 i) (f .3 i)),
+      sym (f .6) ∙ c .1 .1 ∙ (λ i. answersOut (f .0 i) (f .1 i) (f .2 i) (f .3 i)),
     )
 
 pub filter-is : (r : FilterRun) → Filtered r → (r .reply ≡ runRow (r .window) (r .pairs) (length (r .output))) × (r .written ≡ runOut (r .window) (r .pairs) (r .output))
@@ -61,9 +68,9 @@ one-outcome =
       run = λ r q h k e.
           let a = run-is r h in
           let b = run-is q k in (
-            a .0 ∙ (λ i. modelRow (e .0 i) (e .1 i) (length (e .2 i))) ∙ sym (b .0),
-            a .1 ∙ (λ i. stateOut (e .0 i) (e .1 i) (e .2 i)) ∙ sym (b .1),
-            a .2 ∙ (λ i. answersOut (e .0 i) (e .1 i) (e .2 i)) ∙ sym (b .2),
+            a .0 ∙ (λ i. modelRow (e .0 i) (e .1 i) (length (e .3 i))) ∙ sym (b .0),
+            a .1 ∙ (λ i. stateOut (e .0 i) (e .1 i) (e .2 i) (e .3 i)) ∙ sym (b .1),
+            a .2 ∙ (λ i. answersOut (e .0 i) (e .1 i) (e .2 i) (e .3 i)) ∙ sym (b .2),
           );
       filter-run = λ r q h k e.
           let a = filter-is r h in

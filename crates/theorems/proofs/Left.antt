@@ -1,7 +1,7 @@
 -- What a run leaves in the state's bytes: the words of the state that its steps lead to, which is read back from them. Assumes nothing.
 use Prim.Native.Nat.{ℕ, zero, suc, _+_, _*_, _^_, _<_}
 use mathlib.Core.Bool.{true, false}
-use mathlib.Core.List.{List, [], _++_, append-nil}
+use mathlib.Core.List.{List, [], _∷_, _++_, append-nil}
 use mathlib.Core.Path.{_≡_, refl, sym, ap, subst, _∙_}
 use native.Mathlib.Nat.{pow-suc}
 use native.Mathlib.Omega.{arith}
@@ -24,7 +24,7 @@ use Rattle.dispatch.specs.OneCall.{callAt}
 use Rattle.guovssalu.proofs.ModelRun.{length-words-left, run-whole}
 use Rattle.drift.specs.Calls.{State}
 use Rattle.theorems.specs.Steps.{moment, duration, stateLeft, outcomeIn, stepOf, afterStep, stepsFrom, walk}
-use Rattle.theorems.specs.Runs.{Run, Ran, AreBytes, stateFrom, isWithin, count, call, before, Starts}
+use Rattle.theorems.specs.Runs.{Run, Ran, AreBytes, AreWords, stateFrom, isWithin, count, call, before, Starts}
 use Rattle.theorems.proofs.Decoded.{state, every-outcome}
 use Rattle.theorems.proofs.Exported.{run-is}
 use Rattle.theorems.proofs.Form.{InForm, read-form, form-words}
@@ -50,25 +50,34 @@ from-form bytes h = read-form (stateIn bytes) (words-small bytes 0 50 h)
 abbrev wordsOf : State → List ℕ
 wordsOf s = stateWords (s .model) (s .cycle)
 
-left-walk : (calls : List ℕ) (at n : ℕ) (s : State) → leftBy (s .model) (s .cycle) calls at n ≡ wordsOf (walk (stepsFrom calls at n) s)
+-- and so are those of a call, with the lists
+call-small : (calls lists : List ℕ) (at : ℕ) → AreBytes calls → AreWords lists → AllWords (callAt calls lists at)
+call-small calls lists at h g = go (wordsAt calls at 49) (words-small calls at 49 h)
+  where
+    go : (l : List ℕ) → AllWords l → AllWords (l ++ lists)
+    go [] k i = g i
+    go (x ∷ l) k zero = k zero
+    go (x ∷ l) k (suc i) = go l (λ j. k (suc j)) i
+
+left-walk : (calls lists : List ℕ) (at n : ℕ) (s : State) → leftBy (s .model) (s .cycle) calls lists at n ≡ wordsOf (walk (stepsFrom calls lists at n) s)
 unfolding leftBy stepsFrom walk outcomeAt
-left-walk calls at zero s = refl
-left-walk calls at (suc n) s =
-    left-walk calls (at + 392) n (stateLeft (outcomeIn (callAt calls at) s))
-    ∙ ap (λ (z : State). wordsOf (walk (stepsFrom calls (at + 392) n) z)) (every-outcome (callAt calls at) s .leaves)
+left-walk calls lists at zero s = refl
+left-walk calls lists at (suc n) s =
+    left-walk calls lists (at + 392) n (stateLeft (outcomeIn (callAt calls lists at) s))
+    ∙ ap (λ (z : State). wordsOf (walk (stepsFrom calls lists (at + 392) n) z)) (every-outcome (callAt calls lists at) s .leaves)
 
 -- what every step keeps the calls keep
-walk-kept : (Q : State → Type 0) (calls : List ℕ) → ((at : ℕ) (s : State) → Q s → Q (afterStep (stepOf (callAt calls at)) s)) → (at n : ℕ) (s : State) → Q s → Q (walk (stepsFrom calls at n) s)
+walk-kept : (Q : State → Type 0) (calls lists : List ℕ) → ((at : ℕ) (s : State) → Q s → Q (afterStep (stepOf (callAt calls lists at)) s)) → (at n : ℕ) (s : State) → Q s → Q (walk (stepsFrom calls lists at n) s)
 unfolding stepsFrom walk
-walk-kept Q calls k at zero s q = q
-walk-kept Q calls k at (suc n) s q = walk-kept Q calls k (at + 392) n _ (k at s q)
+walk-kept Q calls lists k at zero s q = q
+walk-kept Q calls lists k at (suc n) s q = walk-kept Q calls lists k (at + 392) n _ (k at s q)
 
-module _ (calls : List ℕ) (h : AreBytes calls) where
-  pub walk-form : (n : ℕ) (s : State) → InForm s → InForm (walk (stepsFrom calls 0 n) s)
-  walk-form = walk-kept InForm calls (λ at s f. step-kept (stepOf (callAt calls at)) s (step-form (callAt calls at) (words-small calls at 49 h)) f) 0
+module _ (calls lists : List ℕ) (h : AreBytes calls) (g : AreWords lists) where
+  pub walk-form : (n : ℕ) (s : State) → InForm s → InForm (walk (stepsFrom calls lists 0 n) s)
+  walk-form = walk-kept InForm calls lists (λ at s f. step-kept (stepOf (callAt calls lists at)) s (step-form (callAt calls lists at) (call-small calls lists at h g)) f) 0
 
-  walk-within : (at n : ℕ) (s : State) → Within s → Within (walk (stepsFrom calls at n) s)
-  walk-within = walk-kept Within calls (λ at s f. step-within (stepOf (callAt calls at)) s (step-form (callAt calls at) (words-small calls at 49 h)) f)
+  walk-within : (at n : ℕ) (s : State) → Within s → Within (walk (stepsFrom calls lists at n) s)
+  walk-within = walk-kept Within calls lists (λ at s f. step-within (stepOf (callAt calls lists at)) s (step-form (callAt calls lists at) (call-small calls lists at h g)) f)
 
 -- ---- what is written is read back
 written : (s : State) → InForm s → stateIn (allBytes (wordsOf s)) ≡ wordsOf s
@@ -108,16 +117,16 @@ module _ (r : Run) (ran : Ran r) (done : r .reply ≡ 0) where
   unfolding stateOut answered wordsLeft stateFrom
   left-whole =
       let row = modelRow (r .state) (r .calls) (length (r .answers)) in
-      let words = allBytes (wordsLeft (r .state) (r .calls)) in
-      let long : length words ≡ length (r .state) = length-allBytes (wordsLeft (r .state) (r .calls)) ∙ ap (λ (n : ℕ). 8 * n) (length-words-left (r .state) (r .calls)) ∙ sym (run-whole (r .state) (r .calls) (length (r .answers)) (eq-eqb row 0 row-done)) in
-      run-is r ran .1 ∙ rw (eq-eqb row 0 row-done) (sets-whole (r .state) words long ∙ ap allBytes (left-walk (r .calls) 0 (callsIn (r .calls)) (stateFrom (r .state))))
+      let words = allBytes (wordsLeft (r .state) (r .calls) (r .lists)) in
+      let long : length words ≡ length (r .state) = length-allBytes (wordsLeft (r .state) (r .calls) (r .lists)) ∙ ap (λ (n : ℕ). 8 * n) (length-words-left (r .state) (r .calls) (r .lists)) ∙ sym (run-whole (r .state) (r .calls) (length (r .answers)) (eq-eqb row 0 row-done)) in
+      run-is r ran .1 ∙ rw (eq-eqb row 0 row-done) (sets-whole (r .state) words long ∙ ap allBytes (left-walk (r .calls) (r .lists) 0 (callsIn (r .calls)) (stateFrom (r .state))))
 
-  module _ (form : InForm (stateFrom (r .state))) (bytes : AreBytes (r .calls)) where
+  module _ (form : InForm (stateFrom (r .state))) (bytes : AreBytes (r .calls)) (numbers : AreWords (r .lists)) where
     pub left-back : stateFrom (r .left) ≡ before r (count r)
-    left-back = ap stateFrom left-whole ∙ read-back _ (walk-form (r .calls) bytes (count r) _ form)
+    left-back = ap stateFrom left-whole ∙ read-back _ (walk-form (r .calls) (r .lists) bytes numbers (count r) _ form)
 
     pub left-taken : (length (r .left) ≡ 400) × (encodesNone (r .left) ≡ false)
-    left-taken = subst (λ (l : List ℕ). (length l ≡ 400) × (encodesNone l ≡ false)) (sym left-whole) (taken-back _ (walk-form (r .calls) bytes (count r) _ form))
+    left-taken = subst (λ (l : List ℕ). (length l ≡ 400) × (encodesNone l ≡ false)) (sym left-whole) (taken-back _ (walk-form (r .calls) (r .lists) bytes numbers (count r) _ form))
 
     within-back : Within (before r (count r)) → isWithin (r .left) ≡ true
     within-back h =
@@ -128,15 +137,15 @@ module _ (r : Run) (ran : Ran r) (done : r .reply ≡ 0) where
     left-within h =
         let m = modelOk (stateFrom (r .state) .model) in
         let y = cycleOk (stateFrom (r .state) .cycle) in
-        within-back (walk-within (r .calls) bytes 0 (count r) (stateFrom (r .state)) (and-left m y h, and-right m y h))
+        within-back (walk-within (r .calls) (r .lists) bytes numbers 0 (count r) (stateFrom (r .state)) (and-left m y h, and-right m y h))
 
     -- whose first call is a start
     pub started-within : Starts r → isWithin (r .left) ≡ true
     unfolding stepsFrom walk afterStep stepOf
     started-within h = within-back (go (count r) (h .some))
       where
-        go : (n : ℕ) → 0 < n → Within (walk (stepsFrom (r .calls) 0 n) (stateFrom (r .state)))
+        go : (n : ℕ) → 0 < n → Within (walk (stepsFrom (r .calls) (r .lists) 0 n) (stateFrom (r .state)))
         go zero l = absurd (omega (arith, l))
         go (suc n) l =
-            walk-within (r .calls) bytes 392 n _
+            walk-within (r .calls) (r .lists) bytes numbers 392 n _
             (rw (h .first) (begun-within (paramsFrom (call r 0)) (duration (getD (call r 0) 2 0)) (moment (getD (call r 0) 1 0))))

@@ -20,7 +20,7 @@ use Rattle.drift.specs.Calls.{Call, State, numberOf, after, run, started}
 use Rattle.drift.specs.Exact.{Effect, stays, Exact, unset, exactly, exactRun}
 use Rattle.drift.specs.Drift.{Along}
 use Rattle.theorems.specs.Steps.{Step, begins, makes, keeps, moment, duration, stepOf, begun, afterStep, stepsFrom, walk, exactStep, exactWalk}
-use Rattle.theorems.specs.Runs.{Run, Ran, AreBytes, stateFrom, count, call, before, Starts, Each, Chained, InOrder, exactAfter, exactRuns, exactBefore}
+use Rattle.theorems.specs.Runs.{Run, Ran, IsLent, stateFrom, count, call, before, Starts, Each, Chained, InOrder, exactAfter, exactRuns, exactBefore}
 use Rattle.theorems.proofs.Exported.{run-keeps}
 use Rattle.theorems.proofs.Left.{from-form, left-back}
 
@@ -34,11 +34,11 @@ abbrev pub AlongSteps : (Call → Type 0) → List Step → State → Type 0
 AlongSteps P [] s = Unit {0}
 AlongSteps P (c ∷ steps) s = OfStep P c s × AlongSteps P steps (afterStep c s)
 
-along-before : (P : Call → Type 0) (calls : List ℕ) (at i n : ℕ) (s : State) → i ≤ n → AlongSteps P (stepsFrom calls at n) s → AlongSteps P (stepsFrom calls at i) s
+along-before : (P : Call → Type 0) (calls lists : List ℕ) (at i n : ℕ) (s : State) → i ≤ n → AlongSteps P (stepsFrom calls lists at n) s → AlongSteps P (stepsFrom calls lists at i) s
 unfolding stepsFrom
-along-before P calls at zero n s l h = tt
-along-before P calls at (suc i) zero s l h = absurd (omega (arith, l))
-along-before P calls at (suc i) (suc n) s l h = (h .0, along-before P calls (at + 392) i n _ (omega arith) (h .1))
+along-before P calls lists at zero n s l h = tt
+along-before P calls lists at (suc i) zero s l h = absurd (omega (arith, l))
+along-before P calls lists at (suc i) (suc n) s l h = (h .0, along-before P calls lists (at + 392) i n _ (omega arith) (h .1))
 
 -- ---- one more call at the end of a run
 run-more : (calls : List Call) (c : Call) (s : State) → run (calls ++ (c ∷ [])) s ≡ after c (run calls s)
@@ -106,9 +106,8 @@ module _ (effect : Call → State → Effect) (parts : ℕ) (P : Call → Type 0
   -- ---- one run of the exported function
   pub record Fair (r : Run) : Type 0 where
     pub ran : Ran r
-    pub state : AreBytes (r .state)
-    pub calls : AreBytes (r .calls)
-    pub along : r .reply ≡ 0 → AlongSteps P (stepsFrom (r .calls) 0 (count r)) (stateFrom (r .state))
+    pub lent : IsLent r
+    pub along : r .reply ≡ 0 → AlongSteps P (stepsFrom (r .calls) (r .lists) 0 (count r)) (stateFrom (r .state))
 
   abbrev Middle : Run → ℕ → Exact → Type 0
   Middle r i x = Reached (before r i) (exactBefore effect parts r i x)
@@ -122,7 +121,7 @@ module _ (effect : Call → State → Effect) (parts : ℕ) (P : Call → Type 0
   unfolding exactAfter settled
   done-after r x f done h =
       rw done
-      (subst (λ (z : State). Reached z (exactBefore effect parts r (count r) x)) (sym (left-back r (f .ran) done (from-form (r .state) (f .state)) (f .calls))) h)
+      (subst (λ (z : State). Reached z (exactBefore effect parts r (count r) x)) (sym (left-back r (f .ran) done (from-form (r .state) (f .lent .0)) (f .lent .1) (f .lent .2))) h)
 
   refused-after : (r : Run) (x : Exact) → Fair r → eqb (r .reply) 0 ≡ false → Reached (stateFrom (r .state)) x → Reached (stateFrom (r .left)) (exactAfter effect parts r x)
   unfolding exactAfter settled
@@ -132,7 +131,7 @@ module _ (effect : Call → State → Effect) (parts : ℕ) (P : Call → Type 0
   later r x f h = record { after = go (eqb (r .reply) 0) refl; middle = λ done i l other. middle done i (omega (arith, l)) }
     where
       middle : r .reply ≡ 0 → (i : ℕ) → i ≤ count r → Middle r i x
-      middle done i l = reached-walk _ (stateFrom (r .state)) x (along-before P (r .calls) 0 i (count r) _ l (f .along done)) h
+      middle done i l = reached-walk _ (stateFrom (r .state)) x (along-before P (r .calls) (r .lists) 0 i (count r) _ l (f .along done)) h
 
       go : (t : Bool) → eqb (r .reply) 0 ≡ t → Reached (stateFrom (r .left)) (exactAfter effect parts r x)
       go true e = let done = eqb-true (r .reply) 0 e in done-after r x f done (middle done (count r) (omega arith))
@@ -153,8 +152,8 @@ module _ (effect : Call → State → Effect) (parts : ℕ) (P : Call → Type 0
       middle : (i : ℕ) → i ≤ count r → 0 < i → Middle r i x
       middle zero l k = absurd (omega (arith, k))
       middle (suc i) l k =
-          reached-first _ (stepsFrom (r .calls) 392 i) (stateFrom (r .state)) x _ _ _ (first-step (call r 0) (h .first))
-          (along-before P (r .calls) 0 (suc i) (count r) (stateFrom (r .state)) l (f .along (h .done)))
+          reached-first _ (stepsFrom (r .calls) (r .lists) 392 i) (stateFrom (r .state)) x _ _ _ (first-step (call r 0) (h .first))
+          (along-before P (r .calls) (r .lists) 0 (suc i) (count r) (stateFrom (r .state)) l (f .along (h .done)))
 
       some : (i : ℕ) → (getD (call r i) 0 0 ≡ 0 → ⊥) → 0 < i
       some zero other = absurd (other (h .first))

@@ -7,7 +7,10 @@ use lib.Dec.{leb}
 use borrow.Author.Tests.{leb-true}
 use Rattle.state.specs.Bounds.{momentOk}
 use Rattle.state.proofs.Rows.{and-left, and-right}
-use Rattle.laws.proofs.Examples.{marked-examples, reason-examples}
+use Rattle.laws.proofs.Examples.{marked-examples, reason-examples, round-examples}
+use Rattle.filters.proofs.Greatest.{greatest-is}
+use Rattle.events.proofs.OnlyGreatest as events
+use Rattle.dispatch.proofs.Alike as dispatch
 use Rattle.laws.proofs.Contracts.{every-call}
 use Rattle.laws.proofs.Reasons.{reasons}
 use Rattle.laws.proofs.Replies.{every-reply}
@@ -42,6 +45,7 @@ unasked : Unasked
 unasked =
     record {
       run = λ κ a. tt;
+      run-lists = λ κ a. tt;
       filter-run = λ κ a. tt;
       raise-slope = λ κ a. tt;
       u64-to-f32 = λ κ a. tt;
@@ -63,8 +67,8 @@ theorems =
       run-keeps = exported.run-keeps;
       filter-keeps = exported.filter-keeps;
       slope-keeps = exported.slope-keeps;
-      run-bounds = λ r ran b c done h. elim h [ inl e ↦ left-within r ran done (from-form (r .state) b) c e | inr e ↦ started-within r ran done (from-form (r .state) b) c e ];
-      run-again = λ r ran b c done. left-taken r ran done (from-form (r .state) b) c;
+      run-bounds = λ r ran b done h. elim h [ inl e ↦ left-within r ran done (from-form (r .state) (b .0)) (b .1) (b .2) e | inr e ↦ started-within r ran done (from-form (r .state) (b .0)) (b .1) (b .2) e ];
+      run-again = λ r ran b done. left-taken r ran done (from-form (r .state) (b .0)) (b .1) (b .2);
       run-left = left-whole;
       call-answered = answer-bytes;
       call-row = every-row;
@@ -83,6 +87,10 @@ theorems =
       steps = every-outcome;
       numbers = every-number;
       examples = marked-examples;
+      greatest = greatest-is;
+      round-examples = round-examples;
+      only-greatest = events.only-greatest;
+      only-greatest-call = dispatch.only-greatest;
       reasons = reasons;
       reason-examples = reason-examples;
       worth = every-run;

@@ -8,7 +8,7 @@ use lib.Dec.{eqb}
 use lib.ListN.{length, replicate, take}
 use Rattle.words.specs.Words.{allBytes}
 use Rattle.dispatch.specs.Examples.{same, zeros}
-use Rattle.guovssalu.specs.ModelRun.{modelRow, stateOut, answersOut}
+use Rattle.guovssalu.specs.ModelRun.{noLists, modelRow, stateOut, answersOut}
 use Rattle.guovssalu.specs.Examples.{params, startAt, sends}
 use Rattle.drift.specs.Exact.{Exact, unset, over, inflightEffect}
 use Rattle.drift.specs.Drift.{usualParts}
@@ -18,21 +18,28 @@ use Rattle.theorems.specs.Runs.{Run, exactAfter}
 abbrev asks : ℕ → List ℕ
 asks number = number ∷ zeros 48
 
--- an event with the totals n acked and n lost, which acks packet n, with a bandwidth of 1 and a window of 1300
-abbrev acks : ℕ → List ℕ
-acks n = (3 ∷ 1 ∷ 1 ∷ []) ++ zeros 13 ++ (n ∷ n ∷ 1 ∷ n ∷ 0 ∷ 0 ∷ 0 ∷ 1300 ∷ []) ++ zeros 14 ++ params
+-- an event with the totals n acked and n lost, with a bandwidth of 1 and a window of 1300: words 18 and 19, the count
+-- of acked numbers and the first of them or the place of them
+abbrev acksOf : (n count start : ℕ) → List ℕ
+acksOf n count start =
+    (3 ∷ 1 ∷ 1 ∷ []) ++ zeros 13 ++ (n ∷ n ∷ count ∷ start ∷ 0 ∷ 0 ∷ 0 ∷ 1300 ∷ []) ++ zeros 14 ++ params
 
--- the run of such calls, of so many bytes, with room for n answers
-abbrev ran : (state calls : List ℕ) → (n : ℕ) → Run
-ran state calls n =
+-- one which acks packet n
+abbrev acks : ℕ → List ℕ
+acks n = acksOf n 1 n
+
+-- the run of such calls, of so many bytes, with these lists and with room for n answers
+abbrev ran : (state calls lists : List ℕ) → (n : ℕ) → Run
+ran state calls lists n =
     let answers : List ℕ = replicate (144 * n) 170 in
     record {
       state = state;
       calls = calls;
+      lists = lists;
       answers = answers;
       reply = modelRow state calls (length answers);
-      left = stateOut state calls answers;
-      written = answersOut state calls answers;
+      left = stateOut state calls lists answers;
+      written = answersOut state calls lists answers;
     }
 
 -- the words of the state after n such events, with inflight_lo at `lo`
@@ -42,17 +49,23 @@ after n lo =
     ++ ((2 ^ 64 - 1) ∷ 0x3f80_0000 ∷ 0x3f80_0000 ∷ []) ++ zeros 5 ++ (1 ∷ []) ++ zeros 4 ++ (n ∷ n ∷ []) ++ zeros 17
 
 abbrev first : Run
-first = ran (zeros 400) (allBytes (startAt 0 0 ++ sends 0 1 ++ acks 1)) 3
+first = ran (zeros 400) (allBytes (startAt 0 0 ++ sends 0 1 ++ acks 1)) noLists 3
 
 -- a question; a number that is no call's; a send at a moment that is out of bounds; a send and an event; the question
 abbrev second : Run
 second =
     ran (allBytes (after 1 910))
-    (allBytes (asks 35 ++ asks 46 ++ sends 9_000_000_000_000_000_000 2 ++ sends 0 2 ++ acks 2 ++ asks 35)) 6
+    (allBytes (asks 35 ++ asks 46 ++ sends 9_000_000_000_000_000_000 2 ++ sends 0 2 ++ acks 2 ++ asks 35)) noLists 6
+
+-- the same send, and events whose four numbers are in lists of five: from word 2 on, which are not there; from word 1
+-- on, in descending order, of which the first ends the round
+abbrev listed : Run
+listed =
+    ran (allBytes (after 1 910)) (allBytes (sends 0 2 ++ acksOf 2 4 2 ++ acksOf 2 4 1)) (7 ∷ 2 ∷ 1 ∷ 1 ∷ 0 ∷ []) 3
 
 -- a call that clears inflight_lo, of which a byte is missing
 abbrev third : Run
-third = ran (allBytes (after 2 637)) (take 391 (allBytes (asks 19))) 1
+third = ran (allBytes (after 2 637)) (take 391 (allBytes (asks 19))) noLists 1
 
 abbrev isOver : (num exponent k : ℕ) → Exact → Bool
 isOver num exponent k unset = false
@@ -81,6 +94,18 @@ secondExamples =
     ++ (0 ∷ 637 ∷ zeros 16)))
     ∷ isOver (1300 * usualParts * usualParts) 48 2
     (exactAfter inflightEffect usualParts second (over (1300 * usualParts) 24 1))
+    ∷ []
+
+-- the place outside is answered 2, with the record as it was handed in; then all is as after the event of one number
+unfoldable pub listedExamples : List Bool
+listedExamples =
+    eqb (listed .reply) 0
+    ∷ same (listed .left) (allBytes (after 2 637))
+    ∷ same (listed .written)
+    (allBytes
+    (zeros 18
+    ++ (2 ∷ 0 ∷ 0 ∷ 1300 ∷ zeros 14)
+    ++ (zeros 3 ++ (1300 ∷ 0 ∷ 0 ∷ 1 ∷ 1 ∷ 1 ∷ 0 ∷ 1 ∷ 1 ∷ []) ++ zeros 6)))
     ∷ []
 
 -- the run that is refused leaves the bytes, and the exact value

@@ -1,5 +1,5 @@
--- The exported calls on lent bytes, of which no more is known than their contracts, and runs of `guovssalu_run` one
--- after the other on the same state (docs/LAYOUT.md). Definitions only.
+-- The exported calls on lent bytes, of which no more is known than their contracts, and runs of `guovssalu_run` and
+-- `guovssalu_run_lists` one after the other on the same state (docs/LAYOUT.md). Definitions only.
 -- `word w i` is word i of a list of words, `Bytes.wordAt l i` the word in the 8 bytes of l from byte i on.
 -- Theorems.antt says how to read them; besides, `A ↔ B` is "A exactly when B", `Unit` "nothing is asked", `cond t a
 -- b` is a where the test t is true and b elsewhere, and of tests `eqb` is "equals", `ltb` "is below", `&&` "and",
@@ -7,7 +7,7 @@
 use Prim.Native.Nat.{ℕ, zero, suc, _+_, _-_, _*_, _%_, _^_, _≤_, _<_}
 use mathlib.Core.Bool.{Bool, true, false, cond, not, _&&_, _||_}
 use mathlib.Core.List.{List, [], _∷_}
-use mathlib.Core.Logic.{_↔_}
+use mathlib.Core.Logic.{_↔_, _⊎_}
 use mathlib.Core.Path.{_≡_}
 use lib.Dec.{ltb, eqb}
 use lib.Ieee.{Float}
@@ -26,11 +26,12 @@ use Rattle.layout.specs.NetworkModel.{modelFrom}
 use Rattle.layout.specs.Cycle.{cycleFrom}
 use Rattle.guovssalu.specs.Conversions.{f32Bits, f64Bits, f32ToU64, f64RoundToU64, scaledBy, bandwidthBy, bytesIn}
 use Rattle.pairs.specs.Pairs.{pairs, refuses}
-use Rattle.guovssalu.specs.ModelRun.{stateIn, encodesNone, callsIn}
+use Rattle.guovssalu.specs.ModelRun.{stateIn, encodesNone, callsIn, noLists}
 use Rattle.dispatch.specs.OneCall.{callAt}
 use Rattle.guovssalu.proofs.conversions as conversions
 use Rattle.guovssalu.proofs.filter_run.guovssalu_filter_run as filter
 use Rattle.guovssalu.proofs.model_run.guovssalu_run as model
+use Rattle.guovssalu.proofs.model_run.guovssalu_run_lists as lists
 use Rattle.guovssalu.proofs.slope.guovssalu_raise_inflight_high_slope as slope
 use Rattle.drift.specs.Calls.{Call, State}
 use Rattle.drift.specs.Exact as X
@@ -53,6 +54,7 @@ AsksNothing {K} {A} asked = (κ : K) (a : A κ) → asked κ a
 
 pub record Unasked : Type 0 where
   pub run : AsksNothing model.Reads.Asked
+  pub run-lists : AsksNothing lists.Reads.Asked
   pub filter-run : AsksNothing filter.Reads.Asked
   pub raise-slope : AsksNothing slope.Reads.Asked
   pub u64-to-f32 : AsksNothing conversions.guovssalu_u64_to_f32.Reads.Asked
@@ -63,26 +65,45 @@ pub record Unasked : Type 0 where
   pub bandwidth : AsksNothing conversions.guovssalu_bandwidth_mul_f32.Reads.Asked
   pub bytes : AsksNothing conversions.guovssalu_to_bytes_per_period.Reads.Asked
 
--- `guovssalu_run`: the bytes lent for the state, the calls and the answers; its reply; the bytes left in the state and
--- in the answers. The calls are lent to be read only
+-- `guovssalu_run_lists`: the bytes lent for the state, the calls and the answers, and the words of the lists; its
+-- reply; the bytes left in the state and in the answers. Calls and lists are lent to be read only
 pub record Run : Type 0 where
   pub state : List ℕ
   pub calls : List ℕ
+  pub lists : List ℕ
   pub answers : List ℕ
   pub reply : ℕ
   pub left : List ℕ
   pub written : List ℕ
 
-abbrev pub Ran : Run → Type 0
-Ran r =
+abbrev pub RanLists : Run → Type 0
+RanLists r =
+    Allowed lists.Reads.Learnt
+    (λ κ a n e.
+    (now (a .0) ≡ r .state)
+    × (now (a .1 .0) ≡ r .calls)
+    × (now (a .1 .1 .0) ≡ r .lists)
+    × (now (a .1 .1 .1 .0) ≡ r .answers)
+    × (n ≡ r .reply)
+    × (now (e .0) ≡ r .left)
+    × (now (e .1 .1 .1 .0) ≡ r .written))
+
+-- `guovssalu_run`, which is lent no lists
+abbrev pub RanPlain : Run → Type 0
+RanPlain r =
     Allowed model.Reads.Learnt
     (λ κ a n e.
     (now (a .0) ≡ r .state)
     × (now (a .1 .0) ≡ r .calls)
+    × (noLists ≡ r .lists)
     × (now (a .1 .1 .0) ≡ r .answers)
     × (n ≡ r .reply)
     × (now (e .0) ≡ r .left)
     × (now (e .1 .1 .0) ≡ r .written))
+
+-- a run of either
+abbrev pub Ran : Run → Type 0
+Ran r = RanPlain r ⊎ RanLists r
 
 -- `guovssalu_filter_run`: a window, the bytes of the pairs, the bytes lent for the samples and the reasons
 pub record FilterRun : Type 0 where
@@ -122,7 +143,8 @@ Raised r =
 
 -- any two outcomes that the contract allows for the same arguments coincide
 pub record OneOutcome : Type 0 where
-  pub run : (r q : Run) → Ran r → Ran q → (r .state ≡ q .state) × (r .calls ≡ q .calls) × (r .answers ≡ q .answers) →
+  pub run : (r q : Run) → Ran r → Ran q →
+      (r .state ≡ q .state) × (r .calls ≡ q .calls) × (r .lists ≡ q .lists) × (r .answers ≡ q .answers) →
       (r .reply ≡ q .reply) × (r .left ≡ q .left) × (r .written ≡ q .written)
   pub filter-run : (r q : FilterRun) → Filtered r → Filtered q →
       (r .window ≡ q .window) × (r .pairs ≡ q .pairs) × (r .output ≡ q .output) →
@@ -199,6 +221,14 @@ SlopeRow r =
 abbrev pub AreBytes : List ℕ → Type 0
 AreBytes l = (i : ℕ) → getD l i 0 < 256
 
+-- each is below 2^64
+abbrev pub AreWords : List ℕ → Type 0
+AreWords l = (i : ℕ) → getD l i 0 < 2 ^ 64
+
+-- what a run is lent to be read are bytes and words: of these lists any numbers could be said
+abbrev pub IsLent : Run → Type 0
+IsLent r = AreBytes (r .state) × AreBytes (r .calls) × AreWords (r .lists)
+
 unfoldable pub stateFrom : List ℕ → State
 stateFrom bytes = record { model = modelFrom (stateIn bytes); cycle = cycleFrom (stateIn bytes) }
 
@@ -206,12 +236,13 @@ stateFrom bytes = record { model = modelFrom (stateIn bytes); cycle = cycleFrom 
 abbrev pub isWithin : List ℕ → Bool
 isWithin bytes = modelOk (stateFrom bytes .model) && cycleOk (stateFrom bytes .cycle)
 
--- ---- call i of a run: its words, the state in which it is made, the 144 bytes of its answer, and a word of them
+-- ---- call i of a run: its words, with those of the lists after them, the state in which it is made, the 144 bytes of
+-- its answer, and a word of them
 abbrev pub call : Run → ℕ → List ℕ
-call r i = callAt (r .calls) (392 * i)
+call r i = callAt (r .calls) (r .lists) (392 * i)
 
 abbrev pub before : Run → ℕ → State
-before r i = walk (stepsFrom (r .calls) 0 i) (stateFrom (r .state))
+before r i = walk (stepsFrom (r .calls) (r .lists) 0 i) (stateFrom (r .state))
 
 abbrev pub answer : Run → ℕ → List ℕ
 answer r i = take 144 (drop (144 * i) (r .written))
@@ -247,16 +278,16 @@ abbrev pub InOrder : List Run → Type 0
 InOrder [] = ⊥
 InOrder (r ∷ runs) = Starts r × Chained (r .left) runs
 
--- runs of `guovssalu_run` on one state, each with an outcome that its contract allows, on lists of bytes. The first
--- begins with a start; after it any run may be refused, and any may start anew
+-- runs on one state, each with an outcome that its contract allows, on lists of bytes and of words. The first begins
+-- with a start; after it any run may be refused, and any may start anew
 pub record History (runs : List Run) : Type 0 where
   pub ran : Each Ran runs
-  pub bytes : Each (λ r. AreBytes (r .state) × AreBytes (r .calls)) runs
+  pub lent : Each IsLent runs
   pub order : InOrder runs
 
 -- ---- the exact run beside them, given the calls that the bytes hold: before call i of a run
 abbrev pub exactBefore : (Call → State → X.Effect) → (parts : ℕ) → Run → ℕ → Exact → Exact
-exactBefore effect parts r i x = exactWalk effect parts (stepsFrom (r .calls) 0 i) (stateFrom (r .state)) x
+exactBefore effect parts r i x = exactWalk effect parts (stepsFrom (r .calls) (r .lists) 0 i) (stateFrom (r .state)) x
 
 -- after it; a run that is refused counts as not made
 unfoldable pub exactAfter : (Call → State → X.Effect) → (parts : ℕ) → Run → Exact → Exact

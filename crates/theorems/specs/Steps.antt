@@ -1,5 +1,5 @@
--- A call's 49 words as the step that they ask for, by its number (docs/LAYOUT.md, "A call"), what a step does to a
--- state, and the exact run beside it (crates/drift/specs/Exact.antt). Definitions only.
+-- A call's 49 words, with the lists after them, as the step that they ask for, by its number (docs/LAYOUT.md, "A
+-- call"), what a step does to a state, and the exact run beside it (crates/drift/specs/Exact.antt). Definitions only.
 -- `data` lists the kinds of a thing. `zero` is 0, and `suc n` the number after n. `eqb a b` and `leb a b` test
 -- whether a equals b and whether it is at most b, `||` is "or" of tests, and `cond t a b` is a where the test t
 -- holds, b elsewhere. `record { f = a; .. }` is the record with those fields.
@@ -101,10 +101,10 @@ Replies (begins p rtt now) s n = n ≡ startNumber p rtt now
 Replies (makes c) s n = n ≡ numberOf c s
 Replies keeps s n = Unit {0}
 
--- the steps of the n calls in bytes from an index on, and what they do, one after the other
-unfoldable pub stepsFrom : List ℕ → ℕ → ℕ → List Step
-stepsFrom calls at zero = []
-stepsFrom calls at (suc n) = stepOf (callAt calls at) ∷ stepsFrom calls (at + 392) n
+-- the steps of the n calls in bytes from an index on, given the lists, and what they do, one after the other
+unfoldable pub stepsFrom : (calls lists : List ℕ) → ℕ → ℕ → List Step
+stepsFrom calls lists at zero = []
+stepsFrom calls lists at (suc n) = stepOf (callAt calls lists at) ∷ stepsFrom calls lists (at + 392) n
 
 unfoldable pub walk : List Step → State → State
 walk [] s = s

@@ -14,12 +14,13 @@
 --
 -- Bytes, words, the numbers of the calls, of the refusals and of the reasons are explained in docs/LAYOUT.md, "document
 -- 01" and "document 02" in docs/README.md. The statements are made of names from four files beside this one:
---   Runs.antt     an exported call as bytes lent and bytes left, of which no more is known than its contract; runs of
---                 `guovssalu_run` one after the other; where in the bytes a word stands; the exact value beside them
---   Steps.antt    the 49 words of a call as the step that they ask for, and what a step does to a state
+--   Runs.antt     an exported call as bytes lent and bytes left, of which no more is known than its contract; runs, by
+--                 `guovssalu_run` or with lists, one after the other; where in the bytes a word stands; the exact value
+--                 beside them
+--   Steps.antt    the 49 words of a call, with the lists, as the step that they ask for, and what it does to a state
 --   Rows.antt     by the number of a call in a run, which rows of document 01's table hold
 --   Casts.antt    that the casts of the definitions are those of the Rust Reference
--- and Examples.antt has three runs worked out in bytes, so that one sees what the statements speak of.
+-- and Examples.antt has four runs worked out in bytes, so that one sees what the statements speak of.
 -- Any other name stands in the crate that its `use` line names; what the lower bounds, exact values and `Follows` are
 -- is explained in crates/drift/specs/Drift.antt.
 use Prim.Native.Nat.{ℕ, _^_, _≤_, _<_}
@@ -32,7 +33,10 @@ use lib.Ieee.Exact.{HasValue}
 use lib.ListN.{length}
 use Rattle.numbers.specs.Scaling.{complement, partsOf}
 use Rattle.numbers.specs.Examples.{all}
-use Rattle.filters.specs.Examples.{reasonExamples}
+use Rattle.filters.specs.Examples.{reasonExamples, roundExamples}
+use Rattle.filters.specs.Greatest.{Greatest}
+use Rattle.events.specs.OnlyGreatest.{OnlyGreatest}
+use Rattle.dispatch.specs.OnlyGreatest as Calls
 use Rattle.laws.specs.Examples.{markedExamples}
 use Rattle.state.specs.Bounds.{momentOk}
 use Rattle.laws.specs.Laws.{EveryCall}
@@ -59,7 +63,7 @@ use Rattle.drift.specs.Drift.{Follows, IsBeta, usualBeta, usualParts, Under}
 use Rattle.theorems.specs.Rows.{rowsOf}
 use Rattle.theorems.specs.Casts.{Casts}
 use Rattle.theorems.specs.Steps.{moment, Makes, Refused, Numbered, stepOf, outcomeIn}
-use Rattle.theorems.specs.Runs.{Unasked, Run, Ran, FilterRun, Filtered, SlopeRun, Raised, OneOutcome, Conversions, RunRow, FilterRow, SlopeRow, PairShows, AreBytes, isWithin, count, call, before, answer, answerWord, Accepted, Starts, Each, History, exactAfter, exactRuns, exactBefore, lowWord, inflightIn, bandwidthIn, HasBetaWord, HasSmallWords, OfEvents}
+use Rattle.theorems.specs.Runs.{Unasked, Run, Ran, FilterRun, Filtered, SlopeRun, Raised, OneOutcome, Conversions, RunRow, FilterRow, SlopeRow, PairShows, AreBytes, IsLent, isWithin, count, call, before, answer, answerWord, Accepted, Starts, Each, History, exactAfter, exactRuns, exactBefore, lowWord, inflightIn, bandwidthIn, HasBetaWord, HasSmallWords, OfEvents}
 
 -- What demand 3 says, of any runs, the last of which is r, that begin with a start (`History`), and in which every
 -- accepted event has words of which P holds: the number that `low` finds in the bytes that r left is near the exact one
@@ -101,11 +105,12 @@ pub record Theorems : Type 0 where
   pub filter-keeps : (r : FilterRun) → Filtered r → (r .reply ≡ 0 → ⊥) → r .written ≡ r .output
   pub slope-keeps : (r : SlopeRun) → Raised r → (r .reply ≡ 0 → ⊥) → r .written ≡ r .output
   -- A run that is done leaves a state within document 01's bounds, if it was lent one or its first call is a start. The
-  -- premise `AreBytes` says that each byte is below 256: a list here may hold any numbers
-  pub run-bounds : (r : Run) → Ran r → AreBytes (r .state) → AreBytes (r .calls) → r .reply ≡ 0 →
+  -- premise `IsLent` says that each byte is below 256, and each word of the lists below 2^64: a list here may hold any
+  -- numbers
+  pub run-bounds : (r : Run) → Ran r → IsLent r → r .reply ≡ 0 →
       (isWithin (r .state) ≡ true) ⊎ Starts r → isWithin (r .left) ≡ true
   -- And it leaves 400 bytes that encode a state, so that the next run takes them
-  pub run-again : (r : Run) → Ran r → AreBytes (r .state) → AreBytes (r .calls) → r .reply ≡ 0 →
+  pub run-again : (r : Run) → Ran r → IsLent r → r .reply ≡ 0 →
       (length (r .left) ≡ 400) × (encodesNone (r .left) ≡ false)
   -- Those bytes are the words of the state that the calls left, one after the other (`before r (count r)`)
   pub run-left : (r : Run) → Ran r → r .reply ≡ 0 →
@@ -133,8 +138,8 @@ pub record Theorems : Type 0 where
   -- ==== Demand 2. What an exported call replies and leaves is what its definition says, and nothing else is allowed
   pub run-defined : (r : Run) → Ran r →
       (r .reply ≡ modelRow (r .state) (r .calls) (length (r .answers)))
-      × (r .left ≡ stateOut (r .state) (r .calls) (r .answers))
-      × (r .written ≡ answersOut (r .state) (r .calls) (r .answers))
+      × (r .left ≡ stateOut (r .state) (r .calls) (r .lists) (r .answers))
+      × (r .written ≡ answersOut (r .state) (r .calls) (r .lists) (r .answers))
   pub filter-defined : (r : FilterRun) → Filtered r →
       (r .reply ≡ runRow (r .window) (r .pairs) (length (r .output)))
       × (r .written ≡ runOut (r .window) (r .pairs) (r .output))
@@ -150,6 +155,13 @@ pub record Theorems : Type 0 where
   pub numbers : (w : List ℕ) → Numbered (stepOf w) (word w 0)
   -- Document 01's twelve marked examples hold of the definitions
   pub examples : all markedExamples ≡ true
+  -- Acks out of order (document 02, request d): what the greatest of a list is, and that it is the last of a list that
+  -- rises; which lists end a round, worked out; an event's reply, next model and record depend on its list only by
+  -- whether it is empty and by its greatest number, and so does what a call of a run answers and leaves
+  pub greatest : Greatest
+  pub round-examples : all roundExamples ≡ true
+  pub only-greatest : OnlyGreatest
+  pub only-greatest-call : Calls.OnlyGreatest
   -- Why a windowed filter's estimates moved (document 02, request f): "unchanged" exactly when the update left the
   -- filter as it was; the best moves with step 1 and step 3 alone; of step 2 and a later step the later is named; and
   -- only four such pairs can meet, each worked out
@@ -185,6 +197,6 @@ pub record Theorems : Type 0 where
 -- compiles what was proved. The page docs/LAYOUT.md. And the definitions that this page is made of, written from
 -- documents 01 and 02, the original and docs/LAYOUT.md: all files of specs/ to which `use` lines lead from here, with
 -- their remarks. A script of the gate counts their lines (tests/contracts.py):
---   numbers 257, units 92, filters 350, words 129, state 657, worth 274, layout 215, events 362, phases 208, changes
---   61, judge 199, arguments 191, reads 18, pairs 57, calls 204, laws 520, drift 379, dispatch 210, guovssalu 148,
---   theorems 754: together 5285
+--   numbers 257, units 92, filters 441, words 129, state 657, worth 274, layout 215, events 389, phases 208, changes
+--   61, judge 199, arguments 222, reads 18, pairs 57, calls 204, laws 520, drift 379, dispatch 233, guovssalu 155,
+--   theorems 797: together 5507

@@ -90,14 +90,15 @@ impl Rounds {
             .on_packet_sent(self.base, 0, number, DEFAULT_MSS, true);
     }
 
-    /// An event with this slice of acked numbers and an empty answer of the
-    /// sampler: whether it ended a round.
+    /// An event with this slice of acked numbers, which the original is asked
+    /// sorted, and an empty answer of the sampler: whether it ended a round.
     pub fn acked(&mut self, numbers: &[u64]) -> bool {
         let acked = numbers.iter().map(|&number| Acked {
             pkt_num: number,
             time_sent: self.base,
         });
-        let acked: Vec<Acked> = acked.collect();
+        let mut acked: Vec<Acked> = acked.collect();
+        acked.sort_by_key(|acked| acked.pkt_num);
 
         let mut event = BBRv2CongestionEvent::new(self.base, 0, 0, false);
         self.model

@@ -152,12 +152,30 @@ impl Host {
         ]
     }
 
-    /// An event, whose record is the current one; `moment` is the record's.
+    /// An event with these acked numbers, whose record is the current one. The
+    /// original takes the last number for the largest, and the port the
+    /// greatest: so the original is asked the list sorted.
+    pub fn event_of(&mut self, sample: &Sample, numbers: &[u64]) {
+        let moment = whole_nanos(self.event.event_time - self.base);
+        let time_sent = self.base;
+        let mut numbers = numbers.to_vec();
+        numbers.sort();
+        let acked = numbers.into_iter();
+        let acked: Vec<Acked> = acked.map(|pkt_num| Acked { pkt_num, time_sent }).collect();
+        self.begin(moment, sample, &acked)
+    }
+
+    /// The same with the sample's own acked numbers, which ascend, where the
+    /// record's moment is known.
     pub fn event(&mut self, moment: u64, sample: &Sample) {
-        self.last = moment.max(self.last);
+        debug_assert!(sample.acked().is_sorted());
         let time_sent = self.base;
         let acked = sample.acked.map(|pkt_num| Acked { pkt_num, time_sent });
-        let acked = &acked[..sample.acked_length];
+        self.begin(moment, sample, &acked[..sample.acked_length])
+    }
+
+    fn begin(&mut self, moment: u64, sample: &Sample, acked: &[Acked]) {
+        self.last = moment.max(self.last);
         let model = &mut self.probe.model;
         model.hand_in(answer_of(sample));
         model.on_congestion_event_start(acked, &[], &mut self.event, &self.params)
@@ -193,10 +211,7 @@ impl Host {
                 bytes,
             } => self.sent(moment, in_flight, number, bytes),
             Call::Record(record) => self.record(&record),
-            Call::Event(sample) => {
-                let moment = whole_nanos(event.event_time - base);
-                self.event(moment, &sample)
-            }
+            Call::Event(sample) => self.event_of(&sample, sample.acked()),
             Call::Finish => self.finish(),
             Call::ExpireMinRtt => return model.maybe_expire_min_rtt(event, params) as u64,
             Call::InflightTooHigh { max_loss_events } => {

@@ -2,20 +2,22 @@
 //! `guovssalu` has them safe, behind types.
 //!
 //! Every call takes any numbers and any bytes, keeps nothing between calls and allocates nothing.
-//! A lent range of bytes is a pointer and a length; with the length 0 the pointer is not used. Two
-//! ranges of one call must not overlap. A word is a `u64` in 8 bytes, the lowest byte first, at any
-//! alignment.
+//! A lent range of bytes is a pointer and a length; with the length 0 the pointer is not used. A
+//! range that is written must not overlap another one of the call. A word is a `u64` in 8 bytes, the
+//! lowest byte first, at any alignment. A lent range of numbers, the lists of
+//! [`guovssalu_run_lists`], is a pointer to `u64`, aligned as such, and how many there are.
 //!
 //! An f32 or an f64 crosses as its bits. Every pattern of a NaN counts as a NaN.
 //!
 //! Where a call replies with a number: 0 is done, and any other number is a refusal, which leaves
 //! every lent byte as it was. Where several apply, the lowest is given. The calls inside a run have
-//! answers of their own: [`guovssalu_run`].
+//! answers of their own: [`guovssalu_run`] and [`guovssalu_run_lists`].
 //!
 //! # Safety
 //!
-//! A call on numbers is always safe. A call on bytes needs ranges that may be read, and written
-//! where the pointer is `*mut`, and that don't overlap. No call keeps a pointer.
+//! A call on numbers is always safe. A call on lent ranges needs ranges that may be read, and written
+//! where the pointer is `*mut`; one that is written overlaps no other, and one of numbers is aligned.
+//! No call keeps a pointer.
 //!
 //! # Linking
 //!
@@ -95,6 +97,9 @@ extern "C" {
     /// flag is written as (flag ? 1 : 0). A number that is no call's is refused with 2, or with 1 where
     /// the stored model is out of bounds.
     ///
+    /// An event's acked numbers may stand in any order: the greatest counts. More than 3 of them go by
+    /// [`guovssalu_run_lists`].
+    ///
     /// The run itself replies 1 for bytes that encode no state, 2 for a state of another length or a part
     /// of a call, 7 for answers too short for the calls.
     pub fn guovssalu_run(
@@ -102,6 +107,30 @@ extern "C" {
         state_len: usize,
         calls: *const u8,
         calls_len: usize,
+        answers: *mut u8,
+        answers_len: usize,
+    ) -> u64;
+
+    /// The same as [`guovssalu_run`], with lists beside the calls, from which an event can take as many
+    /// acked numbers as there are. The lists are lists_len numbers, only read; with the length 0 the
+    /// pointer is not used, and the run is [`guovssalu_run`].
+    ///
+    /// An event, [`table::call::ON_CONGESTION_EVENT_START`], has n acked numbers, its word
+    /// [`table::sample::ACKED_COUNT`]. Up to [`table::MOST_ACKED`] stand in the event itself, from the
+    /// word [`table::sample::ACKED_PACKETS`] on, and the lists are not looked at. More stand in the
+    /// lists: they are the n numbers from place s on, counted from 0, where s is the event's word
+    /// [`table::sample::ACKED_PACKETS`]; the two words after that are not looked at. Where the lists
+    /// don't hold them all, s + n being above lists_len, that event is refused with 2, or with 1 where
+    /// that applies too, and the run goes on. Events may take the same numbers.
+    ///
+    /// The run's own replies are those of [`guovssalu_run`], whatever the lists are.
+    pub fn guovssalu_run_lists(
+        state: *mut u8,
+        state_len: usize,
+        calls: *const u8,
+        calls_len: usize,
+        lists: *const u64,
+        lists_len: usize,
         answers: *mut u8,
         answers_len: usize,
     ) -> u64;

@@ -50,7 +50,7 @@ pub const SAMPLES_BYTES: usize = 32;
 pub const SLOPE_WORDS: usize = 2;
 /// Bytes of the slope's output.
 pub const SLOPE_BYTES: usize = 16;
-/// The most numbers of acked packets in a call.
+/// The most acked numbers in a call itself; more stand in the lists.
 pub const MOST_ACKED: usize = 3;
 /// The first word of its number in a call.
 pub const NUMBER_IN_CALL: usize = 0;

@@ -1,3 +1,5 @@
+use std::ops::Range;
+
 use crate::foreign;
 use crate::table;
 use crate::table::call;
@@ -9,8 +11,8 @@ use crate::Params;
 use crate::Refusal;
 use crate::Sample;
 
-/// One call as bytes, for [`run`]: its number, its arguments, the event's record and the parameters,
-/// as docs/LAYOUT.md numbers and orders them, and [`table`] names them.
+/// One call as bytes, for [`run`] and [`run_lists`]: its number, its arguments, the event's record and
+/// the parameters, as docs/LAYOUT.md numbers and orders them, and [`table`] names them.
 ///
 /// The methods of [`NetworkModel`](crate::NetworkModel) and [`Cycle`](crate::Cycle) make one call at
 /// a time. Whoever has many at hand writes their bytes one after the other and makes them all by one
@@ -44,7 +46,10 @@ impl Call {
         Call { bytes }
     }
 
-    /// An event. Of the packets acked the last three are handed on: only the last counts.
+    /// An event, with the numbers of the packets acked, in any order and as many as there are. Only the
+    /// greatest is handed on: by it, and by whether there is one at all, the event's reply, the state
+    /// after it and its record are settled (proved: `only-greatest` in
+    /// crates/theorems/specs/Theorems.antt).
     pub fn on_congestion_event_start(
         acked_packets: &[u64],
         event: &CongestionEvent,
@@ -82,12 +87,38 @@ impl Call {
             words::put(bytes, at, number);
         }
 
-        let last = &acked_packets[acked_packets.len().saturating_sub(table::MOST_ACKED)..];
-        words::put(bytes, sample::ACKED_COUNT, last.len() as u64);
-        for (at, packet) in last.iter().enumerate() {
-            words::put(bytes, sample::ACKED_PACKETS + at, *packet);
+        match acked_packets.iter().max() {
+            Some(greatest) => call.with_numbers(1, &[*greatest]),
+            None => call.with_numbers(0, &[]),
         }
-        call
+    }
+
+    /// The event with other acked numbers, all of them as they are: `lists[numbers]`. Up to
+    /// [`table::MOST_ACKED`] are written into the event itself. More are named by their place and stay
+    /// in the lists, so [`run_lists`] has to be lent these; another run refuses the event, or takes
+    /// what stands there.
+    ///
+    /// # Panics
+    ///
+    /// If the lists have no such numbers.
+    pub fn with_list(self, lists: &[u64], numbers: Range<usize>) -> Self {
+        let (place, acked) = (numbers.start as u64, &lists[numbers]);
+        let count = acked.len() as u64;
+        if acked.len() <= table::MOST_ACKED {
+            self.with_numbers(count, acked)
+        } else {
+            self.with_numbers(count, &[place])
+        }
+    }
+
+    /// The event with this count, and after it these words, the others 0.
+    fn with_numbers(mut self, count: u64, three: &[u64]) -> Self {
+        words::put(&mut self.bytes, sample::ACKED_COUNT, count);
+        for at in 0..table::MOST_ACKED {
+            let word = three.get(at).copied().unwrap_or(0);
+            words::put(&mut self.bytes, sample::ACKED_PACKETS + at, word);
+        }
+        self
     }
 
     /// The call with an event's record.
@@ -118,7 +149,7 @@ impl Call {
     }
 }
 
-/// A call's answer as bytes, from [`run`].
+/// A call's answer as bytes, from [`run`] or [`run_lists`].
 #[derive(Clone, Copy, Debug, PartialEq, Eq)]
 pub struct Answer {
     bytes: [u8; Answer::BYTES],
@@ -195,4 +226,56 @@ impl Answer {
 /// ```
 pub fn run(state: &mut [u8], calls: &[u8], answers: &mut [u8]) -> Result<(), Refusal> {
     Refusal::of(foreign::run(state, calls, answers))
+}
+
+/// Makes many calls as [`run`] does, with lists beside them, from which an event can take as many
+/// acked numbers as there are: [`Call::with_list`] names them. Events may name the same numbers.
+///
+/// An event that names numbers which these lists don't hold is refused with `BadArgument` in its
+/// answer, or with `OutOfBounds` where that applies too, and the run goes on. Of the lists nothing is
+/// changed. With none it is [`run`].
+///
+/// # Errors
+///
+/// Those of [`run`], whatever the lists are.
+///
+/// ```
+/// use guovssalu::table::call;
+/// use guovssalu::{run, run_lists, Answer, Call, CongestionEvent, Params, Refusal, Sample};
+///
+/// // Six packets are sent; an ack past the third ends the round.
+/// let (mut calls, params) = (Vec::new(), Params::default());
+/// calls.extend(Call::new(call::START, &[0, 100_000_000]).with_params(&params).as_bytes());
+/// for packet in 1..=6 {
+///     calls.extend(Call::new(call::ON_PACKET_SENT, &[0, 0, packet, 1_200]).as_bytes());
+///     if packet == 3 {
+///         calls.extend(Call::new(call::RESTART_ROUND_EARLY, &[]).as_bytes());
+///     }
+/// }
+///
+/// // An event acks them all, from the last to the first.
+/// let lists = [6, 5, 4, 3, 2, 1];
+/// let (event, sample) = (CongestionEvent::default(), Sample::default());
+/// let event = Call::on_congestion_event_start(&[], &event, &sample, &params);
+/// calls.extend(event.with_list(&lists, 0..6).as_bytes());
+///
+/// let mut state = [0; guovssalu::STATE_BYTES];
+/// let mut answers = [0; 9 * Answer::BYTES];
+/// run_lists(&mut state, &calls, &lists, &mut answers)?;
+/// let last = answers[8 * Answer::BYTES..].try_into().unwrap();
+/// assert!(Answer::from_bytes(last).event()?.end_of_round_trip);
+///
+/// // A run that isn't lent the lists refuses the event.
+/// run(&mut [0; guovssalu::STATE_BYTES], &calls, &mut answers)?;
+/// let last = answers[8 * Answer::BYTES..].try_into().unwrap();
+/// assert_eq!(Answer::from_bytes(last).event(), Err(Refusal::BadArgument));
+/// # Ok::<(), Refusal>(())
+/// ```
+pub fn run_lists(
+    state: &mut [u8],
+    calls: &[u8],
+    lists: &[u64],
+    answers: &mut [u8],
+) -> Result<(), Refusal> {
+    Refusal::of(foreign::run_lists(state, calls, lists, answers))
 }

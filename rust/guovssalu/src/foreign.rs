@@ -4,9 +4,9 @@
 
 use guovssalu_sys as sys;
 
-// SAFETY, for all of them: a call on numbers takes any. A call on bytes takes any range that may be
-// read, and written where it is `mut`, and ranges that don't overlap: slices are such ranges, and
-// the borrows keep them apart. No call keeps a pointer.
+// SAFETY, for all of them: a call on numbers takes any. A call on lent ranges takes any range that may
+// be read, and written where it is `mut`, if one that is written overlaps no other and one of numbers
+// is aligned: slices are such ranges, and the borrows keep a `mut` one apart. No call keeps a pointer.
 
 pub fn u64_to_f32(n: u64) -> u32 {
     unsafe { sys::guovssalu_u64_to_f32(n) }
@@ -52,6 +52,21 @@ pub fn run(state: &mut [u8], calls: &[u8], answers: &mut [u8]) -> u64 {
             state.len(),
             calls.as_ptr(),
             calls.len(),
+            answers.as_mut_ptr(),
+            answers.len(),
+        )
+    }
+}
+
+pub fn run_lists(state: &mut [u8], calls: &[u8], lists: &[u64], answers: &mut [u8]) -> u64 {
+    unsafe {
+        sys::guovssalu_run_lists(
+            state.as_mut_ptr(),
+            state.len(),
+            calls.as_ptr(),
+            calls.len(),
+            lists.as_ptr(),
+            lists.len(),
             answers.as_mut_ptr(),
             answers.len(),
         )

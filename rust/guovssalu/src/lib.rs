@@ -65,6 +65,7 @@ mod words;
 
 pub use bandwidth::Bandwidth;
 pub use call::run;
+pub use call::run_lists;
 pub use call::Answer;
 pub use call::Call;
 pub use cycle::Cycle;

@@ -126,9 +126,11 @@ impl NetworkModel {
         self.make(&call).map(drop)
     }
 
-    /// An event: the numbers of the packets acked, in the order in which they were acked, what is
-    /// known of the event, and what the sampler says to it. Fills in the event. Of the numbers only
-    /// the last counts, as in the original.
+    /// An event: the numbers of the packets acked, what is known of the event, and what the sampler
+    /// says to it. Fills in the event. The numbers may come in any order, and be as many as there are:
+    /// the greatest counts, where in the original the last does. It ends the round where it is past the
+    /// round's end; with no numbers no round ends. Only the greatest is handed on (proved to be enough:
+    /// `only-greatest` in crates/theorems/specs/Theorems.antt).
     pub fn on_congestion_event_start(
         &mut self,
         acked_packets: &[u64],

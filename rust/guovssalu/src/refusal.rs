@@ -8,7 +8,8 @@ use crate::table::reply;
 /// which has then replaced the state by a fresh one at moment 0.
 ///
 /// Malformed words (docs/LAYOUT.md) can only be in calls that were not written by this package, or by
-/// [`Call::new`](crate::Call::new) with other arguments than the call has.
+/// [`Call::new`](crate::Call::new) with other arguments than the call has, and in an event with a list
+/// ([`Call::with_list`](crate::Call::with_list)) in a run that is not lent it.
 #[derive(Clone, Copy, Debug, PartialEq, Eq, Hash)]
 pub enum Refusal {
     /// 1: a stored number or a parameter is outside its bounds, a parameter's word is malformed, or

@@ -3,6 +3,7 @@
 
 use guovssalu::filter_run;
 use guovssalu::run;
+use guovssalu::run_lists;
 use guovssalu::table;
 use guovssalu::table::call;
 use guovssalu::table::event;
@@ -101,14 +102,63 @@ fn a_run_stays_within_its_bytes() {
     }
 }
 
-/// A run on bytes of these lengths has to be refused with this row and write nothing.
+/// The lists of a run stand between numbers that are past every end: what is read around them ends a
+/// round.
+#[test]
+fn a_run_with_lists_stays_within_its_bytes() {
+    // Packet 9 is the round's end, and no number of the lists is past it.
+    let mut state = begun();
+    let restart = Call::new(call::RESTART_ROUND_EARLY, &[]);
+    let mut answer = [0; Answer::BYTES];
+    assert_eq!(run(&mut state, restart.as_bytes(), &mut answer), Ok(()));
+    for length in 4..=9 {
+        let mut memory = vec![u64::MAX; length + 16];
+        memory[8..8 + length].fill(9);
+        let before = memory.clone();
+        let lists = &memory[8..8 + length];
+        // All of the lists, the first four numbers and the last four.
+        let named = [(length, 0), (4, 0), (4, length - 4)];
+        let words = named.map(|(count, place)| {
+            event_with(&[
+                (sample::ACKED_COUNT, count as u64),
+                (sample::ACKED_PACKETS, place as u64),
+            ])
+        });
+        let calls = words.concat();
+        for spare in [0, 1, 7, Answer::BYTES] {
+            let mut lent = Guarded::new(&state);
+            let mut asked = Guarded::new(&calls);
+            let mut answers = Guarded::new(&vec![0x77; 3 * Answer::BYTES + spare]);
+            let reply = run_lists(lent.content(), asked.content(), lists, answers.content());
+            assert_eq!(reply, Ok(()));
+            assert!(asked.checked() == calls);
+            assert_eq!(word(lent.checked(), state::ROUND_TRIP_COUNT), 0);
+            assert_eq!(word(lent.checked(), state::LAST_ACCEPTED_MOMENT), 8);
+            let (given, beyond) = answers.checked().split_at(3 * Answer::BYTES);
+            for answer in given.chunks(Answer::BYTES) {
+                let event = Answer::from_bytes(answer.try_into().unwrap()).event();
+                assert_eq!(event.map(|event| event.end_of_round_trip), Ok(false));
+            }
+            assert!(beyond.len() == spare && beyond.iter().all(|&byte| byte == 0x77));
+        }
+        assert!(memory == before);
+    }
+}
+
+/// A run on bytes of these lengths has to be refused with this row and write nothing, whatever lists it
+/// is lent.
 fn refused(state: &[u8], calls: &[u8], room: usize, refusal: Refusal) {
-    let mut lent = Guarded::new(state);
-    let mut answers = Guarded::new(&vec![0x77; room]);
-    let reply = run(lent.content(), calls, answers.content());
-    assert_eq!(reply, Err(refusal));
-    assert!(lent.checked() == state);
-    assert!(answers.checked().iter().all(|&byte| byte == 0x77));
+    for lists in [None, Some(&[][..]), Some(&[0, 1, 2, 3, 4][..])] {
+        let mut lent = Guarded::new(state);
+        let mut answers = Guarded::new(&vec![0x77; room]);
+        let reply = match lists {
+            None => run(lent.content(), calls, answers.content()),
+            Some(lists) => run_lists(lent.content(), calls, lists, answers.content()),
+        };
+        assert_eq!(reply, Err(refusal));
+        assert!(lent.checked() == state);
+        assert!(answers.checked().iter().all(|&byte| byte == 0x77));
+    }
 }
 
 #[test]
@@ -185,6 +235,9 @@ fn a_run_refuses_what_is_no_state() {
 fn a_run_of_no_calls_leaves_the_state() {
     let mut state = Guarded::new(&[0; STATE_BYTES]);
     assert_eq!(run(state.content(), &[], &mut []), Ok(()));
+    assert!(state.checked() == [0; STATE_BYTES]);
+    let lists = [u64::MAX; 4];
+    assert_eq!(run_lists(state.content(), &[], &lists, &mut []), Ok(()));
     assert!(state.checked() == [0; STATE_BYTES]);
 }
 
@@ -299,8 +352,10 @@ fn a_refused_event_gives_its_record_back() {
         ),
         (2, with(&[(EVENT + event::PRIOR_CWND, most)])),
         (2, with(&all)),
-        // A malformed argument beside a good record, and an earlier moment.
+        // A malformed argument beside a good record, numbers in lists that there are none of, and an
+        // earlier moment.
         (2, with(&[(sample::SAMPLE_IS_APP_LIMITED, 2)])),
+        (2, with(&[(sample::ACKED_COUNT, 4)])),
         (
             3,
             with(&[
@@ -449,19 +504,4 @@ fn a_filter_run_needs_room_for_the_reasons() {
             }
         }
     }
-}
-
-#[test]
-fn of_many_packets_acked_the_last_three_are_handed_on() {
-    let numbers = |acked: &[u64]| {
-        let (event, sample) = (CongestionEvent::default(), Sample::default());
-        let call = Call::on_congestion_event_start(acked, &event, &sample, &Params::default());
-        let words = sample::ACKED_COUNT..=sample::ACKED_PACKETS + 2;
-        words
-            .map(|at| word(call.as_bytes(), at))
-            .collect::<Vec<_>>()
-    };
-    assert_eq!(numbers(&[]), [0, 0, 0, 0]);
-    assert_eq!(numbers(&[7, 8]), [2, 7, 8, 0]);
-    assert_eq!(numbers(&[5, 6, 7, 8, 9]), [3, 7, 8, 9]);
 }

@@ -4,6 +4,7 @@
 
 use guovssalu::raise_inflight_high_slope;
 use guovssalu::run;
+use guovssalu::run_lists;
 use guovssalu::table;
 use guovssalu::table::argument;
 use guovssalu::table::argument::bdp;
@@ -235,6 +236,21 @@ fn counters_may_be_full() {
     });
     done(rounds(u64::MAX), |model| event(model, &[], (1000, 0)));
     done(rounds(u64::MAX - 1), |model| event(model, &[1], (1000, 0)));
+
+    // Where the end is 7, by the greatest number.
+    let full = || {
+        let bytes = changed(fresh().as_bytes(), state::ROUND_TRIP_COUNT, u64::MAX);
+        let bytes = changed(&bytes, state::END_OF_ROUND_TRIP_SET, 1);
+        NetworkModel::from_bytes(&changed(&bytes, state::END_OF_ROUND_TRIP, 7)).unwrap()
+    };
+    for acked in [&[8][..], &[8, 1], &[1, 8, 2, 3, 4]] {
+        refused(full(), Refusal::FullCounter, |model| {
+            event(model, acked, (1000, 0))
+        });
+    }
+    for acked in [&[][..], &[7], &[7, 1], &[1, 7, 2, 3, 4]] {
+        done(full(), |model| event(model, acked, (1000, 0)));
+    }
 }
 
 #[test]
@@ -309,7 +325,7 @@ fn only_bytes_of_a_state_are_taken() {
 }
 
 #[test]
-fn of_many_packets_acked_the_last_counts() {
+fn of_many_packets_acked_the_greatest_counts() {
     let after = |acked: &[u64]| {
         let mut model = fresh();
         model.on_packet_sent(moment(11), 0, 7, 1300).unwrap();
@@ -321,7 +337,9 @@ fn of_many_packets_acked_the_last_counts() {
     assert_eq!(after(&[7]), 1);
     assert_eq!(after(&[8]), 2);
     assert_eq!(after(&[1, 2, 3, 4, 8]), 2);
-    assert_eq!(after(&[8, 1, 2, 3, 4]), 1);
+    assert_eq!(after(&[8, 1, 2, 3, 4]), 2);
+    assert_eq!(after(&[1, 8, 2]), 2);
+    assert_eq!(after(&[7, 6, 5, 4, 3]), 1);
 }
 
 /// A state with a model and a cycle at moment 10.
@@ -332,11 +350,23 @@ fn started() -> [u8; STATE_BYTES] {
     state
 }
 
-/// The reply to one call in a state; where it is refused, and no start, the state has to stay.
+/// The reply to one call in a state. By a run with no lists it is the same, and so is the state.
 fn reply(state: &mut [u8; STATE_BYTES], call: &[u8]) -> u64 {
-    let before = *state;
+    let mut other = *state;
+    let number = reply_in(&mut other, call, &[]);
     let mut answer = [0x77; Answer::BYTES];
     assert_eq!(run(state, call, &mut answer), Ok(()));
+    assert_eq!(word(&answer, table::REPLY_IN_ANSWER), number);
+    assert!(*state == other);
+    number
+}
+
+/// The reply to one call in a state, with these lists; where it is refused, and no start, the state has
+/// to stay.
+fn reply_in(state: &mut [u8; STATE_BYTES], call: &[u8], lists: &[u64]) -> u64 {
+    let before = *state;
+    let mut answer = [0x77; Answer::BYTES];
+    assert_eq!(run_lists(state, call, lists, &mut answer), Ok(()));
     let number = word(&answer, table::REPLY_IN_ANSWER);
     let starts = word(call, table::NUMBER_IN_CALL) == call::START;
     assert!(number == 0 || starts || *state == before);
@@ -443,6 +473,7 @@ fn flags_are_0_or_1() {
     }
 }
 
+/// Where no lists are lent.
 #[test]
 fn counts_are_0_to_3() {
     for count in 0..4 {
@@ -450,6 +481,97 @@ fn counts_are_0_to_3() {
     }
     for count in [4, 5, 7, 1 << 32, u64::MAX - 3, u64::MAX] {
         assert_eq!(reply_with(EVENT_START, &[(sample::ACKED_COUNT, count)]), 2);
+    }
+}
+
+/// An event of so many numbers from a place of the lists on.
+fn named(place: u64, count: u64) -> Vec<u8> {
+    let call = changed(good(EVENT_START).as_bytes(), sample::ACKED_COUNT, count);
+    changed(&call, sample::ACKED_PACKETS, place)
+}
+
+/// Where lists are lent they hold all of the numbers, and the sum of place and count does not wrap.
+#[test]
+fn counts_above_3_are_within_the_lists() {
+    let lists = [1; 10];
+    let reply = |place: u64, count: u64, length: usize| {
+        reply_in(&mut started(), &named(place, count), &lists[..length])
+    };
+    for (place, count, length) in [
+        (0, 4, 4),
+        (0, 4, 10),
+        (0, 10, 10),
+        (6, 4, 10),
+        (1, 9, 10),
+        (5, 5, 10),
+    ] {
+        assert_eq!(reply(place, count, length), 0, "{} from {}", count, place);
+    }
+    let most = u64::MAX;
+    for (place, count, length) in [
+        // One too many, and more.
+        (0, 4, 0),
+        (0, 4, 3),
+        (0, 5, 4),
+        (1, 4, 4),
+        (0, 11, 10),
+        (7, 4, 10),
+        (6, 5, 10),
+        (10, 4, 10),
+        (11, 4, 10),
+        // The sum wraps to no more than the lists hold.
+        (most, 4, 10),
+        (most - 3, 4, 10),
+        (most - 3, 10, 10),
+        (4, most, 10),
+        (4, most - 3, 10),
+        (10, most - 9, 10),
+        (most, most, 10),
+        (1 << 63, 1 << 63, 10),
+        // The place or the count does in bytes, or in 32 bits.
+        (1 << 61, 4, 10),
+        (0, (1 << 61) + 4, 10),
+        (1 << 32, 4, 10),
+        (0, (1 << 32) + 4, 10),
+    ] {
+        assert_eq!(reply(place, count, length), 2, "{} from {}", count, place);
+    }
+}
+
+/// A place outside of the lists beside other refusals: 1 comes before it, 3 to 5 after it.
+#[test]
+fn a_place_beside_other_refusals() {
+    let lists = [1; 10];
+    let (inside, outside) = (named(6, 4), named(7, 4));
+    let time = EVENT + event::EVENT_TIME;
+    for (at, bad, row) in [
+        (PARAMS + params::BETA, 0, 1),
+        (
+            PARAMS + params::IGNORE_APP_LIMITED_FOR_NO_BANDWIDTH_GROWTH,
+            2,
+            1,
+        ),
+        (sample::SAMPLE_IS_APP_LIMITED, 2, 2),
+        (EVENT + event::PRIOR_CWND, MOST_BYTES + 1, 2),
+        (time, 9, 3),
+    ] {
+        let reply = |call: &[u8]| reply_in(&mut started(), &changed(call, at, bad), &lists);
+        assert_eq!(reply(&inside), row);
+        assert_eq!(reply(&outside), row.min(2));
+    }
+    // Totals lower than the stored ones, a stored number out of bounds, a full counter.
+    for (at, stored, row) in [
+        (state::TOTAL_BYTES_ACKED, 1, 4),
+        (state::MAX_BANDWIDTH_0, MOST_BANDWIDTH + 1, 1),
+        (state::ROUND_TRIP_COUNT, u64::MAX, 5),
+    ] {
+        let reply = |call: &[u8]| {
+            let mut state = [0; STATE_BYTES];
+            state.copy_from_slice(&changed(&started(), at, stored));
+            reply_in(&mut state, call, &lists)
+        };
+        assert_eq!(reply(&inside), row);
+        assert_eq!(reply(&outside), row.min(2));
     }
 }
 
@@ -750,7 +872,7 @@ fn only_well_formed_words_are_written() {
         assert!(GAINS
             .iter()
             .all(|gain| at(PARAMS + gain) <= u32::MAX as u64));
-        assert_eq!(at(sample::ACKED_COUNT), table::MOST_ACKED as u64);
+        assert_eq!(at(sample::ACKED_COUNT), 1);
     }
 }
 

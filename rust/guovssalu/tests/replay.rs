@@ -1,6 +1,6 @@
 //! The calls of the kept frames, each made by the wrapper in the state in which the original was:
-//! reply, answer, event and state are held to the original's, once by the methods and once by a run
-//! over bytes.
+//! reply, answer, event and state are held to the original's, once by the methods, once by a run over
+//! bytes and once by a run with lists.
 //!
 //! The numbers of calls, places of words and sizes in this file are written by hand, and not taken from
 //! the table that the package is written with: a wrong table is noticed here.
@@ -10,6 +10,7 @@ use std::fs;
 use std::path::Path;
 
 use guovssalu::run;
+use guovssalu::run_lists;
 use guovssalu::Answer;
 use guovssalu::Bandwidth;
 use guovssalu::Call;
@@ -56,7 +57,7 @@ fn kept_frames() {
             FILTER | NUMBERS | PUT => continue,
             FILTER_RUN => &[by_filter_run],
             SLOPE => &[by_slope],
-            _ => &[by_methods, by_bytes],
+            _ => &[by_methods, by_bytes, by_lists],
         };
         seen.insert(number);
         for way in ways {
@@ -380,25 +381,51 @@ fn method(
     }
 }
 
-/// Makes the call by a run over bytes.
-fn by_bytes(case: &Case) -> Result<(), String> {
+/// The call of a case.
+fn call(case: &Case) -> Call {
     let call = Call::new(case.call[0], &case.call[1..22])
         .with_event(&case.event())
         .with_params(&case.params());
     assert_eq!(call.as_bytes()[..], bytes(&case.call));
+    call
+}
+
+/// Makes the call by a run over bytes.
+fn by_bytes(case: &Case) -> Result<(), String> {
     let mut state = bytes(&case.before);
     let mut out = [0; Answer::BYTES];
-    run(&mut state, call.as_bytes(), &mut out).unwrap();
-    let answer = Answer::from_bytes(&out);
+    run(&mut state, call(case).as_bytes(), &mut out).unwrap();
+    run_held(case, &state, &out)
+}
+
+/// Makes the call by a run with lists. An event's acked numbers are there, in reverse and so often that
+/// they can't stand in the event itself, between numbers that are past every end.
+fn by_lists(case: &Case) -> Result<(), String> {
+    let mut call = call(case);
+    let mut lists = vec![u64::MAX; 3];
+    if case.call[0] == 3 && !case.acked().is_empty() {
+        lists.extend(case.acked().repeat(4).iter().rev());
+        call = call.with_list(&lists, 3..lists.len());
+    }
+    lists.push(u64::MAX);
+    let mut state = bytes(&case.before);
+    let mut out = [0; Answer::BYTES];
+    run_lists(&mut state, call.as_bytes(), &lists, &mut out).unwrap();
+    run_held(case, &state, &out)
+}
+
+/// Holds what a run left to what is expected.
+fn run_held(case: &Case, state: &[u8], out: &[u8; Answer::BYTES]) -> Result<(), String> {
+    let answer = Answer::from_bytes(out);
     // A refused event's record is in its bytes alone.
-    let record: Vec<u64> = (2..18).map(|at| word(&out, at)).collect();
+    let record: Vec<u64> = (2..18).map(|at| word(out, at)).collect();
     let left = event(&record);
     assert_eq!(answer.event(), answer.number().map(|_| left));
     if case.call[0] == 3 {
-        return case.held(answer.number(), &state, left);
+        return case.held(answer.number(), state, left);
     }
     assert_eq!(left, CongestionEvent::default());
-    case.held(answer.number(), &state, case.event())
+    case.held(answer.number(), state, case.event())
 }
 
 /// Runs the filter with the output that the call lends; all of the memory is compared.

@@ -230,11 +230,23 @@ mod tests {
         /// A round that loses 100 bytes.
         fn round(&mut self) {
             let packet = self.rules.last_sent_packet + 1;
+            self.send();
+            self.event(&[packet]);
+        }
+
+        /// A send.
+        fn send(&mut self) {
+            let packet = self.rules.last_sent_packet + 1;
             self.rules.last_sent_packet = packet;
             self.batch.add(
                 &Call::new(call::ON_PACKET_SENT, &[packet, 0, packet, 100]),
                 Expected::Done,
             );
+        }
+
+        /// An event that acks these packets and loses 100 bytes, its end, and a look.
+        fn event(&mut self, acked: &[u64]) {
+            let packet = self.rules.last_sent_packet;
             let mut event =
                 CongestionEvent::new(Moment::from_nanos(packet), self.window, 100, false);
             let sample = Sample {
@@ -242,9 +254,9 @@ mod tests {
                 ..Sample::default()
             };
             let params = Params::default();
-            let call = Call::on_congestion_event_start(&[packet], &event, &sample, &params);
+            let call = Call::on_congestion_event_start(acked, &event, &sample, &params);
             self.batch.add(&call, Expected::Event);
-            self.rules.start(&[packet], &mut event, &sample);
+            self.rules.start(acked, &mut event, &sample);
             self.batch.add(
                 &Call::new(call::ON_CONGESTION_EVENT_FINISH, &[]).with_event(&event),
                 Expected::Done,
@@ -272,6 +284,28 @@ mod tests {
         for expected in [910, 637, 445] {
             losses.round();
             assert_eq!(losses.make(), Ok(expected));
+        }
+    }
+
+    /// Rules and port end a round by the greatest number acked, wherever it stands, and none where no
+    /// number was acked.
+    #[test]
+    fn acked_numbers_in_any_order_are_followed() {
+        let mut losses = Losses::new(1300);
+        losses.round();
+        // The end is 1, then 3, then 5.
+        let events: [(&[u64], u64); 4] = [
+            (&[3, 2, 1], 2),
+            (&[2, 5, 1, 3, 0], 3),
+            (&[5, 4], 3),
+            (&[], 3),
+        ];
+        for (acked, rounds) in events {
+            losses.send();
+            losses.send();
+            losses.event(acked);
+            assert!(losses.make().is_ok());
+            assert_eq!(losses.rules.round_trip_count, rounds);
         }
     }
 

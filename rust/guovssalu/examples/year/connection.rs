@@ -187,8 +187,9 @@ impl Connection {
         assert!(self.window <= MOST_BYTES && inflight <= MOST_BYTES);
         self.tally.event(self.window, inflight);
 
-        let acked = [packet.unwrap_or(0)];
-        let acked = &acked[..packet.is_some() as usize];
+        // In descending order: the packet, and the one before it.
+        let acked = packet.map_or([0; 2], |packet| [packet, packet - 1]);
+        let acked = &acked[..2 * packet.is_some() as usize];
         let call = Call::on_congestion_event_start(acked, &event, &sample, &self.params);
         self.batch.add(&call, Expected::Event);
         let turn = self.rules.start(acked, &mut event, &sample);

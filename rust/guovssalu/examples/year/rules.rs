@@ -86,9 +86,9 @@ impl Rules {
             .prior_bytes_in_flight
             .saturating_sub(event.bytes_acked)
             .saturating_sub(event.bytes_lost);
-        event.end_of_round_trip = match (acked.last(), self.end_of_round_trip) {
-            (Some(packet), Some(end)) => *packet > end,
-            (last, None) => last.is_some(),
+        event.end_of_round_trip = match (acked.iter().max(), self.end_of_round_trip) {
+            (Some(greatest), Some(end)) => *greatest > end,
+            (greatest, None) => greatest.is_some(),
             (None, _) => false,
         };
         if event.bytes_acked > 0 {

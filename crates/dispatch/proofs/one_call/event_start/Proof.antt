@@ -2,31 +2,31 @@
 use borrow.Author.Needs.{needs}
 use Prim.Native.Nat.{ℕ}
 use mathlib.Core.List.{List, _∷_}
-use mathlib.Core.Path.{refl, ap, ap₂, _∙_}
-use native.Mathlib.Omega.{arith}
-use lib.ListN.{length, length-take}
+use mathlib.Core.Path.{ap, ap₂, _∙_}
+use lib.ListN.{length}
 use lib.Seq.{sets}
 use Rattle.words.specs.Words.{allBytes}
-use Rattle.arguments.specs.Sample.{ackedOf}
+use Rattle.words.proofs.Laws.{length-wordsAt}
+use Rattle.dispatch.proofs.Alike.{started-number, started-leaves, started-words}
 use Rattle.dispatch.proofs.OneCall.{left-by}
 use Rattle.dispatch.proofs.one_call.event_start.Statement.{statement}
 use Rattle.dispatch.proofs.one_call.event_start.Tie as tie
 
-slice-aggregate-start-tested : tie.Need-slice-aggregate-start-tested
-slice-aggregate-start-tested c = simp length-take (omega (arith, c .before .before .before .before .before .before .before .acked-count .ensures, ap length (c .before .before .before .before .before .before .before .before .before .acked-numbers .ensures)))
-
 put-answer-requires : tie.Need-put-answer-requires
-put-answer-requires c κs = (c .before .before .before .before .before .before .before .before .before .before .before .before .before .before .before .before .before .before .before .before .before .pre .1, search needs)
+put-answer-requires c κs = (c .before .before .before .before .before .before .before .before .before .before .before .before .before .before .before .before .before .before .before .pre .1, search needs)
 
 returns : tie.Need-returns
-unfolding ackedOf
 returns c =
-    let args = c .before .before .before .before .before .before .before .before .before .before .before .before .before .before .before .before .before .before .before .before .before .before .before .before .before .args in
-    let words = c .before .before .before .before .before .before .before .before .before .before .before .before .before .before .before .before .before .before .before .before .before .before .call-at .ensures in
-    let event = rw (c .before .before .before .before .before .before .before .before .before .before .before .before .sample-from .ensures, c .before .before .before .before .before .before .before .before .before .before .before .before .before .before .event-from .ensures, c .before .before .before .before .before .before .before .before .before .before .before .before .before .before .before .before .params-from .ensures, c .before .before .before .before .before .before .before .before .before .before .before .before .before .before .before .before .before .before .acked-count .ensures, c .before .before .before .before .before .before .before .before .before .before .before .before .before .before .before .before .before .before .before .before .acked-numbers .ensures) at (c .before .before .before .before .before .before .before .before .before .before .start-tested .ensures) in
-    let after = c .before .before .before .before .before .event-left .ensures ∙ left-by _ _ _ _ _ _ (event .0) (event .1 .1) in (
-      rw (← words) (event .1 .0),
-      rw (← words) (c .before .before .before .put-answer .ensures ∙ ap₂ (λ (n : ℕ) (record′ : List ℕ). sets (args .answers .now) (args .to) (allBytes (n ∷ 0 ∷ record′))) (c .before .before .before .before .before .before .before .row .ensures ∙ event .0) after),
+    let args = c .before .before .before .before .before .before .before .before .before .before .before .before .before .before .before .before .before .before .before .before .before .before .before .args in
+    let words = c .before .before .before .before .before .before .before .before .before .before .before .before .before .before .before .before .before .before .before .call-at .ensures in
+    let long = ap length words ∙ length-wordsAt (args .calls .now) (args .at) 49 in
+    let most = c .before .before .before .before .before .before .before .before .before .before .before .greatest-acked .ensures in
+    let event = rw (c .before .before .before .before .before .before .before .before .before .before .before .before .before .sample-from .ensures, c .before .before .before .before .before .before .before .before .before .before .before .before .before .before .before .event-from .ensures, c .before .before .before .before .before .before .before .before .before .before .before .before .before .before .before .before .before .params-from .ensures) at (c .before .before .before .before .before .before .before .before .before .before .start-tested .ensures) in
+    let number = event .0 ∙ started-number _ (args .lists .now) long (args .model) most in
+    let record′ = c .before .before .before .before .before .event-left .ensures ∙ left-by _ _ _ _ _ _ (event .0) (event .1 .1) in
+    let after = started-words _ (args .lists .now) long (args .model) most record′ in (
+      rw (← words) (started-leaves _ (args .lists .now) long (args .model) most (event .1 .0)),
+      rw (← words) (c .before .before .before .put-answer .ensures ∙ ap₂ (λ (n : ℕ) (record′ : List ℕ). sets (args .answers .now) (args .to) (allBytes (n ∷ 0 ∷ record′))) (c .before .before .before .before .before .before .before .row .ensures ∙ number) after),
     )
 
 pub event-start-spec : {M : Type 1} → statement M
@@ -38,10 +38,7 @@ event-start-spec =
     (λ c κs. search needs)
     (λ c κs. search needs)
     (λ c κs. search needs)
-    (λ c κs. search needs)
-    (λ c. search needs)
-    slice-aggregate-start-tested
-    (λ c κs. c .before .before .before .before .before .before .before .before .before .before .before .before .before .before .pre .2)
+    (λ c κs. c .before .before .before .before .before .before .before .before .before .before .before .before .pre .2)
     (λ c κs. search needs)
     (λ c κs. search needs)
     put-answer-requires

@@ -1,30 +1,16 @@
--- `RoundTripCounter::on_packets_acked` counts, refuses or leaves the counter: by what `ends_round` promises and the test of the count.
-use mathlib.Core.Path.{sym, _∙_}
-use borrow.Author.Tests.{eq-eqb, ne-eqb, not-true, not-false}
+-- `RoundTripCounter::on_packets_acked` does what the greatest of the numbers does.
+use mathlib.Core.Path.{_∙_}
 use borrow.Author.Needs.{needs}
-use Rattle.filters.specs.RoundTripCounter.{roundsFull, roundsNumber, roundsAcked, roundsEnded}
+use Rattle.filters.proofs.Greatest.{alone, number-same, acked-same, ended-same}
 use Rattle.filters.proofs.round_trip_counter.RoundTripCounter.on_packets_acked.Statement.{statement}
 use Rattle.filters.proofs.round_trip_counter.RoundTripCounter.on_packets_acked.Tie as tie
 
 returns : tie.Need-returns
-unfolding roundsFull roundsNumber roundsAcked roundsEnded
 returns c =
-    let e = sym (c .before .ends-round .ensures) ∙ not-true _ (c .if1 .taken) in
-    (rw e, (rw e, rw e))
-
-returns-2 : tie.Need-returns-2
-unfolding roundsFull roundsNumber roundsAcked roundsEnded
-returns-2 c =
-    let e = sym (c .before .before .before .ends-round .ensures) ∙ not-false _ (c .before .before .if1 .left) in
-    let full = eq-eqb _ _ (c .if2 .taken) in
-    (rw (e, full), (rw (e, full), rw (e, full)))
-
-returns-3 : tie.Need-returns-3
-unfolding roundsFull roundsNumber roundsAcked roundsEnded
-returns-3 c =
-    let e = sym (c .before .before .before .before .ends-round .ensures) ∙ not-false _ (c .before .before .before .if1 .left) in
-    let room = ne-eqb _ _ (c .before .if2 .left) in
-    (rw (e, room), (rw (e, room), rw (e, room)))
+    let args = c .before .before .before .args in
+    let same = alone (args .acked .now) (c .before .greatest-of .ensures) in
+    let did = c .on-greatest-acked .ensures in
+    (did .0 ∙ number-same (args .self) _ (args .acked .now) same, (did .1 .0 ∙ acked-same (args .self) _ (args .acked .now) same, did .1 .1 ∙ ended-same (args .self) _ (args .acked .now) same))
 
 pub on-packets-acked-spec : {M : Type 1} → statement M
-on-packets-acked-spec = tie.close (tie.spec (λ c κs. search needs) returns returns-2 (λ c. search needs) returns-3)
+on-packets-acked-spec = tie.close (tie.spec (λ c κs. search needs) (λ c κs. search needs) returns)

@@ -1,0 +1,70 @@
+-- `greatest_acked` meets its contract: of numbers in the call, of a place outside of the lists, and of numbers in the lists.
+use borrow.Author.Needs.{needs}
+use Prim.Native.Nat.{ℕ, _+_, _-_, _<_}
+use mathlib.Core.Path.{_≡_, sym, ap, _∙_}
+use native.Mathlib.Omega.{arith}
+use lib.ListN.{getD, take, drop, length-take}
+use borrow.Author.Tests.{le-leb, not-true, not-false}
+use Rattle.filters.specs.RoundTripCounter.{greatest}
+use Rattle.arguments.proofs.Acked.{acked-few, acked-outside, acked-listed, place-fits}
+use Rattle.arguments.proofs.sample.greatest_acked.Statement.{statement}
+use Rattle.arguments.proofs.sample.greatest_acked.Tie as tie
+
+slice-aggregate-greatest-of : tie.Need-slice-aggregate-greatest-of
+slice-aggregate-greatest-of c = simp length-take (omega arith)
+
+returns : tie.Need-returns
+returns c =
+    let args = c .before .before .before .before .before .before .before .before .args in
+    let long = c .before .before .before .before .before .before .before .before .pre in
+    c .greatest-of .ensures ∙ ap greatest (sym (acked-few (args .n .now) (args .lists .now) long (le-leb _ 3 (c .before .before .before .before .before .if1 .taken))))
+
+returns-2 : tie.Need-returns-2
+returns-2 c =
+    let args = c .before .before .before .before .before .args in
+    let long = c .before .before .before .before .before .pre in
+    let more : 3 < getD (args .n .now) 18 0 = omega (arith, c .before .before .if1 .left) in
+    ap greatest (sym (acked-outside (args .n .now) (args .lists .now) long more (sym (c .before .acked-fits .ensures) ∙ not-true _ (c .if2 .taken))))
+
+add-end : tie.Need-add-end
+add-end c = omega (arith, place-fits (c .before .before .before .before .before .before .args .n .now) (c .before .before .before .before .before .before .args .lists .now) (c .before .before .before .before .before .before .pre) (omega (arith, c .before .before .before .if1 .left)) (sym (c .before .before .acked-fits .ensures) ∙ not-false _ (c .before .if2 .left)))
+
+mul-greatest-of : tie.Need-mul-greatest-of
+mul-greatest-of c = omega (arith, place-fits (c .before .before .before .before .before .before .args .n .now) (c .before .before .before .before .before .before .args .lists .now) (c .before .before .before .before .before .before .pre) (omega (arith, c .before .before .before .if1 .left)) (sym (c .before .before .acked-fits .ensures) ∙ not-false _ (c .before .if2 .left)))
+
+part-greatest-of-end : tie.Need-part-greatest-of-end
+part-greatest-of-end c = omega (arith, place-fits (c .before .before .before .before .before .before .args .n .now) (c .before .before .before .before .before .before .args .lists .now) (c .before .before .before .before .before .before .pre) (omega (arith, c .before .before .before .if1 .left)) (sym (c .before .before .acked-fits .ensures) ∙ not-false _ (c .before .if2 .left)))
+
+returns-3 : tie.Need-returns-3
+returns-3 c =
+    let args = c .before .before .before .before .before .before .before .before .args in
+    let long = c .before .before .before .before .before .before .before .before .pre in
+    let more : 3 < getD (args .n .now) 18 0 = omega (arith, c .before .before .before .before .before .if1 .left) in
+    let fits = sym (c .before .before .before .before .acked-fits .ensures) ∙ not-false _ (c .before .before .before .if2 .left) in
+    let start = getD (args .n .now) 19 0 in
+    let count = getD (args .n .now) 18 0 in
+    let part : start + count - start ≡ count = omega arith in
+    c .greatest-of2 .ensures ∙ ap (λ (k : ℕ). greatest (take k (drop start (args .lists .now)))) part ∙ ap greatest (sym (acked-listed (args .n .now) (args .lists .now) long more fits))
+
+pub greatest-acked-spec : {M : Type 1} → statement M
+greatest-acked-spec =
+    tie.close
+    (tie.spec
+    (λ c. search needs)
+    (λ c. search needs)
+    (λ c. search needs)
+    (λ c. search needs)
+    (λ c. search needs)
+    slice-aggregate-greatest-of
+    (λ c κs. search needs)
+    returns
+    (λ c κs. c .before .before .before .pre)
+    returns-2
+    (λ c. search needs)
+    add-end
+    mul-greatest-of
+    (λ c. search needs)
+    (λ c. search needs)
+    part-greatest-of-end
+    (λ c κs. search needs)
+    returns-3)
