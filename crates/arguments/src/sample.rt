@@ -1,11 +1,12 @@
 // What an event's call is given: the sampler's answer, words 1 to 17, and the acked packets' numbers, by words 18 to 21.
 ghost use mathlib.Core.Path.{_≡_};
-ghost use mathlib.Core.List.{_++_};
-ghost use lib.ListN.{length};
+ghost use mathlib.Core.List.{[], _∷_, _++_};
+ghost use lib.ListN.{length, take};
 ghost use Rattle.filters.specs.RoundTripCounter.{greatest};
 ghost use Rattle.arguments.specs.Sample.{ackedFits, sampleFits, sampleFrom, ackedOf};
 use crate::congestion_event::send_time_state_of;
 use filters::round_trip_counter::greatest_of;
+use numbers::larger;
 use numbers::less;
 use state::congestion_event::CongestionEventSample;
 use state::parts::Totals;
@@ -50,8 +51,11 @@ fn acked_fits(n: &[u64; 49], lists: &[u64]) -> bool
     ensures { λ r. ⌜ r ≡ ackedFits (now (n .entry) ++ now (lists .entry)) ⌝ }
 {
     let count = n[18];
+    if count <= 3 {
+        return true;
+    }
     let room = lists.len() as u64;
-    (count <= 3) | ((count <= room) & (n[19] <= less(room, count)))
+    (count <= room) & (n[19] <= less(room, count))
 }
 
 // The greatest of the acked numbers, if there are any.
@@ -61,8 +65,7 @@ pub fn greatest_acked(n: &[u64; 49], lists: &[u64]) -> MaybeNumber
 {
     let count = n[18];
     if count <= 3 {
-        let few = [n[19], n[20], n[21]];
-        return greatest_of(&few[..count as usize]);
+        return greatest_of_few(count, n[19], n[20], n[21]);
     }
     if !acked_fits(n, lists) {
         return MaybeNumber::Unset;
@@ -70,4 +73,21 @@ pub fn greatest_acked(n: &[u64; 49], lists: &[u64]) -> MaybeNumber
     let start = n[19] as usize;
     let end = start + count as usize;
     greatest_of(&lists[start..end])
+}
+
+// The greatest of the first numbers of three, as many as the count says.
+fn greatest_of_few(count: u64, first: u64, second: u64, third: u64) -> MaybeNumber
+    ensures { λ r. ⌜ r ≡ greatest (take count (first ∷ second ∷ third ∷ [])) ⌝ }
+{
+    if count == 0 {
+        return MaybeNumber::Unset;
+    }
+    if count == 1 {
+        return MaybeNumber::Set(first);
+    }
+    let most = larger(first, second);
+    if count == 2 {
+        return MaybeNumber::Set(most);
+    }
+    MaybeNumber::Set(larger(most, third))
 }

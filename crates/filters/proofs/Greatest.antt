@@ -1,14 +1,14 @@
 -- The greatest number of a list, and that the end of a round depends on a list by that alone. Assumes nothing.
-use Prim.Native.Nat.{ℕ, suc, max, _+_, _≤_, _<_}
+use Prim.Native.Nat.{ℕ, suc, max, _+_, _-_, _≤_, _<_}
 use mathlib.Core.Bool.{Bool, true, false}
-use mathlib.Core.List.{List, [], _∷_}
+use mathlib.Core.List.{List, [], _∷_, _++_}
 use mathlib.Core.Logic.{_⊎_, inl, inr, ⊎-elim}
 use mathlib.Core.Path.{_≡_, refl, sym, ap, _∙_}
 use native.Mathlib.Nat.{le-refl, le-trans, le-max-left, le-max-right, max-eq-left, max-eq-right}
 use native.Mathlib.Omega.{arith}
 use lib.Dec.{leb}
-use lib.ListN.{length, getD, drop, drop-of-length-le}
-use lib.Seq.{drop-cons}
+use lib.ListN.{length, getD, take, drop, take-append-drop, length-drop, drop-of-length-le}
+use lib.Seq.{drop-cons, take-all}
 use borrow.Author.Tests.{leb-true, leb-false}
 use Rattle.units.specs.declared.maybe.MaybeNumber.{MaybeNumber}
 use Rattle.units.specs.declared.maybe.MaybeNumber.the-variants as Number
@@ -20,13 +20,35 @@ use Rattle.filters.specs.Greatest.{Has, NoneAbove, RisesFrom, Greatest}
 pub turn : (l : List ℕ) (i n : ℕ) → i < length l → greatestOf n (drop i l) ≡ greatestOf (max n (getD l i 0)) (drop (i + 1) l)
 turn l i n h = let next : suc i ≡ i + 1 = omega arith in ap (greatestOf n) (drop-cons l i 0 h) ∙ ap (λ (k : ℕ). greatestOf (max n (getD l i 0)) (drop k l)) next
 
--- before the first, and after the last
-pub some : (l : List ℕ) → (length l ≡ 0 → ⊥) → greatest l ≡ Number.Set (greatestOf (getD l 0 0) (drop 1 l))
-some [] h = absurd (h refl)
-some (n ∷ l) h = refl
-
+-- after the last
 pub over : (l : List ℕ) (i n : ℕ) → length l ≤ i → greatestOf n (drop i l) ≡ n
 over l i n h = ap (greatestOf n) (drop-of-length-le l h)
+
+-- ---- from the first, and by halves
+pub none : (l : List ℕ) → length l ≡ 0 → Number.Unset ≡ greatest l
+none [] h = refl
+none (n ∷ l) h = absurd (omega (arith, h))
+
+-- the part from an index on
+abbrev pub partFrom : ℕ → List ℕ → List ℕ
+partFrom i l = take (length l - i) (drop i l)
+
+part-from : (i : ℕ) (l : List ℕ) → partFrom i l ≡ drop i l
+part-from i l = take-all (length l - i) (drop i l) (omega (arith, length-drop i l))
+
+pub some : (l : List ℕ) → (length l ≡ 0 → ⊥) → Number.Set (greatestOf (getD l 0 0) (partFrom 1 l)) ≡ greatest l
+some l h = rw (part-from 1 l) (go l h)
+  where
+    go : (l : List ℕ) → (length l ≡ 0 → ⊥) → Number.Set (greatestOf (getD l 0 0) (drop 1 l)) ≡ greatest l
+    go [] h = absurd (h refl)
+    go (n ∷ l) h = refl
+
+joined : (n : ℕ) (k l : List ℕ) → greatestOf (greatestOf n k) l ≡ greatestOf n (k ++ l)
+joined n [] l = refl
+joined n (m ∷ k) l = joined (max n m) k l
+
+pub halves : (n i : ℕ) (l : List ℕ) → greatestOf (greatestOf n (take i l)) (partFrom i l) ≡ greatestOf n l
+halves n i l = rw (part-from i l) (joined n (take i l) (drop i l) ∙ ap (greatestOf n) (take-append-drop i l))
 
 -- ---- what it is
 larger-is : (n k : ℕ) → (n ≡ max n k) ⊎ (k ≡ max n k)

@@ -5,7 +5,7 @@ use units::Reply;
 use units::counter::FULL;
 ghost use mathlib.Core.Path.{_≡_};
 ghost use Rattle.units.specs.Reply.{number};
-ghost use Rattle.filters.specs.RoundTripCounter.{roundsNew, roundsSent, roundsRestart, isPast, greatest, listed, endsRound, roundsNumber, roundsAcked, roundsEnded};
+ghost use Rattle.filters.specs.RoundTripCounter.{roundsNew, roundsSent, roundsRestart, isPast, greatestOf, greatest, listed, endsRound, roundsNumber, roundsAcked, roundsEnded};
 
 pub struct RoundTripCounter {
     pub count: u64,
@@ -124,11 +124,31 @@ pub fn greatest_of(numbers: &[u64]) -> MaybeNumber
     if numbers.len() == 0 {
         return MaybeNumber::Unset;
     }
-    let mut most = numbers[0];
-    let mut i: usize = 1;
+    MaybeNumber::Set(most_of(numbers[0], &numbers[1..]))
+}
+
+// The greatest of a number and of others. Many go by halves: a function that calls itself is not compiled into the run
+// of many calls, whose own loop is slower with a loop inside of it.
+fn most_of(first: u64, numbers: &[u64]) -> u64
+    ensures { λ r. ⌜ r ≡ greatestOf first (now (numbers .entry)) ⌝ }
+{
+    if numbers.len() <= 64 {
+        return most_of_few(first, numbers);
+    }
+    let half = numbers.len() / 2;
+    let most = most_of(first, &numbers[..half]);
+    most_of(most, &numbers[half..])
+}
+
+// The same, one after the other.
+fn most_of_few(first: u64, numbers: &[u64]) -> u64
+    ensures { λ r. ⌜ r ≡ greatestOf first (now (numbers .entry)) ⌝ }
+{
+    let mut most = first;
+    let mut i: usize = 0;
     while i < numbers.len() {
         most = larger(most, numbers[i]);
         i += 1;
     }
-    MaybeNumber::Set(most)
+    most
 }

@@ -3,21 +3,17 @@ use borrow.Author.Needs.{needs}
 use Prim.Native.Nat.{ℕ, _+_, _-_, _<_}
 use mathlib.Core.Path.{_≡_, sym, ap, _∙_}
 use native.Mathlib.Omega.{arith}
-use lib.ListN.{getD, take, drop, length-take}
-use borrow.Author.Tests.{le-leb, not-true, not-false}
+use lib.ListN.{getD, take, drop}
+use borrow.Author.Tests.{not-true, not-false}
 use Rattle.filters.specs.RoundTripCounter.{greatest}
 use Rattle.arguments.proofs.Acked.{acked-few, acked-outside, acked-listed, place-fits}
 use Rattle.arguments.proofs.sample.greatest_acked.Statement.{statement}
 use Rattle.arguments.proofs.sample.greatest_acked.Tie as tie
 
-slice-aggregate-greatest-of : tie.Need-slice-aggregate-greatest-of
-slice-aggregate-greatest-of c = simp length-take (omega arith)
-
 returns : tie.Need-returns
 returns c =
-    let args = c .before .before .before .before .before .before .before .before .args in
-    let long = c .before .before .before .before .before .before .before .before .pre in
-    c .greatest-of .ensures ∙ ap greatest (sym (acked-few (args .n .now) (args .lists .now) long (le-leb _ 3 (c .before .before .before .before .before .if1 .taken))))
+    let args = c .before .before .before .before .before .before .before .args in
+    c .greatest-of-few .ensures ∙ ap greatest (sym (acked-few (args .n .now) (args .lists .now) (c .before .before .before .before .before .before .before .pre) (c .before .before .before .before .if1 .taken)))
 
 returns-2 : tie.Need-returns-2
 returns-2 c =
@@ -44,7 +40,7 @@ returns-3 c =
     let start = getD (args .n .now) 19 0 in
     let count = getD (args .n .now) 18 0 in
     let part : start + count - start ≡ count = omega arith in
-    c .greatest-of2 .ensures ∙ ap (λ (k : ℕ). greatest (take k (drop start (args .lists .now)))) part ∙ ap greatest (sym (acked-listed (args .n .now) (args .lists .now) long more fits))
+    c .greatest-of .ensures ∙ ap (λ (k : ℕ). greatest (take k (drop start (args .lists .now)))) part ∙ ap greatest (sym (acked-listed (args .n .now) (args .lists .now) long more fits))
 
 pub greatest-acked-spec : {M : Type 1} → statement M
 greatest-acked-spec =
@@ -54,8 +50,6 @@ greatest-acked-spec =
     (λ c. search needs)
     (λ c. search needs)
     (λ c. search needs)
-    (λ c. search needs)
-    slice-aggregate-greatest-of
     (λ c κs. search needs)
     returns
     (λ c κs. c .before .before .before .pre)
