@@ -39,10 +39,11 @@ endif
 
 SEED = 7
 
-# Call by call, from SEED: CALLS calls of the model, and a tenth as many on filters, on numbers and on the exported
-# filter run and slope.
+# Call by call, from SEED: CALLS calls of the model, and a tenth as many on filters, on numbers, on the exported filter
+# run and slope, and, by the archive, on x86-64, with lists of acked numbers.
 CALLS = 5000000
 diff: kit
+	@[ "$$(uname -m)" != x86_64 ] || $(MAKE) archive
 	@sh tests/diff.sh $(SEED) $(CALLS)
 
 # The same for every f32: to_u64, and scale with each of NUMBERS.

@@ -6,7 +6,7 @@
 Every public function of a library crate has one row, and every row is of such a function. What a row names as a definition
 is cited in the function's contract, and a name alone is a definition of that crate's specs/ or of a lower crate's; what the
 contract cites besides, the row names too. Two wrong programs or more, an origin, must-fail edits that are there, in the
-crate's must-fail/ or in tests/wrong. Every edit is named somewhere. Where a crate has proofs/Determined.antt, each of its
+crate's must-fail/ or in tests/wrong. Every edit is named somewhere, and what it replaces stands once in its file. Where a crate has proofs/Determined.antt, each of its
 functions stands in it. The paths that this and the other pages name are there. And the page of theorems counts the lines
 that its reader has to believe as they are. A line for each fault, and then 1."""
 
@@ -182,6 +182,22 @@ def check_tables(public, lower, specs, edits):
     return rows, used
 
 
+def check_edit(path):
+    """An edit's `old:` texts stand once in the file that it names, each after the changes before it."""
+    crate = path.split("/")[2 if path.startswith("tests/") else 1]
+    text = old = None
+    for line in read(path).split("\n"):
+        word, _, rest = line.partition(": ")
+        if word == "file":
+            text = read(f"crates/{crate}/{rest}")
+        elif word == "old":
+            old = rest
+        elif word in ("new", "new:"):
+            if text.count(old) != 1:
+                faults.append(f"{path}: an `old:` text stands {text.count(old)} times in its file")
+            text = text.replace(old, rest)
+
+
 def main():
     lower = dict(line.split(":") for line in read("crates.txt").splitlines() if ":" in line and not line.startswith("#"))
     specs = {c: {n for p in files(f"crates/{c}/specs/**/*.antt") for n in DEFINED.findall(read(p))} for c in lower}
@@ -198,6 +214,8 @@ def main():
         alike = sum(1 for c, other, _ in listed if c == crate and other.split("::")[-1] == last)
         if exists(proof) and len(re.findall(rf"\.{last}(?![\w-])", read(proof))) < alike:
             faults.append(f"{proof}: {name} is missing")
+    for path in files("crates/*/must-fail/*.edit") + files("tests/wrong/*/*.edit"):
+        check_edit(path)
     for edit in sorted(edits):
         if not re.search(rf"(?<!\w){edit.split('/')[1]}(?!\w)", read(PAGE)):
             faults.append(f"{PAGE}: the must-fail edit {edit} is named nowhere")

@@ -61,7 +61,7 @@ ACKED = [
     ("crates/arguments/src/sample.rt", "acked_fits", ["count", "place"]),
     ("crates/arguments/src/sample.rt", "greatest_acked", ["count", "numbers", "place"]),
     ("crates/arguments/specs/Sample.antt", "ackedCount", ["count"]),
-    ("crates/arguments/specs/Sample.antt", "listStart", ["place"]),
+    ("crates/arguments/specs/Sample.antt", "listPlace", ["place"]),
     ("crates/arguments/specs/Sample.antt", "ackedOf", ["numbers"]),
 ]
 # Where a call's words become its arguments: for most calls in the first file, by a function that has the call's number and
@@ -83,7 +83,7 @@ WORDS = ("STATE_WORDS", "CALL_WORDS", "ANSWER_WORDS", "EVENT_WORDS", "SAMPLES_WO
 PHRASES = [
     (r"\[0?(?:u64)?; (?!0\])(\d+)\]", WORDS),
     (r"\bcount <= (\d+)|\bleb \(ackedCount l\) (\d+)", ("MOST_ACKED",)),
-    (r"\blistStart l = (\d+) \+", ("CALL_WORDS",)),
+    (r"\blistPlace l = (\d+) \+", ("CALL_WORDS",)),
     (r"\bn: &?\[u64; (\d+)\]", ("STATE_WORDS", "CALL_WORDS")),
     (r"\bstate\.len\(\) != (\d+)|now state\) ≡ (\d+)|eqb \(length (?:s|state|\(r \.state\))\) (\d+)", ("STATE_BYTES",)),
     (r"wordsAt s 0 (\d+)|\(cycleFrom w\)\) w 0 (\d+)|cycleWords c\) ≡ (\d+)", ("STATE_WORDS",)),

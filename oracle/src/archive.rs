@@ -21,7 +21,7 @@ pub fn run(
     let mut answers = frame::bytes(&answers);
     let calls = frame::bytes(calls);
     let (state_at, answers_at) = (state.as_mut_ptr(), answers.as_mut_ptr());
-    // SAFETY: four vectors and a slice, none in another, each with its length.
+    // SAFETY: vectors and slices, none in another, each with its length.
     let reply = unsafe {
         match lists {
             Some(lists) => guovssalu_sys::guovssalu_run_lists(

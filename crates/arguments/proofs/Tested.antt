@@ -157,7 +157,7 @@ tested =
       event = event-same;
       sample = sample-same;
       count = acked-count;
-      listed = acked-listed-in;
+      from-lists = acked-listed-in;
       gain = float-same 0x3a80_0000 0x4100_0000;
       parameters = params-same;
     }

@@ -12,24 +12,24 @@ use Rattle.words.specs.Maybe.{maybeWords, bandwidthMaybe, bandwidthOf, lengthMa
 use Rattle.arguments.specs.CongestionEvent.{sendTimeStateOf}
 
 -- ---- the acked numbers: word 18 says how many. Up to three are the first of words 19 to 21. More stand in the lists,
--- from the index on that word 19 says. Of a call the words 0 to 48 are its own, and the words from 49 on are the lists'
+-- from the place on that word 19 names. Of a call the words 0 to 48 are its own, and the words from 49 on are the lists'
 -- (`callAt`, crates/dispatch/specs/OneCall.antt)
 abbrev pub ackedCount : List ℕ → ℕ
 ackedCount l = word l 18
 
-abbrev pub listStart : List ℕ → ℕ
-listStart l = 49 + word l 19
+abbrev pub listPlace : List ℕ → ℕ
+listPlace l = 49 + word l 19
 
--- the lists have so many from there on: always false where more than three are to come from no lists
+-- there are as many as the count says: up to three always are, more where the lists have so many from that place on
 unfoldable pub ackedFits : List ℕ → Bool
-ackedFits l = leb (ackedCount l) 3 || leb (listStart l + ackedCount l) (length l)
+ackedFits l = leb (ackedCount l) 3 || leb (listPlace l + ackedCount l) (length l)
 
 -- where they have not, there are none, and the event is refused
 unfoldable pub ackedOf : List ℕ → List ℕ
 ackedOf l =
     cond (leb (ackedCount l) 3)
     (take (ackedCount l) (word l 19 ∷ word l 20 ∷ word l 21 ∷ []))
-    (cond (ackedFits l) (take (ackedCount l) (drop (listStart l) l)) [])
+    (cond (ackedFits l) (take (ackedCount l) (drop (listPlace l) l)) [])
 
 -- ---- the sampler's answer. Its three flags, sample_is_app_limited and the send state's is_valid and is_app_limited;
 -- and the place of the acked numbers

@@ -19,9 +19,9 @@ pub record Tested : Type 0 where
   -- the sampler's answer: 2
   pub sample : (l : List ℕ) → sampleOk (sampleFrom l) ≡ true → sampleWords (sampleFrom l) ≡ wordsFrom l 1 17
   -- the acked numbers, of a call's 49 words and the lists after them: as many are taken as the count says, and more
-  -- than three are those of the lists from the named index on, which the lists have: 2
+  -- than three are those of the lists from the named place on, which the lists have: 2
   pub count : (l : List ℕ) → sampleOk (sampleFrom l) ≡ true → length (ackedOf l) ≡ word l 18
-  pub listed : (l lists : List ℕ) → length l ≡ 49 → 3 < word l 18 → sampleOk (sampleFrom (l ++ lists)) ≡ true →
+  pub from-lists : (l lists : List ℕ) → length l ≡ 49 → 3 < word l 18 → sampleOk (sampleFrom (l ++ lists)) ≡ true →
       (word l 19 + word l 18 ≤ length lists) × (ackedOf (l ++ lists) ≡ take (word l 18) (drop (word l 19) lists))
   -- a gain: 2
   pub gain : (w : ℕ) → gainOk (floatOf w) ≡ true → floatWord (floatOf w) ≡ w

@@ -38,11 +38,11 @@ shows words state n event =
 abbrev replies : List ℕ → ℕ → Bool
 replies words n = shows words sound n (zeros 16)
 
--- an event in a model whose round ends at `end`, with lists of 9, 4, 1, 2 and 3, that names `count` numbers of them
--- from `start` on: its answer is the number n, and these 16 words
-abbrev lists : (count start end n : ℕ) → List ℕ → Bool
-lists count start end n event =
-    let words = with (with (call 3) 18 count) 19 start ++ (9 ∷ 4 ∷ 1 ∷ 2 ∷ 3 ∷ []) in
+-- an event in a model whose round ends at `end`, with lists of 1, 9, 2, 3, 4 and 6, that names `count` numbers of them
+-- from the place `at` on: its answer is the number n, and these 16 words
+abbrev names : (count at end n : ℕ) → List ℕ → Bool
+names count at end n event =
+    let words = with (with (call 3) 18 count) 19 at ++ (1 ∷ 9 ∷ 2 ∷ 3 ∷ 4 ∷ 6 ∷ []) in
     shows words (with (with sound 2 1) 3 end) n event
 
 unfoldable pub outcomeExamples : List Bool
@@ -79,18 +79,21 @@ outcomeExamples =
     ∷ shows (with (with (call 3) 18 4) 23 5) sound 2 (with (zeros 16) 1 5)
     ∷ shows (with (with (call 3) 7 2) 23 5) sound 2 (with (zeros 16) 1 5)
     ∷ shows (with (call 3) 18 3) sound 0 (with (zeros 16) 6 1)
-    -- four numbers of five words of lists: from word 0 or 1 on, not from 2 on; five from 0 on, and not six; places past
-    -- the last number. The round's end is 5, so that 9 ends it
-    ∷ lists 4 0 5 0 (with (zeros 16) 6 1)
-    ∷ lists 4 1 5 0 (zeros 16)
-    ∷ lists 4 2 5 2 (zeros 16)
-    ∷ lists 5 0 5 0 (with (zeros 16) 6 1)
-    ∷ lists 6 0 5 2 (zeros 16)
-    ∷ lists 4 0 9 0 (zeros 16)
-    ∷ lists 4 (2 ^ 64 - 1) 5 2 (zeros 16)
-    ∷ lists (2 ^ 64 - 1) 0 5 2 (zeros 16)
-    ∷ lists (2 ^ 64 - 1) (2 ^ 64 - 1) 5 2 (zeros 16)
-    -- of three in the call the first ends it, whatever the lists hold
-    ∷ lists 3 7 5 0 (with (zeros 16) 6 1)
-    ∷ lists 0 7 5 0 (zeros 16)
+    -- four numbers of the six, of which one is past the end, 5: the second, the first, the last
+    ∷ names 4 0 5 0 (with (zeros 16) 6 1)
+    ∷ names 4 1 5 0 (with (zeros 16) 6 1)
+    ∷ names 4 2 5 0 (with (zeros 16) 6 1)
+    -- none is past the end: the greatest is the end itself
+    ∷ names 4 0 9 0 (zeros 16)
+    ∷ names 4 2 6 0 (zeros 16)
+    -- all six; and places that the lists don't have
+    ∷ names 6 0 5 0 (with (zeros 16) 6 1)
+    ∷ names 7 0 5 2 (zeros 16)
+    ∷ names 4 3 5 2 (zeros 16)
+    ∷ names 4 (2 ^ 64 - 1) 5 2 (zeros 16)
+    ∷ names (2 ^ 64 - 1) 0 5 2 (zeros 16)
+    ∷ names (2 ^ 64 - 1) (2 ^ 64 - 1) 5 2 (zeros 16)
+    -- up to three numbers stand in the call, whatever the lists hold: 7 in word 19; none
+    ∷ names 3 7 5 0 (with (zeros 16) 6 1)
+    ∷ names 0 7 5 0 (zeros 16)
     ∷ []

@@ -1,4 +1,5 @@
--- One call on a model and a cycle, from its 49 words (docs/LAYOUT.md): what it answers, and what it leaves.
+-- One call on a model and a cycle, from its 49 words, and those of the lists after them (docs/LAYOUT.md): what it
+-- answers, and what it leaves.
 use Prim.Native.Nat.{ℕ}
 use mathlib.Core.Bool.{Bool, false, cond, _&&_, _||_}
 use mathlib.Core.List.{List, [], _∷_}

@@ -13,16 +13,16 @@ use borrow.Author.Tests.{leb-true, leb-false}
 use Rattle.units.specs.declared.maybe.MaybeNumber.{MaybeNumber}
 use Rattle.units.specs.declared.maybe.MaybeNumber.the-variants as Number
 use Rattle.filters.specs.declared.round_trip_counter.RoundTripCounter.{RoundTripCounter}
-use Rattle.filters.specs.RoundTripCounter.{greatestOf, greatest, listed, isPassedBy, endsRound, roundsFull, roundsNumber, roundsEnded, roundsAcked}
+use Rattle.filters.specs.RoundTripCounter.{mostOf, greatest, listed, isPassedBy, endsRound, roundsFull, roundsNumber, roundsEnded, roundsAcked}
 use Rattle.filters.specs.Greatest.{Has, NoneAbove, RisesFrom, Greatest}
 
 -- ---- one turn of a fold that has seen the first i
-pub turn : (l : List ℕ) (i n : ℕ) → i < length l → greatestOf n (drop i l) ≡ greatestOf (max n (getD l i 0)) (drop (i + 1) l)
-turn l i n h = let next : suc i ≡ i + 1 = omega arith in ap (greatestOf n) (drop-cons l i 0 h) ∙ ap (λ (k : ℕ). greatestOf (max n (getD l i 0)) (drop k l)) next
+pub turn : (l : List ℕ) (i n : ℕ) → i < length l → mostOf n (drop i l) ≡ mostOf (max n (getD l i 0)) (drop (i + 1) l)
+turn l i n h = let next : suc i ≡ i + 1 = omega arith in ap (mostOf n) (drop-cons l i 0 h) ∙ ap (λ (k : ℕ). mostOf (max n (getD l i 0)) (drop k l)) next
 
 -- after the last
-pub over : (l : List ℕ) (i n : ℕ) → length l ≤ i → greatestOf n (drop i l) ≡ n
-over l i n h = ap (greatestOf n) (drop-of-length-le l h)
+pub over : (l : List ℕ) (i n : ℕ) → length l ≤ i → mostOf n (drop i l) ≡ n
+over l i n h = ap (mostOf n) (drop-of-length-le l h)
 
 -- ---- from the first, and by halves
 pub none : (l : List ℕ) → length l ≡ 0 → Number.Unset ≡ greatest l
@@ -36,19 +36,19 @@ partFrom i l = take (length l - i) (drop i l)
 part-from : (i : ℕ) (l : List ℕ) → partFrom i l ≡ drop i l
 part-from i l = take-all (length l - i) (drop i l) (omega (arith, length-drop i l))
 
-pub some : (l : List ℕ) → (length l ≡ 0 → ⊥) → Number.Set (greatestOf (getD l 0 0) (partFrom 1 l)) ≡ greatest l
+pub some : (l : List ℕ) → (length l ≡ 0 → ⊥) → Number.Set (mostOf (getD l 0 0) (partFrom 1 l)) ≡ greatest l
 some l h = rw (part-from 1 l) (go l h)
   where
-    go : (l : List ℕ) → (length l ≡ 0 → ⊥) → Number.Set (greatestOf (getD l 0 0) (drop 1 l)) ≡ greatest l
+    go : (l : List ℕ) → (length l ≡ 0 → ⊥) → Number.Set (mostOf (getD l 0 0) (drop 1 l)) ≡ greatest l
     go [] h = absurd (h refl)
     go (n ∷ l) h = refl
 
-joined : (n : ℕ) (k l : List ℕ) → greatestOf (greatestOf n k) l ≡ greatestOf n (k ++ l)
+joined : (n : ℕ) (k l : List ℕ) → mostOf (mostOf n k) l ≡ mostOf n (k ++ l)
 joined n [] l = refl
 joined n (m ∷ k) l = joined (max n m) k l
 
-pub halves : (n i : ℕ) (l : List ℕ) → greatestOf (greatestOf n (take i l)) (partFrom i l) ≡ greatestOf n l
-halves n i l = rw (part-from i l) (joined n (take i l) (drop i l) ∙ ap (greatestOf n) (take-append-drop i l))
+pub halves : (n i : ℕ) (l : List ℕ) → mostOf (mostOf n (take i l)) (partFrom i l) ≡ mostOf n l
+halves n i l = rw (part-from i l) (joined n (take i l) (drop i l) ∙ ap (mostOf n) (take-append-drop i l))
 
 -- ---- what it is
 larger-is : (n k : ℕ) → (n ≡ max n k) ⊎ (k ≡ max n k)
@@ -58,32 +58,32 @@ larger-is n k = go (leb n k) refl
     go true e = inr (sym (max-eq-right (leb-true n k e)))
     go false e = inl (sym (max-eq-left (omega (arith, leb-false n k e))))
 
-from-first : (n : ℕ) (l : List ℕ) → n ≤ greatestOf n l
+from-first : (n : ℕ) (l : List ℕ) → n ≤ mostOf n l
 from-first n [] = le-refl n
 from-first n (k ∷ l) = le-trans (le-max-left n k) (from-first (max n k) l)
 
-none-above : (n : ℕ) (l : List ℕ) → NoneAbove l (greatestOf n l)
+none-above : (n : ℕ) (l : List ℕ) → NoneAbove l (mostOf n l)
 none-above n [] = tt
 none-above n (k ∷ l) = (le-trans (le-max-right n k) (from-first (max n k) l), none-above (max n k) l)
 
-has : (n : ℕ) (l : List ℕ) → Has (n ∷ l) (greatestOf n l)
+has : (n : ℕ) (l : List ℕ) → Has (n ∷ l) (mostOf n l)
 has n [] = inl refl
 has n (k ∷ l) =
-    let most = greatestOf (max n k) l in
+    let most = mostOf (max n k) l in
     ⊎-elim {C = Has (n ∷ k ∷ l) most}
     (λ e. ⊎-elim {C = Has (n ∷ k ∷ l) most} (λ p. inl (p ∙ e)) (λ p. inr (inl (p ∙ e))) (larger-is n k))
     (λ h. inr (inr h))
     (has (max n k) l)
 
-at-last : (n : ℕ) (l : List ℕ) → RisesFrom n l → greatestOf n l ≡ getD (n ∷ l) (length l) 0
+at-last : (n : ℕ) (l : List ℕ) → RisesFrom n l → mostOf n l ≡ getD (n ∷ l) (length l) 0
 at-last n [] h = refl
-at-last n (k ∷ l) h = ap (λ (m : ℕ). greatestOf m l) (max-eq-right (h .0)) ∙ at-last k l (h .1)
+at-last n (k ∷ l) h = ap (λ (m : ℕ). mostOf m l) (max-eq-right (h .0)) ∙ at-last k l (h .1)
 
 pub greatest-is : Greatest
 greatest-is =
     record {
       none = refl;
-      some = λ n l. (greatestOf n l, refl, has n l, (from-first n l, none-above n l));
+      some = λ n l. (mostOf n l, refl, has n l, (from-first n l, none-above n l));
       last = λ n l h. ap Number.Set (at-last n l h);
     }
 

@@ -25,13 +25,13 @@ isPast Number.Unset n = true
 isPast (Number.Set k) n = ltb k n
 
 -- request d: "Take the greatest number in the slice." An empty one has none
-abbrev pub greatestOf : ℕ → List ℕ → ℕ
-greatestOf n [] = n
-greatestOf n (k ∷ acked) = greatestOf (max n k) acked
+abbrev pub mostOf : ℕ → List ℕ → ℕ
+mostOf n [] = n
+mostOf n (k ∷ acked) = mostOf (max n k) acked
 
 abbrev pub greatest : List ℕ → MaybeNumber
 greatest [] = Number.Unset
-greatest (n ∷ acked) = Number.Set (greatestOf n acked)
+greatest (n ∷ acked) = Number.Set (mostOf n acked)
 
 -- "The empty list still ends no round."
 abbrev pub isPassedBy : MaybeNumber → MaybeNumber → Bool

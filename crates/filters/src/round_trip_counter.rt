@@ -5,7 +5,10 @@ use units::Reply;
 use units::counter::FULL;
 ghost use mathlib.Core.Path.{_≡_};
 ghost use Rattle.units.specs.Reply.{number};
-ghost use Rattle.filters.specs.RoundTripCounter.{roundsNew, roundsSent, roundsRestart, isPast, greatestOf, greatest, listed, endsRound, roundsNumber, roundsAcked, roundsEnded};
+ghost use Rattle.filters.specs.RoundTripCounter.{roundsNew, roundsSent, roundsRestart, isPast, mostOf, greatest, listed, endsRound, roundsNumber, roundsAcked, roundsEnded};
+
+// So many numbers are gone through one after the other, without halving them.
+const AT_ONCE: usize = 64;
 
 pub struct RoundTripCounter {
     pub count: u64,
@@ -107,7 +110,7 @@ fn is_past(end: MaybeNumber, packet: u64) -> bool
     last < packet
 }
 
-// Whether a number lies past the end, if there is one.
+// Whether there is a number, and it lies past the end: where no end is set, every number does.
 fn is_passed_by(end: MaybeNumber, most: MaybeNumber) -> bool
     ensures { λ r. ⌜ r ≡ endsRound end (listed most) ⌝ }
 {
@@ -127,12 +130,12 @@ pub fn greatest_of(numbers: &[u64]) -> MaybeNumber
     MaybeNumber::Set(most_of(numbers[0], &numbers[1..]))
 }
 
-// The greatest of a number and of others. Many go by halves: a function that calls itself is not compiled into the run
-// of many calls, whose own loop is slower with a loop inside of it.
+// The greatest of a number and of others; many go by halves. It calls itself so that it is not compiled into the loop of
+// a run of calls, which a loop inside of it would slow down (docs/DECISIONS.md, 118).
 fn most_of(first: u64, numbers: &[u64]) -> u64
-    ensures { λ r. ⌜ r ≡ greatestOf first (now (numbers .entry)) ⌝ }
+    ensures { λ r. ⌜ r ≡ mostOf first (now (numbers .entry)) ⌝ }
 {
-    if numbers.len() <= 64 {
+    if numbers.len() <= AT_ONCE {
         return most_of_few(first, numbers);
     }
     let half = numbers.len() / 2;
@@ -142,7 +145,7 @@ fn most_of(first: u64, numbers: &[u64]) -> u64
 
 // The same, one after the other.
 fn most_of_few(first: u64, numbers: &[u64]) -> u64
-    ensures { λ r. ⌜ r ≡ greatestOf first (now (numbers .entry)) ⌝ }
+    ensures { λ r. ⌜ r ≡ mostOf first (now (numbers .entry)) ⌝ }
 {
     let mut most = first;
     let mut i: usize = 0;

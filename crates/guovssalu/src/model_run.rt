@@ -37,8 +37,8 @@ pub extern "C" fn guovssalu_run(state: &mut [u8], calls: &[u8], answers: &mut [u
     guovssalu_run_lists(state, calls, &none, answers)
 }
 
-// The same with lists of words, from which an event takes more acked numbers than a call has room for, by their start
-// and their count.
+// The same with lists of words, from which an event takes more acked numbers than a call has room for, by place and
+// count.
 #[no_mangle]
 pub extern "C" fn guovssalu_run_lists(
     state: &mut [u8],

@@ -19,7 +19,7 @@ use Rattle.drift.specs.Calls.{Call, State}
 use Rattle.drift.specs.Drift.{OfEvent}
 use Rattle.drift.specs.Exact.{Effect}
 use Rattle.theorems.specs.Steps.{Step, Replies, judgeStep, enterStep, changeStep, stepOf, afterStep, stepsFrom, walk}
-use Rattle.theorems.specs.Runs.{Run, Ran, IsLent, stateFrom, count, call, before, Each, OfEvents}
+use Rattle.theorems.specs.Runs.{Run, Ran, AreBytes, stateFrom, count, call, before, Each, OfEvents}
 use Rattle.theorems.proofs.Answered.{outcomeOfCall, reply-word}
 use Rattle.theorems.proofs.Choice.{arms, either}
 use Rattle.theorems.proofs.Decoded.{every-outcome}
@@ -90,14 +90,15 @@ module _ (effect : Call → State → Effect) (parts : ℕ) (W : List ℕ → Ty
       of-words w (h i (record { done = done; made = l; named = e; accepted = reply-word r ran done i l small ∙ z })))
       (every-outcome w (before r i) .replies)
 
-  fair : (r : Run) → Ran r → IsLent r → OfEvents W r → Fair effect parts (OfEvent Q) r
+  fair : (r : Run) → Ran r → AreBytes (r .state) × AreBytes (r .calls) → OfEvents W r → Fair effect parts (OfEvent Q) r
   fair r ran b h =
       record {
         ran = ran;
-        lent = b;
+        state = b .0;
+        calls = b .1;
         along = λ done. along-each (OfEvent Q) (r .calls) (r .lists) 0 (count r) (stateFrom (r .state)) (λ i l. rw (zero-add (392 * i)) (event-at r ran h done i l));
       }
 
-  pub each-fair : (runs : List Run) → Each Ran runs → Each IsLent runs → Each (OfEvents W) runs → Each (Fair effect parts (OfEvent Q)) runs
+  pub each-fair : (runs : List Run) → Each Ran runs → Each (λ r. AreBytes (r .state) × AreBytes (r .calls)) runs → Each (OfEvents W) runs → Each (Fair effect parts (OfEvent Q)) runs
   each-fair [] a b c = tt
   each-fair (r ∷ runs) a b c = (fair r (a .0) (b .0) (c .0), each-fair runs (a .1) (b .1) (c .1))

@@ -38,7 +38,7 @@ use Rattle.drift.proofs.Inflight.{inflight-drift}
 use Rattle.drift.proofs.Bandwidth.{bandwidth-drift}
 use Rattle.drift.proofs.Usual.{usual-inflight-drift, usual-bandwidth-drift}
 use Rattle.theorems.specs.Steps.{outcomeIn}
-use Rattle.theorems.specs.Runs.{Run, Ran, IsLent, stateFrom, call, before, answerWord, Accepted, Each, History, exactAfter, exactRuns, exactBefore, lowWord, inflightIn, bandwidthIn, HasBetaWord, HasSmallWords, OfEvents}
+use Rattle.theorems.specs.Runs.{Run, Ran, AreBytes, stateFrom, call, before, answerWord, Accepted, Each, History, exactAfter, exactRuns, exactBefore, lowWord, inflightIn, bandwidthIn, HasBetaWord, HasSmallWords, OfEvents}
 use Rattle.theorems.specs.Theorems.{InState, InAnswers, InflightNear, BandwidthNear}
 use Rattle.theorems.proofs.Answered.{outcomeOfCall, reply-word, value-word}
 use Rattle.theorems.proofs.Events.{each-fair}
@@ -99,7 +99,7 @@ stored-small m = go (modelOk m)
 module _ (effect : Call → State → Effect) (parts : ℕ) (P : List ℕ → Type 0) (Q : Params → CongestionEvent → CongestionEventSample → Type 0) (of-words : (w : List ℕ) → P w → Q (paramsFrom w) (eventFrom w) (sampleFrom w)) (low : State → MaybeNumber) (Near : MaybeNumber → Exact → Type 0)
     (theorem : (p : Params) (rtt : Duration) (now : Moment) (y : Cycle) (calls : List Call) → Along (OfEvent Q) calls (started p rtt now y) → Near (low (run calls (started p rtt now y))) (exactRun effect parts calls (started p rtt now y) unset)) where
   made : (runs : List Run) (r : Run) → History (runs ++ (r ∷ [])) → Each (OfEvents P) (runs ++ (r ∷ [])) → Made effect parts (OfEvent Q) r (exactRuns effect parts runs unset)
-  made runs r h e = all-made effect parts (OfEvent Q) runs r (h .order) (each-fair effect parts P Q of-words (runs ++ (r ∷ [])) (h .ran) (h .lent) e)
+  made runs r h e = all-made effect parts (OfEvent Q) runs r (h .order) (each-fair effect parts P Q of-words (runs ++ (r ∷ [])) (h .ran) (h .bytes) e)
 
   reached : (s : State) (x : Exact) → Reached effect parts (OfEvent Q) s x → Near (low s) x
   reached = of-reached effect parts (OfEvent Q) (λ s x. Near (low s) x) theorem
@@ -121,9 +121,9 @@ module _ (parts : ℕ) (P : List ℕ → Type 0) (Q : Params → CongestionEvent
   unfolding lowWord inflightLow settled
   answered-low runs r i h a =
       let ran = each-last Ran runs r (h .ran) in
-      let lent = each-last IsLent runs r (h .lent) in
+      let bytes = each-last (λ r. AreBytes (r .state) × AreBytes (r .calls)) runs r (h .bytes) in
       let s = before r i in
-      let form = walk-form (r .calls) (r .lists) (lent .1) (lent .2) i (stateFrom (r .state)) (from-form (r .state) (lent .0)) in
+      let form = walk-form (r .calls) (r .lists) (bytes .1) i (stateFrom (r .state)) (from-form (r .state) (bytes .0)) in
       let t = asked (call r i) s (a .named) in
       let small = stored-small (s .model) in
       let zero : storedNumber (s .model) ≡ 0 = sym (t .0) ∙ sym (reply-word r ran (a .done) i (a .made) (subst (λ (n : ℕ). n < 2 ^ 64) (sym (t .0)) small)) ∙ a .accepted in

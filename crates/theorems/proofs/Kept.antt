@@ -1,5 +1,5 @@
 -- Every step leaves a state in form, and within document 01's bounds where it was: by crates/laws, and its counters by row 5 of the refusals. Assumes nothing.
-use Prim.Native.Nat.{ℕ, _+_, _-_, _^_}
+use Prim.Native.Nat.{ℕ, _+_, _-_, _^_, _<_}
 use mathlib.Core.Bool.{Bool, true, false, cond, not, _&&_}
 use mathlib.Core.List.{List}
 use mathlib.Core.Logic.{_⊎_, inl, inr}
@@ -39,7 +39,6 @@ use Rattle.drift.specs.Calls as C
 use Rattle.drift.specs.Calls.{Call, Other, State, otherNumber, numberOf, otherNext, nextOf, after}
 use lib.Ieee.Bits.{ofBits-fits}
 use lib.ListN.{getD}
-use Rattle.words.proofs.Laws.{AllWords}
 use Rattle.arguments.specs.Params.{paramsFrom}
 use Rattle.words.proofs.Back.{float-fits}
 use Rattle.dispatch.specs.Outcome.{isJudged, isAsked}
@@ -361,8 +360,11 @@ step-within (begins p rtt now) s g h = begun-within p rtt now
 step-within (makes c) s g h = after-kept Within c s (λ d. next-within c s g d h) h
 step-within keeps s g h = h
 
--- ---- what is read from words is in form
-module _ (w : List ℕ) (h : AllWords w) where
+-- ---- what is read from a call's words is in form: of the words after its own, the lists', nothing is asked
+abbrev pub OwnWords : List ℕ → Type 0
+OwnWords w = (i : ℕ) → ltb i 49 ≡ true → getD w i 0 < 2 ^ 64
+
+module _ (w : List ℕ) (h : OwnWords w) where
   beta-single : Single (paramsFrom w .beta)
   unfolding paramsFrom
   beta-single = float-fits (getD w 38 0)
@@ -398,8 +400,8 @@ module _ (w : List ℕ) (h : AllWords w) where
   unfolding stepOf
   step-form =
       let n = getD w 0 0 in
-      either StepForm (eqb n 1) _ _ (h 3)
+      either StepForm (eqb n 1) _ _ (h 3 refl)
       (either StepForm (eqb n 3) _ _ beta-single
       (either StepForm (eqb n 4) _ _ tt
-      (either StepForm (eqb n 0) _ _ (h 2, h 1, gains-single .0, gains-single .1)
+      (either StepForm (eqb n 0) _ _ (h 2 refl, h 1 refl, gains-single .0, gains-single .1)
       (either StepForm (isJudged n) _ _ judge-form (either StepForm (isAsked n) _ _ tt (either StepForm (leb 40 n) _ _ enter-form change-form))))))

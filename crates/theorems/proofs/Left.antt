@@ -1,7 +1,7 @@
 -- What a run leaves in the state's bytes: the words of the state that its steps lead to, which is read back from them. Assumes nothing.
 use Prim.Native.Nat.{ℕ, zero, suc, _+_, _*_, _^_, _<_}
 use mathlib.Core.Bool.{true, false}
-use mathlib.Core.List.{List, [], _∷_, _++_, append-nil}
+use mathlib.Core.List.{List, [], _++_, append-nil}
 use mathlib.Core.Path.{_≡_, refl, sym, ap, subst, _∙_}
 use native.Mathlib.Nat.{pow-suc}
 use native.Mathlib.Omega.{arith}
@@ -11,24 +11,25 @@ use Rattle.state.specs.NetworkModel.{modelOk}
 use Rattle.state.proofs.Rows.{and-left, and-right, and-both}
 use Rattle.state.specs.Cycle.{cycleOk}
 use Rattle.words.specs.Words.{numberAt, wordsAt, allBytes}
-use Rattle.words.proofs.Laws.{AllWords, length-allBytes, words-of}
+use Rattle.words.proofs.Laws.{AllWords, length-allBytes, length-wordsAt, words-of}
 use Rattle.words.proofs.Stores.{sets-whole}
 use Rattle.layout.specs.NetworkModel.{modelFrom}
 use Rattle.layout.specs.Cycle.{cycleFrom}
 use Rattle.arguments.specs.Params.{paramsFrom}
+use Rattle.arguments.proofs.Alike.{own}
 use Rattle.dispatch.proofs.RoundTrip.{round-trip}
 use Rattle.guovssalu.specs.Reply.{answered}
 use Rattle.guovssalu.specs.ModelRun.{stateIn, encodesNone, callsIn, outcomeAt, leftBy, wordsLeft, modelRow, stateOut}
 use Rattle.layout.specs.StateWords.{stateWords, sameWords, isState}
-use Rattle.dispatch.specs.OneCall.{callAt}
+use Rattle.dispatch.specs.OneCall.{ownAt, callAt}
 use Rattle.guovssalu.proofs.ModelRun.{length-words-left, run-whole}
 use Rattle.drift.specs.Calls.{State}
 use Rattle.theorems.specs.Steps.{moment, duration, stateLeft, outcomeIn, stepOf, afterStep, stepsFrom, walk}
-use Rattle.theorems.specs.Runs.{Run, Ran, AreBytes, AreWords, stateFrom, isWithin, count, call, before, Starts}
+use Rattle.theorems.specs.Runs.{Run, Ran, AreBytes, stateFrom, isWithin, count, call, before, Starts}
 use Rattle.theorems.proofs.Decoded.{state, every-outcome}
 use Rattle.theorems.proofs.Exported.{run-is}
 use Rattle.theorems.proofs.Form.{InForm, read-form, form-words}
-use Rattle.theorems.proofs.Kept.{Within, step-form, step-kept, step-within, begun-within}
+use Rattle.theorems.proofs.Kept.{OwnWords, Within, step-form, step-kept, step-within, begun-within}
 
 -- ---- words of bytes are numbers of 64 bits
 pub number-small : (n : ℕ) (l : List ℕ) (at : ℕ) → AreBytes l → numberAt n l at < 256 ^ n
@@ -50,14 +51,9 @@ from-form bytes h = read-form (stateIn bytes) (words-small bytes 0 50 h)
 abbrev wordsOf : State → List ℕ
 wordsOf s = stateWords (s .model) (s .cycle)
 
--- and so are those of a call, with the lists
-call-small : (calls lists : List ℕ) (at : ℕ) → AreBytes calls → AreWords lists → AllWords (callAt calls lists at)
-call-small calls lists at h g = go (wordsAt calls at 49) (words-small calls at 49 h)
-  where
-    go : (l : List ℕ) → AllWords l → AllWords (l ++ lists)
-    go [] k i = g i
-    go (x ∷ l) k zero = k zero
-    go (x ∷ l) k (suc i) = go l (λ j. k (suc j)) i
+-- and so are a call's own, whatever the lists are
+call-small : (calls lists : List ℕ) (at : ℕ) → AreBytes calls → OwnWords (callAt calls lists at)
+call-small calls lists at h i e = rw (own (ownAt calls at) lists (length-wordsAt calls at 49) i e) (words-small calls at 49 h i)
 
 left-walk : (calls lists : List ℕ) (at n : ℕ) (s : State) → leftBy (s .model) (s .cycle) calls lists at n ≡ wordsOf (walk (stepsFrom calls lists at n) s)
 unfolding leftBy stepsFrom walk outcomeAt
@@ -72,12 +68,12 @@ unfolding stepsFrom walk
 walk-kept Q calls lists k at zero s q = q
 walk-kept Q calls lists k at (suc n) s q = walk-kept Q calls lists k (at + 392) n _ (k at s q)
 
-module _ (calls lists : List ℕ) (h : AreBytes calls) (g : AreWords lists) where
+module _ (calls lists : List ℕ) (h : AreBytes calls) where
   pub walk-form : (n : ℕ) (s : State) → InForm s → InForm (walk (stepsFrom calls lists 0 n) s)
-  walk-form = walk-kept InForm calls lists (λ at s f. step-kept (stepOf (callAt calls lists at)) s (step-form (callAt calls lists at) (call-small calls lists at h g)) f) 0
+  walk-form = walk-kept InForm calls lists (λ at s f. step-kept (stepOf (callAt calls lists at)) s (step-form (callAt calls lists at) (call-small calls lists at h)) f) 0
 
   walk-within : (at n : ℕ) (s : State) → Within s → Within (walk (stepsFrom calls lists at n) s)
-  walk-within = walk-kept Within calls lists (λ at s f. step-within (stepOf (callAt calls lists at)) s (step-form (callAt calls lists at) (call-small calls lists at h g)) f)
+  walk-within = walk-kept Within calls lists (λ at s f. step-within (stepOf (callAt calls lists at)) s (step-form (callAt calls lists at) (call-small calls lists at h)) f)
 
 -- ---- what is written is read back
 written : (s : State) → InForm s → stateIn (allBytes (wordsOf s)) ≡ wordsOf s
@@ -121,12 +117,12 @@ module _ (r : Run) (ran : Ran r) (done : r .reply ≡ 0) where
       let long : length words ≡ length (r .state) = length-allBytes (wordsLeft (r .state) (r .calls) (r .lists)) ∙ ap (λ (n : ℕ). 8 * n) (length-words-left (r .state) (r .calls) (r .lists)) ∙ sym (run-whole (r .state) (r .calls) (length (r .answers)) (eq-eqb row 0 row-done)) in
       run-is r ran .1 ∙ rw (eq-eqb row 0 row-done) (sets-whole (r .state) words long ∙ ap allBytes (left-walk (r .calls) (r .lists) 0 (callsIn (r .calls)) (stateFrom (r .state))))
 
-  module _ (form : InForm (stateFrom (r .state))) (bytes : AreBytes (r .calls)) (numbers : AreWords (r .lists)) where
+  module _ (form : InForm (stateFrom (r .state))) (bytes : AreBytes (r .calls)) where
     pub left-back : stateFrom (r .left) ≡ before r (count r)
-    left-back = ap stateFrom left-whole ∙ read-back _ (walk-form (r .calls) (r .lists) bytes numbers (count r) _ form)
+    left-back = ap stateFrom left-whole ∙ read-back _ (walk-form (r .calls) (r .lists) bytes (count r) _ form)
 
     pub left-taken : (length (r .left) ≡ 400) × (encodesNone (r .left) ≡ false)
-    left-taken = subst (λ (l : List ℕ). (length l ≡ 400) × (encodesNone l ≡ false)) (sym left-whole) (taken-back _ (walk-form (r .calls) (r .lists) bytes numbers (count r) _ form))
+    left-taken = subst (λ (l : List ℕ). (length l ≡ 400) × (encodesNone l ≡ false)) (sym left-whole) (taken-back _ (walk-form (r .calls) (r .lists) bytes (count r) _ form))
 
     within-back : Within (before r (count r)) → isWithin (r .left) ≡ true
     within-back h =
@@ -137,7 +133,7 @@ module _ (r : Run) (ran : Ran r) (done : r .reply ≡ 0) where
     left-within h =
         let m = modelOk (stateFrom (r .state) .model) in
         let y = cycleOk (stateFrom (r .state) .cycle) in
-        within-back (walk-within (r .calls) (r .lists) bytes numbers 0 (count r) (stateFrom (r .state)) (and-left m y h, and-right m y h))
+        within-back (walk-within (r .calls) (r .lists) bytes 0 (count r) (stateFrom (r .state)) (and-left m y h, and-right m y h))
 
     -- whose first call is a start
     pub started-within : Starts r → isWithin (r .left) ≡ true
@@ -147,5 +143,5 @@ module _ (r : Run) (ran : Ran r) (done : r .reply ≡ 0) where
         go : (n : ℕ) → 0 < n → Within (walk (stepsFrom (r .calls) (r .lists) 0 n) (stateFrom (r .state)))
         go zero l = absurd (omega (arith, l))
         go (suc n) l =
-            walk-within (r .calls) (r .lists) bytes numbers 392 n _
+            walk-within (r .calls) (r .lists) bytes 392 n _
             (rw (h .first) (begun-within (paramsFrom (call r 0)) (duration (getD (call r 0) 2 0)) (moment (getD (call r 0) 1 0))))

@@ -20,7 +20,7 @@ use Rattle.drift.specs.Calls.{Call, State, numberOf, after, run, started}
 use Rattle.drift.specs.Exact.{Effect, stays, Exact, unset, exactly, exactRun}
 use Rattle.drift.specs.Drift.{Along}
 use Rattle.theorems.specs.Steps.{Step, begins, makes, keeps, moment, duration, stepOf, begun, afterStep, stepsFrom, walk, exactStep, exactWalk}
-use Rattle.theorems.specs.Runs.{Run, Ran, IsLent, stateFrom, count, call, before, Starts, Each, Chained, InOrder, exactAfter, exactRuns, exactBefore}
+use Rattle.theorems.specs.Runs.{Run, Ran, AreBytes, stateFrom, count, call, before, Starts, Each, Chained, InOrder, exactAfter, exactRuns, exactBefore}
 use Rattle.theorems.proofs.Exported.{run-keeps}
 use Rattle.theorems.proofs.Left.{from-form, left-back}
 
@@ -106,7 +106,8 @@ module _ (effect : Call → State → Effect) (parts : ℕ) (P : Call → Type 0
   -- ---- one run of the exported function
   pub record Fair (r : Run) : Type 0 where
     pub ran : Ran r
-    pub lent : IsLent r
+    pub state : AreBytes (r .state)
+    pub calls : AreBytes (r .calls)
     pub along : r .reply ≡ 0 → AlongSteps P (stepsFrom (r .calls) (r .lists) 0 (count r)) (stateFrom (r .state))
 
   abbrev Middle : Run → ℕ → Exact → Type 0
@@ -121,7 +122,7 @@ module _ (effect : Call → State → Effect) (parts : ℕ) (P : Call → Type 0
   unfolding exactAfter settled
   done-after r x f done h =
       rw done
-      (subst (λ (z : State). Reached z (exactBefore effect parts r (count r) x)) (sym (left-back r (f .ran) done (from-form (r .state) (f .lent .0)) (f .lent .1) (f .lent .2))) h)
+      (subst (λ (z : State). Reached z (exactBefore effect parts r (count r) x)) (sym (left-back r (f .ran) done (from-form (r .state) (f .state)) (f .calls))) h)
 
   refused-after : (r : Run) (x : Exact) → Fair r → eqb (r .reply) 0 ≡ false → Reached (stateFrom (r .state)) x → Reached (stateFrom (r .left)) (exactAfter effect parts r x)
   unfolding exactAfter settled

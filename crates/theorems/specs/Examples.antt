@@ -57,10 +57,10 @@ second =
     ran (allBytes (after 1 910))
     (allBytes (asks 35 ++ asks 46 ++ sends 9_000_000_000_000_000_000 2 ++ sends 0 2 ++ acks 2 ++ asks 35)) noLists 6
 
--- the same send, and events whose four numbers are in lists of five: from word 2 on, which are not there; from word 1
--- on, in descending order, of which the first ends the round
-abbrev listed : Run
-listed =
+-- the same send, and events whose four numbers are in lists of five: from place 2 on, which are not all there; from place
+-- 1 on, in descending order, of which the first ends the round
+abbrev descending : Run
+descending =
     ran (allBytes (after 1 910)) (allBytes (sends 0 2 ++ acksOf 2 4 2 ++ acksOf 2 4 1)) (7 ∷ 2 ∷ 1 ∷ 1 ∷ 0 ∷ []) 3
 
 -- a call that clears inflight_lo, of which a byte is missing
@@ -97,11 +97,11 @@ secondExamples =
     ∷ []
 
 -- the place outside is answered 2, with the record as it was handed in; then all is as after the event of one number
-unfoldable pub listedExamples : List Bool
-listedExamples =
-    eqb (listed .reply) 0
-    ∷ same (listed .left) (allBytes (after 2 637))
-    ∷ same (listed .written)
+unfoldable pub descendingExamples : List Bool
+descendingExamples =
+    eqb (descending .reply) 0
+    ∷ same (descending .left) (allBytes (after 2 637))
+    ∷ same (descending .written)
     (allBytes
     (zeros 18
     ++ (2 ∷ 0 ∷ 0 ∷ 1300 ∷ zeros 14)

@@ -31,7 +31,7 @@ use Rattle.dispatch.specs.OneCall.{callAt}
 use Rattle.guovssalu.proofs.conversions as conversions
 use Rattle.guovssalu.proofs.filter_run.guovssalu_filter_run as filter
 use Rattle.guovssalu.proofs.model_run.guovssalu_run as model
-use Rattle.guovssalu.proofs.model_run.guovssalu_run_lists as lists
+use Rattle.guovssalu.proofs.model_run.guovssalu_run_lists as with-lists
 use Rattle.guovssalu.proofs.slope.guovssalu_raise_inflight_high_slope as slope
 use Rattle.drift.specs.Calls.{Call, State}
 use Rattle.drift.specs.Exact as X
@@ -54,7 +54,7 @@ AsksNothing {K} {A} asked = (κ : K) (a : A κ) → asked κ a
 
 pub record Unasked : Type 0 where
   pub run : AsksNothing model.Reads.Asked
-  pub run-lists : AsksNothing lists.Reads.Asked
+  pub run-lists : AsksNothing with-lists.Reads.Asked
   pub filter-run : AsksNothing filter.Reads.Asked
   pub raise-slope : AsksNothing slope.Reads.Asked
   pub u64-to-f32 : AsksNothing conversions.guovssalu_u64_to_f32.Reads.Asked
@@ -78,7 +78,7 @@ pub record Run : Type 0 where
 
 abbrev pub RanLists : Run → Type 0
 RanLists r =
-    Allowed lists.Reads.Learnt
+    Allowed with-lists.Reads.Learnt
     (λ κ a n e.
     (now (a .0) ≡ r .state)
     × (now (a .1 .0) ≡ r .calls)
@@ -221,14 +221,6 @@ SlopeRow r =
 abbrev pub AreBytes : List ℕ → Type 0
 AreBytes l = (i : ℕ) → getD l i 0 < 256
 
--- each is below 2^64
-abbrev pub AreWords : List ℕ → Type 0
-AreWords l = (i : ℕ) → getD l i 0 < 2 ^ 64
-
--- what a run is lent to be read are bytes and words: of these lists any numbers could be said
-abbrev pub IsLent : Run → Type 0
-IsLent r = AreBytes (r .state) × AreBytes (r .calls) × AreWords (r .lists)
-
 unfoldable pub stateFrom : List ℕ → State
 stateFrom bytes = record { model = modelFrom (stateIn bytes); cycle = cycleFrom (stateIn bytes) }
 
@@ -278,11 +270,11 @@ abbrev pub InOrder : List Run → Type 0
 InOrder [] = ⊥
 InOrder (r ∷ runs) = Starts r × Chained (r .left) runs
 
--- runs on one state, each with an outcome that its contract allows, on lists of bytes and of words. The first begins
--- with a start; after it any run may be refused, and any may start anew
+-- runs on one state, each with an outcome that its contract allows, on lists of bytes. The first begins with a start;
+-- after it any run may be refused, and any may start anew
 pub record History (runs : List Run) : Type 0 where
   pub ran : Each Ran runs
-  pub lent : Each IsLent runs
+  pub bytes : Each (λ r. AreBytes (r .state) × AreBytes (r .calls)) runs
   pub order : InOrder runs
 
 -- ---- the exact run beside them, given the calls that the bytes hold: before call i of a run

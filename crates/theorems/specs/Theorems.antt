@@ -63,7 +63,7 @@ use Rattle.drift.specs.Drift.{Follows, IsBeta, usualBeta, usualParts, Under}
 use Rattle.theorems.specs.Rows.{rowsOf}
 use Rattle.theorems.specs.Casts.{Casts}
 use Rattle.theorems.specs.Steps.{moment, Makes, Refused, Numbered, stepOf, outcomeIn}
-use Rattle.theorems.specs.Runs.{Unasked, Run, Ran, FilterRun, Filtered, SlopeRun, Raised, OneOutcome, Conversions, RunRow, FilterRow, SlopeRow, PairShows, AreBytes, IsLent, isWithin, count, call, before, answer, answerWord, Accepted, Starts, Each, History, exactAfter, exactRuns, exactBefore, lowWord, inflightIn, bandwidthIn, HasBetaWord, HasSmallWords, OfEvents}
+use Rattle.theorems.specs.Runs.{Unasked, Run, Ran, FilterRun, Filtered, SlopeRun, Raised, OneOutcome, Conversions, RunRow, FilterRow, SlopeRow, PairShows, AreBytes, isWithin, count, call, before, answer, answerWord, Accepted, Starts, Each, History, exactAfter, exactRuns, exactBefore, lowWord, inflightIn, bandwidthIn, HasBetaWord, HasSmallWords, OfEvents}
 
 -- What demand 3 says, of any runs, the last of which is r, that begin with a start (`History`), and in which every
 -- accepted event has words of which P holds: the number that `low` finds in the bytes that r left is near the exact one
@@ -105,12 +105,11 @@ pub record Theorems : Type 0 where
   pub filter-keeps : (r : FilterRun) → Filtered r → (r .reply ≡ 0 → ⊥) → r .written ≡ r .output
   pub slope-keeps : (r : SlopeRun) → Raised r → (r .reply ≡ 0 → ⊥) → r .written ≡ r .output
   -- A run that is done leaves a state within document 01's bounds, if it was lent one or its first call is a start. The
-  -- premise `IsLent` says that each byte is below 256, and each word of the lists below 2^64: a list here may hold any
-  -- numbers
-  pub run-bounds : (r : Run) → Ran r → IsLent r → r .reply ≡ 0 →
+  -- premise `AreBytes` says that each byte is below 256: a list here may hold any numbers
+  pub run-bounds : (r : Run) → Ran r → AreBytes (r .state) → AreBytes (r .calls) → r .reply ≡ 0 →
       (isWithin (r .state) ≡ true) ⊎ Starts r → isWithin (r .left) ≡ true
   -- And it leaves 400 bytes that encode a state, so that the next run takes them
-  pub run-again : (r : Run) → Ran r → IsLent r → r .reply ≡ 0 →
+  pub run-again : (r : Run) → Ran r → AreBytes (r .state) → AreBytes (r .calls) → r .reply ≡ 0 →
       (length (r .left) ≡ 400) × (encodesNone (r .left) ≡ false)
   -- Those bytes are the words of the state that the calls left, one after the other (`before r (count r)`)
   pub run-left : (r : Run) → Ran r → r .reply ≡ 0 →
@@ -156,8 +155,9 @@ pub record Theorems : Type 0 where
   -- Document 01's twelve marked examples hold of the definitions
   pub examples : all markedExamples ≡ true
   -- Acks out of order (document 02, request d): what the greatest of a list is, and that it is the last of a list that
-  -- rises; which lists end a round, worked out; an event's reply, next model and record depend on its list only by
-  -- whether it is empty and by its greatest number, and so does what a call of a run answers and leaves
+  -- rises; which lists end a round, worked out. An event's reply, next model and record depend on its list only by
+  -- whether it is empty and by its greatest number; what a call of a run answers and leaves depends besides on whether
+  -- the lists have the numbers that it names
   pub greatest : Greatest
   pub round-examples : all roundExamples ≡ true
   pub only-greatest : OnlyGreatest
@@ -194,9 +194,10 @@ pub record Theorems : Type 0 where
 -- The kit: that its checker accepts only proofs; that its models of floats and of the machine are those of the
 -- processor; that `Reads.Learnt` is a function's contract, and that for all arguments it allows an outcome, which the
 -- checker proves with the function; that the names under `declared` are the types of src/; and that its back end
--- compiles what was proved. The page docs/LAYOUT.md. And the definitions that this page is made of, written from
+-- compiles what was proved. The proofs speak of lent ranges that lie apart: the header lets the calls and the lists,
+-- which are only read, share bytes. The page docs/LAYOUT.md. And the definitions that this page is made of, written from
 -- documents 01 and 02, the original and docs/LAYOUT.md: all files of specs/ to which `use` lines lead from here, with
 -- their remarks. A script of the gate counts their lines (tests/contracts.py):
 --   numbers 257, units 92, filters 441, words 129, state 657, worth 274, layout 215, events 389, phases 208, changes
---   61, judge 199, arguments 222, reads 18, pairs 57, calls 204, laws 520, drift 379, dispatch 233, guovssalu 155,
---   theorems 797: together 5507
+--   61, judge 199, arguments 222, reads 18, pairs 57, calls 204, laws 520, drift 379, dispatch 234, guovssalu 155,
+--   theorems 790: together 5501

@@ -96,7 +96,7 @@ impl Call {
     /// The event with other acked numbers, all of them as they are: `lists[numbers]`. Up to
     /// [`table::MOST_ACKED`] are written into the event itself. More are named by their place and stay
     /// in the lists, so [`run_lists`] has to be lent these; another run refuses the event, or takes
-    /// what stands there.
+    /// what stands there. A call that is no event does not look at the words that this writes.
     ///
     /// # Panics
     ///

@@ -452,7 +452,8 @@ fn trace(steps: &[Step]) -> Vec<bool> {
 }
 
 /// A trace as from the field, with short lists in descending order: each round ends with the event that
-/// acks past its end. By the last number three of them would have ended one event later.
+/// acks past its end. By the last number the three that end with events 3, 5 and 7 (counted from 0)
+/// would have ended with 4, 6 and none of these.
 #[test]
 fn a_trace_with_short_descending_lists() {
     let by_last = trace(&[
@@ -470,8 +471,8 @@ fn a_trace_with_short_descending_lists() {
     assert_eq!(by_last, late);
 }
 
-/// One with long lists: every event acks ten packets around the round's end, and ends the round. By the
-/// last number every second round would have ended one event later.
+/// One with long lists: every event but the first acks ten packets around the round's end, and each
+/// ends the round. By the last number every second round would have ended one event later.
 #[test]
 fn a_trace_with_long_descending_lists() {
     let step = |round: u64| -> Step {

@@ -6,7 +6,7 @@ use native.Mathlib.Omega.{arith}
 use lib.ListN.{length, length-take, length-drop}
 use borrow.Fn.Kinds.{In}
 use borrow.Fn.PlainCycle.{Measures, is, falls, and}
-use Rattle.filters.specs.RoundTripCounter.{greatestOf}
+use Rattle.filters.specs.RoundTripCounter.{mostOf}
 use Rattle.filters.proofs.Greatest.{partFrom, halves}
 use Rattle.filters.proofs.round_trip_counter.most_of.Reads as most-of
 use Rattle.filters.proofs.round_trip_counter.most_of.Kinds as most-of-kinds
@@ -58,7 +58,7 @@ most-of-returns-2 t c =
     let args = c .before .before .before .before .before .before .args in
     let numbers = args .numbers .now in
     let half = length numbers / 2 in
-    c .most-of2 .ensures ∙ ap (λ (n : ℕ). greatestOf n (partFrom half numbers)) (c .before .before .most-of .ensures) ∙ halves (args .first) half numbers
+    c .most-of2 .ensures ∙ ap (λ (n : ℕ). mostOf n (partFrom half numbers)) (c .before .before .most-of .ensures) ∙ halves (args .first) half numbers
 
 pub +most-of-spec : {M : Type 1} → statement M
 +most-of-spec = close μ-most-of λ t. most-of-lts.spec (

@@ -4,13 +4,13 @@ use Prim.Native.Nat.{_-_, _≤_}
 use mathlib.Core.Path.{_≡_, refl, sym, _∙_}
 use native.Mathlib.Omega.{arith}
 use lib.ListN.{length, drop}
-use Rattle.filters.specs.RoundTripCounter.{greatestOf}
+use Rattle.filters.specs.RoundTripCounter.{mostOf}
 use Rattle.filters.proofs.Greatest.{turn, over}
 use Rattle.filters.proofs.round_trip_counter.most_of_few.Statement.{statement}
 use Rattle.filters.proofs.round_trip_counter.most_of_few.Tie as tie
 
 abbrev Inv-loop : tie.InvT-loop
-Inv-loop first numbers most₀ i₀ most i = (i ≤ length numbers) × (greatestOf most (drop i numbers) ≡ greatestOf first numbers)
+Inv-loop first numbers most₀ i₀ most i = (i ≤ length numbers) × (mostOf most (drop i numbers) ≡ mostOf first numbers)
 
 abbrev μ-loop : tie.MeasureT-loop
 μ-loop first numbers most₀ i₀ most i = length numbers - i
