@@ -12,8 +12,8 @@ use Rattle.words.specs.Maybe.{maybeWords, bandwidthMaybe, bandwidthOf, lengthMa
 use Rattle.arguments.specs.CongestionEvent.{sendTimeStateOf}
 
 -- ---- the acked numbers: word 18 says how many. Up to three are the first of words 19 to 21. More stand in the lists,
--- from the place on that word 19 names. Of a call the words 0 to 48 are its own, and the words from 49 on are the lists'
--- (`callAt`, crates/dispatch/specs/OneCall.antt)
+-- from the place on that word 19 names. Of a call the words 0 to 48 are its own, and the words from 49 on are the
+-- lists' (`callAt`, crates/dispatch/specs/OneCall.antt)
 abbrev pub ackedCount : List ℕ → ℕ
 ackedCount l = word l 18
 

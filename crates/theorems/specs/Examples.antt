@@ -57,8 +57,8 @@ second =
     ran (allBytes (after 1 910))
     (allBytes (asks 35 ++ asks 46 ++ sends 9_000_000_000_000_000_000 2 ++ sends 0 2 ++ acks 2 ++ asks 35)) noLists 6
 
--- the same send, and events whose four numbers are in lists of five: from place 2 on, which are not all there; from place
--- 1 on, in descending order, of which the first ends the round
+-- the same send, and events whose four numbers are in lists of five: from place 2 on, which are not all there; from
+-- place 1 on, in descending order, of which the first ends the round
 abbrev descending : Run
 descending =
     ran (allBytes (after 1 910)) (allBytes (sends 0 2 ++ acksOf 2 4 2 ++ acksOf 2 4 1)) (7 ∷ 2 ∷ 1 ∷ 1 ∷ 0 ∷ []) 3
