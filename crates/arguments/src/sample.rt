@@ -65,7 +65,7 @@ pub fn greatest_acked(n: &[u64; 49], lists: &[u64]) -> MaybeNumber
 {
     let count = n[18];
     if count <= 3 {
-        return greatest_of_few(count, n[19], n[20], n[21]);
+        return greatest_of_three(count, n[19], n[20], n[21]);
     }
     if !acked_fits(n, lists) {
         return MaybeNumber::Unset;
@@ -76,7 +76,7 @@ pub fn greatest_acked(n: &[u64; 49], lists: &[u64]) -> MaybeNumber
 }
 
 // The greatest of the first numbers of three, as many as the count says.
-fn greatest_of_few(count: u64, first: u64, second: u64, third: u64) -> MaybeNumber
+fn greatest_of_three(count: u64, first: u64, second: u64, third: u64) -> MaybeNumber
     ensures { λ r. ⌜ r ≡ greatest (take count (first ∷ second ∷ third ∷ [])) ⌝ }
 {
     if count == 0 {

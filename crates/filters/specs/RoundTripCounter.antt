@@ -24,11 +24,12 @@ abbrev pub isPast : MaybeNumber → ℕ → Bool
 isPast Number.Unset n = true
 isPast (Number.Set k) n = ltb k n
 
--- request d: "Take the greatest number in the slice." An empty one has none
+-- the greatest of a number and of a list's
 abbrev pub mostOf : ℕ → List ℕ → ℕ
 mostOf n [] = n
 mostOf n (k ∷ acked) = mostOf (max n k) acked
 
+-- request d: "Take the greatest number in the slice." An empty one has none
 abbrev pub greatest : List ℕ → MaybeNumber
 greatest [] = Number.Unset
 greatest (n ∷ acked) = Number.Set (mostOf n acked)

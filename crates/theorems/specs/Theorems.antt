@@ -198,6 +198,6 @@ pub record Theorems : Type 0 where
 -- which are only read, share bytes. The page docs/LAYOUT.md. And the definitions that this page is made of, written
 -- from documents 01 and 02, the original and docs/LAYOUT.md: all files of specs/ to which `use` lines lead from here,
 -- with their remarks. A script of the gate counts their lines (tests/contracts.py):
---   numbers 257, units 92, filters 441, words 129, state 657, worth 274, layout 215, events 389, phases 208, changes
+--   numbers 257, units 92, filters 442, words 129, state 657, worth 274, layout 215, events 389, phases 208, changes
 --   61, judge 199, arguments 222, reads 18, pairs 57, calls 204, laws 520, drift 379, dispatch 234, guovssalu 155,
---   theorems 790: together 5501
+--   theorems 790: together 5502

@@ -13,7 +13,7 @@ use Rattle.arguments.proofs.sample.greatest_acked.Tie as tie
 returns : tie.Need-returns
 returns c =
     let args = c .before .before .before .before .before .before .before .args in
-    c .greatest-of-few .ensures ∙ ap greatest (sym (acked-few (args .n .now) (args .lists .now) (c .before .before .before .before .before .before .before .pre) (c .before .before .before .before .if1 .taken)))
+    c .greatest-of-three .ensures ∙ ap greatest (sym (acked-few (args .n .now) (args .lists .now) (c .before .before .before .before .before .before .before .pre) (c .before .before .before .before .if1 .taken)))
 
 returns-2 : tie.Need-returns-2
 returns-2 c =

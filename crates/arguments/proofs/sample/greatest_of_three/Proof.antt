@@ -1,11 +1,11 @@
--- `greatest_of_few` meets its contract: by the count.
+-- `greatest_of_three` meets its contract: by the count.
 use borrow.Author.Needs.{needs}
 use Prim.Native.Nat.{ℕ, max}
 use mathlib.Core.Path.{ap, _∙_}
 use Rattle.units.specs.declared.maybe.MaybeNumber.the-variants as Number
 use Rattle.arguments.proofs.Acked.{few-none, few-one, few-two, few-three}
-use Rattle.arguments.proofs.sample.greatest_of_few.Statement.{statement}
-use Rattle.arguments.proofs.sample.greatest_of_few.Tie as tie
+use Rattle.arguments.proofs.sample.greatest_of_three.Statement.{statement}
+use Rattle.arguments.proofs.sample.greatest_of_three.Tie as tie
 
 returns-3 : tie.Need-returns-3
 returns-3 c =
@@ -18,8 +18,8 @@ returns-4 c =
     let most = c .larger2 .ensures ∙ ap (λ (n : ℕ). max n (a .third)) (c .before .before .larger .ensures) in
     ap Number.Set most ∙ few-three (a .count) (a .first) (a .second) (a .third) (c .before .before .before .before .if1 .left) (c .before .before .before .if2 .left) (c .before .if3 .left)
 
-pub greatest-of-few-spec : {M : Type 1} → statement M
-greatest-of-few-spec =
+pub greatest-of-three-spec : {M : Type 1} → statement M
+greatest-of-three-spec =
     tie.close
     (tie.spec
     (λ c. few-none _ _ (c .if1 .taken))
