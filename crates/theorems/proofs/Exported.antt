@@ -17,22 +17,20 @@ use Rattle.guovssalu.specs.Slope.{slopeRow, slopeOut}
 use Rattle.theorems.specs.Runs.{Run, Ran, FilterRun, Filtered, SlopeRun, Raised, OneOutcome, Conversions, FirstRow, RunRow, FilterRow, SlopeRow}
 
 -- ---- what is replied and left
+-- a run by its contract, of either function
+defined : (r : Run) {s c l a x y : List ℕ} {n : ℕ} → (n ≡ modelRow s c (length a)) × ((x ≡ stateOut s c l a) × (y ≡ answersOut s c l a)) →
+    (s ≡ r .state) × (c ≡ r .calls) × (l ≡ r .lists) × (a ≡ r .answers) × (n ≡ r .reply) × (x ≡ r .left) × (y ≡ r .written) →
+    (r .reply ≡ modelRow (r .state) (r .calls) (length (r .answers))) × (r .left ≡ stateOut (r .state) (r .calls) (r .lists) (r .answers)) × (r .written ≡ answersOut (r .state) (r .calls) (r .lists) (r .answers))
+defined r c f = (
+  sym (f .4) ∙ c .0 ∙ (λ i. modelRow (f .0 i) (f .1 i) (length (f .3 i))),
+  sym (f .5) ∙ c .1 .0 ∙ (λ i. stateOut (f .0 i) (f .1 i) (f .2 i) (f .3 i)),
+  sym (f .6) ∙ c .1 .1 ∙ (λ i. answersOut (f .0 i) (f .1 i) (f .2 i) (f .3 i)),
+)
+
 pub run-is : (r : Run) → Ran r →
     (r .reply ≡ modelRow (r .state) (r .calls) (length (r .answers))) × (r .left ≡ stateOut (r .state) (r .calls) (r .lists) (r .answers)) × (r .written ≡ answersOut (r .state) (r .calls) (r .lists) (r .answers))
-run-is r (inl h) =
-    let c = h .4 in
-    let f = h .5 in (
-      sym (f .4) ∙ c .0 ∙ (λ i. modelRow (f .0 i) (f .1 i) (length (f .3 i))),
-      sym (f .5) ∙ c .1 .0 ∙ (λ i. stateOut (f .0 i) (f .1 i) (f .2 i) (f .3 i)),
-      sym (f .6) ∙ c .1 .1 ∙ (λ i. answersOut (f .0 i) (f .1 i) (f .2 i) (f .3 i)),
-    )
-run-is r (inr h) =
-    let c = h .4 in
-    let f = h .5 in (
-      sym (f .4) ∙ c .0 ∙ (λ i. modelRow (f .0 i) (f .1 i) (length (f .3 i))),
-      sym (f .5) ∙ c .1 .0 ∙ (λ i. stateOut (f .0 i) (f .1 i) (f .2 i) (f .3 i)),
-      sym (f .6) ∙ c .1 .1 ∙ (λ i. answersOut (f .0 i) (f .1 i) (f .2 i) (f .3 i)),
-    )
+run-is r (inl h) = defined r (h .4) (h .5)
+run-is r (inr h) = defined r (h .4) (h .5)
 
 pub filter-is : (r : FilterRun) → Filtered r → (r .reply ≡ runRow (r .window) (r .pairs) (length (r .output))) × (r .written ≡ runOut (r .window) (r .pairs) (r .output))
 filter-is r h =
