@@ -1,14 +1,19 @@
 -- `greatest_acked` meets its contract: of numbers in the call, of a place outside of the lists, and of numbers in the lists.
 use borrow.Author.Needs.{needs}
-use Prim.Native.Nat.{ℕ, _+_, _-_, _<_}
+use Prim.Native.Nat.{ℕ, _+_, _-_, _≤_, _<_}
 use mathlib.Core.Path.{_≡_, sym, ap, _∙_}
 use native.Mathlib.Omega.{arith}
-use lib.ListN.{getD, take, drop}
+use lib.ListN.{length, getD, take, drop}
 use borrow.Author.Tests.{not-true, not-false}
 use Rattle.filters.specs.RoundTripCounter.{greatest}
 use Rattle.arguments.proofs.Acked.{acked-few, acked-outside, acked-listed, place-fits}
 use Rattle.arguments.proofs.sample.greatest_acked.Statement.{statement}
 use Rattle.arguments.proofs.sample.greatest_acked.Tie as tie
+use Rattle.arguments.proofs.sample.greatest_acked.Lts as lts
+use Rattle.arguments.proofs.sample.greatest_acked.Reads as reads
+use Rattle.arguments.proofs.sample.greatest_of_three.Reads as three
+use Rattle.arguments.proofs.sample.acked_fits.Reads as fits
+use Rattle.filters.proofs.round_trip_counter.greatest_of.Reads as many
 
 returns : tie.Need-returns
 returns c =
@@ -22,14 +27,13 @@ returns-2 c =
     let more : 3 < getD (args .n .now) 18 0 = omega (arith, c .before .before .if1 .left) in
     ap greatest (sym (acked-outside (args .n .now) (args .lists .now) long more (sym (c .before .acked-fits .ensures) ∙ not-true _ (c .if2 .taken))))
 
-add-end : tie.Need-add-end
-add-end c = omega (arith, place-fits (c .before .before .before .before .before .before .args .n .now) (c .before .before .before .before .before .before .args .lists .now) (c .before .before .before .before .before .before .pre) (omega (arith, c .before .before .before .if1 .left)) (sym (c .before .before .acked-fits .ensures) ∙ not-false _ (c .before .if2 .left)))
-
-mul-greatest-of : tie.Need-mul-greatest-of
-mul-greatest-of c = omega (arith, place-fits (c .before .before .before .before .before .before .args .n .now) (c .before .before .before .before .before .before .args .lists .now) (c .before .before .before .before .before .before .pre) (omega (arith, c .before .before .before .if1 .left)) (sym (c .before .before .acked-fits .ensures) ∙ not-false _ (c .before .if2 .left)))
-
-part-greatest-of-end : tie.Need-part-greatest-of-end
-part-greatest-of-end c = omega (arith, place-fits (c .before .before .before .before .before .before .args .n .now) (c .before .before .before .before .before .before .args .lists .now) (c .before .before .before .before .before .before .pre) (omega (arith, c .before .before .before .if1 .left)) (sym (c .before .before .acked-fits .ensures) ∙ not-false _ (c .before .if2 .left)))
+-- the place lies inside of the lists
+inside :
+    (c : lts.After-start (three.Asked, three.Learnt, fits.Asked, fits.Learnt, many.Asked, many.Learnt) reads.Pre reads.Post) →
+    let args = c .before .before .before .before .before .before .args in getD (args .n .now) 19 0 + getD (args .n .now) 18 0 ≤ length (args .lists .now)
+inside c =
+    let args = c .before .before .before .before .before .before .args in
+    place-fits (args .n .now) (args .lists .now) (c .before .before .before .before .before .before .pre) (omega (arith, c .before .before .before .if1 .left)) (sym (c .before .before .acked-fits .ensures) ∙ not-false _ (c .before .if2 .left))
 
 returns-3 : tie.Need-returns-3
 returns-3 c =
@@ -55,10 +59,10 @@ greatest-acked-spec =
     (λ c κs. c .before .before .before .pre)
     returns-2
     (λ c. search needs)
-    add-end
-    mul-greatest-of
+    (λ c. omega (arith, inside c))
+    (λ c. omega (arith, inside c))
     (λ c. search needs)
     (λ c. search needs)
-    part-greatest-of-end
+    (λ c. omega (arith, inside c))
     (λ c κs. search needs)
     returns-3)
