@@ -1,6 +1,7 @@
 /*
  * A list of acked numbers, from C: an event acks 1000 packets, from the last down to the first, and ends
  * the round at once, since the greatest number counts. The numbers stand in lists that the run is lent.
+ * And two events that are refused: one without its lists, one that acks a packet which was never sent.
  */
 #include "guovssalu.h"
 
@@ -86,7 +87,16 @@ int main(void) {
     /* A run without lists refuses the event: it has room for GUOVSSALU_MOST_ACKED numbers. */
     memset(state, 0, sizeof state);
     refused |= guovssalu_run(state, sizeof state, calls, sizeof calls, answers, sizeof answers);
-    uint64_t reply = get(CALLS - 1, GUOVSSALU_REPLY_IN_ANSWER);
-    printf("without: reply %d\n", (int)reply);
-    return refused != 0 || ended != 1 || reply != GUOVSSALU_BAD_ARGUMENT;
+    uint64_t without = get(CALLS - 1, GUOVSSALU_REPLY_IN_ANSWER);
+    printf("without: reply %d\n", (int)without);
+
+    /* A number above the last sent one, wherever it stands, refuses the event as a whole. */
+    lists[PACKETS / 2] = PACKETS + 1;
+    memset(state, 0, sizeof state);
+    refused |= guovssalu_run_lists(state, sizeof state, calls, sizeof calls, lists, PACKETS, answers,
+                                   sizeof answers);
+    uint64_t unsent = get(CALLS - 1, GUOVSSALU_REPLY_IN_ANSWER);
+    printf("with %d among the numbers, which was never sent: reply %d\n", PACKETS + 1, (int)unsent);
+    return refused != 0 || ended != 1 || without != GUOVSSALU_BAD_ARGUMENT ||
+           unsent != GUOVSSALU_NEVER_SENT;
 }

@@ -28,17 +28,21 @@ extern "C" {
 /* ---- The version. The file VERSION has it. */
 
 #define GUOVSSALU_VERSION_MAJOR 0
-#define GUOVSSALU_VERSION_MINOR 4
+#define GUOVSSALU_VERSION_MINOR 5
 #define GUOVSSALU_VERSION_PATCH 0
 
 /* The layout's number. It is raised when a call of guovssalu_run takes other arguments, or a word of a
  * state, of a call or of a call's answer gets another place or stands for something else: a state that
- * was kept is for its own number alone. Version 0.4.0 did not raise it; but since then the greatest of
- * an event's acked numbers counts, and before it the last did. What guovssalu_filter_run writes is not
- * part of it: it is four words a pair since version 0.3.0, and was three. */
-#define GUOVSSALU_LAYOUT 1
+ * was kept is for its own number alone. Version 0.5.0 raised it to 2: a state has one more word,
+ * GUOVSSALU_STATE_ANYTHING_SENT, and those of the cycle stand one place further on. The 400 bytes of
+ * layout 1 are refused with 2; docs/LAYOUT.md, "Carrying a kept state over", has the four lines that
+ * make 408 of them. Version 0.4.0 did not raise it; but since then the greatest of an event's acked
+ * numbers counts, and before it the last did. What guovssalu_filter_run writes is not part of it: it is
+ * four words a pair since version 0.3.0, and was three. */
+#define GUOVSSALU_LAYOUT 2
 
-/* ---- Replies: what an exported call replies, and the first word of an answer. */
+/* ---- Replies: what an exported call replies, and the first word of an answer. Only an event is refused
+ * with GUOVSSALU_NEVER_SENT: "Packet numbers", below. */
 
 /* -- replies of docs/calls.txt -- */
 /* Replies. */
@@ -50,7 +54,8 @@ enum {
     GUOVSSALU_LOWER_TOTAL = 4,
     GUOVSSALU_FULL_COUNTER = 5,
     GUOVSSALU_BAD_TEXT = 6,
-    GUOVSSALU_SHORT_OUTPUT = 7
+    GUOVSSALU_SHORT_OUTPUT = 7,
+    GUOVSSALU_NEVER_SENT = 10
 };
 /* -- end -- */
 
@@ -119,10 +124,10 @@ uint64_t guovssalu_filter_run(uint64_t window, const uint8_t *src, size_t src_le
 
 /* Sizes, in words and in bytes; a word has 8 bytes. */
 enum {
-    GUOVSSALU_STATE_WORDS = 50,
-    GUOVSSALU_STATE_BYTES = 400,
-    GUOVSSALU_MODEL_WORDS = 34,
-    GUOVSSALU_MODEL_BYTES = 272,
+    GUOVSSALU_STATE_WORDS = 51,
+    GUOVSSALU_STATE_BYTES = 408,
+    GUOVSSALU_MODEL_WORDS = 35,
+    GUOVSSALU_MODEL_BYTES = 280,
     GUOVSSALU_CYCLE_WORDS = 16,
     GUOVSSALU_CYCLE_BYTES = 128,
     GUOVSSALU_CALL_WORDS = 49,
@@ -153,7 +158,7 @@ enum {
     GUOVSSALU_REPLY_IN_ANSWER = 0,
     GUOVSSALU_VALUE_IN_ANSWER = 1,
     GUOVSSALU_EVENT_IN_ANSWER = 2,
-    GUOVSSALU_CYCLE_IN_STATE = 34
+    GUOVSSALU_CYCLE_IN_STATE = 35
 };
 /* -- end -- */
 
@@ -331,22 +336,23 @@ enum {
     GUOVSSALU_STATE_TOTAL_BYTES_ACKED = 31,                              /* bytes */
     GUOVSSALU_STATE_TOTAL_BYTES_LOST = 32,                               /* bytes */
     GUOVSSALU_STATE_LAST_ACCEPTED_MOMENT = 33,                           /* moment */
-    GUOVSSALU_STATE_PHASE = 34,                                          /* phase */
-    GUOVSSALU_STATE_START_TIME = 35,                                     /* moment */
-    GUOVSSALU_STATE_PHASE_START_TIME = 36,                               /* moment */
-    GUOVSSALU_STATE_ROUNDS_IN_PHASE = 37,                                /* number */
-    GUOVSSALU_STATE_ROUNDS_SINCE_PROBE = 38,                             /* number */
-    GUOVSSALU_STATE_PROBE_WAIT_TIME_SET = 39,                            /* flag */
-    GUOVSSALU_STATE_PROBE_WAIT_TIME = 40,                                /* length */
-    GUOVSSALU_STATE_PROBE_UP_ROUNDS = 41,                                /* number */
-    GUOVSSALU_STATE_PROBE_UP_BYTES_SET = 42,                             /* flag */
-    GUOVSSALU_STATE_PROBE_UP_BYTES = 43,                                 /* bytes */
-    GUOVSSALU_STATE_PROBE_UP_ACKED = 44,                                 /* bytes */
-    GUOVSSALU_STATE_PROBE_UP_APP_LIMITED_SINCE_INFLIGHT_HI_LIMITED = 45, /* flag */
-    GUOVSSALU_STATE_HAS_ADVANCED_MAX_BW = 46,                            /* flag */
-    GUOVSSALU_STATE_IS_SAMPLE_FROM_PROBING = 47,                         /* flag */
-    GUOVSSALU_STATE_LAST_CYCLE_PROBED_TOO_HIGH = 48,                     /* flag */
-    GUOVSSALU_STATE_LAST_CYCLE_STOPPED_RISKY_PROBE = 49                  /* flag */
+    GUOVSSALU_STATE_ANYTHING_SENT = 34,                                  /* flag */
+    GUOVSSALU_STATE_PHASE = 35,                                          /* phase */
+    GUOVSSALU_STATE_START_TIME = 36,                                     /* moment */
+    GUOVSSALU_STATE_PHASE_START_TIME = 37,                               /* moment */
+    GUOVSSALU_STATE_ROUNDS_IN_PHASE = 38,                                /* number */
+    GUOVSSALU_STATE_ROUNDS_SINCE_PROBE = 39,                             /* number */
+    GUOVSSALU_STATE_PROBE_WAIT_TIME_SET = 40,                            /* flag */
+    GUOVSSALU_STATE_PROBE_WAIT_TIME = 41,                                /* length */
+    GUOVSSALU_STATE_PROBE_UP_ROUNDS = 42,                                /* number */
+    GUOVSSALU_STATE_PROBE_UP_BYTES_SET = 43,                             /* flag */
+    GUOVSSALU_STATE_PROBE_UP_BYTES = 44,                                 /* bytes */
+    GUOVSSALU_STATE_PROBE_UP_ACKED = 45,                                 /* bytes */
+    GUOVSSALU_STATE_PROBE_UP_APP_LIMITED_SINCE_INFLIGHT_HI_LIMITED = 46, /* flag */
+    GUOVSSALU_STATE_HAS_ADVANCED_MAX_BW = 47,                            /* flag */
+    GUOVSSALU_STATE_IS_SAMPLE_FROM_PROBING = 48,                         /* flag */
+    GUOVSSALU_STATE_LAST_CYCLE_PROBED_TOO_HIGH = 49,                     /* flag */
+    GUOVSSALU_STATE_LAST_CYCLE_STOPPED_RISKY_PROBE = 50                  /* flag */
 };
 
 /* What the state's word GUOVSSALU_STATE_PHASE is. */
@@ -392,15 +398,28 @@ enum {
 };
 /* -- end -- */
 
+/* ---- Packet numbers.
+ *
+ * An event, GUOVSSALU_CALL_ON_CONGESTION_EVENT_START, that acks a packet which was never sent is refused
+ * with GUOVSSALU_NEVER_SENT, and nothing of it counts: where one of its numbers is above the last sent
+ * one, and where it has a number and nothing was sent since the start. The last sent one is the number
+ * of the last send, and not the greatest that was sent.
+ *
+ * So a model's packets are numbered in one rising row, in the order in which they are sent. QUIC has
+ * three packet number spaces, each from 0: whoever feeds several of them into one model numbers the
+ * packets of all of them in that one row. Otherwise honest acks are refused: packet 3 (Initial) is sent,
+ * then packet 0 (Handshake), and the ack of 3 gets GUOVSSALU_NEVER_SENT. */
+
 /* Carries out calls in order on the state in lent bytes, and leaves the new state there: the model
  * and its cycle, GUOVSSALU_STATE_BYTES. A call has GUOVSSALU_CALL_BYTES, its answer
  * GUOVSSALU_ANSWER_BYTES; docs/LAYOUT.md says how each word is written. Begin with a start,
  * GUOVSSALU_CALL_START, on a state of zeros. Bytes of answers past the last keep what they held.
  *
  * The first word of a call's answer, GUOVSSALU_REPLY_IN_ANSWER, is 0 where the call was done, and the
- * refusal's number, 1 to 5, where it was refused; the run goes on. The run's own reply of 0 says
- * nothing of its calls: look at each answer. A refused call changes nothing, but for a start, which
- * then replaces the state by a fresh one at moment 0: look at its answer before going on.
+ * refusal's number, 1 to 5 or 10, where it was refused; the run goes on. Where several apply, the first
+ * of 1, 2, 3, 4, 10 and 5 is given. The run's own reply of 0 says nothing of its calls: look at each
+ * answer. A refused call changes nothing, but for a start, which then replaces the state by a fresh one
+ * at moment 0: look at its answer before going on.
  *
  * A call's words are tested. A flag that is neither 0 nor 1, an f32 with bits above the 32nd, two
  * words of a number that may be unset that are neither 1 and the number nor 0 and 0, and a count of
@@ -408,7 +427,8 @@ enum {
  * flag is written as (flag ? 1 : 0). A number that is no call's is refused with 2, or with 1 where
  * the stored model is out of bounds.
  *
- * An event's acked numbers may stand in any order: the greatest counts. More than 3 of them go by
+ * An event's acked numbers may stand in any order: the greatest counts. An event with a number above
+ * the last sent one, or with any before the first send, is refused with 10. More than 3 of them go by
  * guovssalu_run_lists.
  *
  * The run itself replies 1 for bytes that encode no state, 2 for a state of another length or a part

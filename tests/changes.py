@@ -1,7 +1,9 @@
 #!/usr/bin/env python3
 """Small changes to the original, each of which the comparison with the port must notice; and to what the oracle reads or
-does apart from it: the reason of a windowed filter's update, the refusal of a round's end where the count is full, and
-the order in which the original is asked acked numbers.
+does apart from it: the reason of a windowed filter's update, the refusals of a round's end where the count is full and of
+a number that was never sent, the note of whether anything was sent, and the order in which the original is asked acked
+numbers. What the original does with a number that was never sent is no change here: it isn't asked such an event, so
+whether it lets one through is told by no accepted call.
 
     tests/changes.py [SEED [CALLS]]
 
@@ -27,11 +29,12 @@ FILTER = "gcongestion/bbr/windowed_filter.rs"
 MODEL = "gcongestion/bbr2/network_model.rs"
 PROBE = "gcongestion/bbr2/probe_bw.rs"
 MODE = "gcongestion/bbr2/mode.rs"
-# Of the oracle: the reading, where in it is what the exported filter run writes, the answers, the refusals, and the host
-# of the original.
+# Of the oracle: the reading, where in it is what the exported filter run writes, the answers, where in them is what a
+# refused start leaves, the refusals, and the host of the original.
 READING = "windowed.rs"
 EXPORTED = "pub fn run("
 ANSWERS = "world.rs"
+LEFT = "fn start_refused"
 REPLIES = "replies.rs"
 HOST = "appended/probe_bw.rs"
 ARCHIVE = os.environ.get("GUOVSSALU_ARCHIVE") or os.path.join(ROOT, "target/staticlib/libguovssalu.a")
@@ -194,6 +197,18 @@ CHANGES = [
     (HOST, "pub fn event_of", "numbers.sort();", ""),
     (HOST, "pub fn event_of", "numbers.sort();", "numbers.reverse();"),
     (HOST, "pub fn event_of", "numbers.sort();", "numbers.sort(); numbers.truncate(2);"),
+    (REPLIES, "pub fn reply_with", "never_sent(acked, state)", "false"),
+    (REPLIES, "pub fn reply_with", "total_falls(call, state)", "total_falls(call, state) && !never_sent(acked, state)"),
+    (REPLIES, "pub fn reply_with", "never_sent(acked, state)", "never_sent(acked, state) && !overflows(call, acked, state, start)"),
+    (REPLIES, "pub fn reply_with", "never_sent(acked, state)", "(never_sent(acked, state) || matches!(call, Call::Event(_)) && state[ANYTHING_SENT] == 0)"),
+    (REPLIES, "pub fn never_sent", "state[ANYTHING_SENT] == 0 ||", ""),
+    (REPLIES, "pub fn never_sent", "number >", "number >="),
+    (REPLIES, "pub fn never_sent", "acked.iter().any(unsent)", "acked.first().is_some_and(unsent)"),
+    (REPLIES, "pub fn never_sent", "acked.iter().any(unsent)", "acked.last().is_some_and(unsent)"),
+    (HOST, "pub fn sent(", "self.anything_sent = true;", ""),
+    (HOST, "fn at(", "anything_sent: false", "anything_sent: true"),
+    (HOST, "fn begin(", "self.last = moment.max(self.last);", "self.last = moment.max(self.last); self.anything_sent = true;"),
+    (ANSWERS, LEFT, "self.state = self.host.state();", "let sent = self.state[crate::model::field::ANYTHING_SENT]; self.state = self.host.state(); self.state[crate::model::field::ANYTHING_SENT] = sent;"),
 ]
 
 # Those that only long lists show, by `lists`.
@@ -203,6 +218,8 @@ LONG = [
     (HOST, "pub fn event_of", "numbers.to_vec()", "numbers[..numbers.len().min(9_999)].to_vec()"),
     (HOST, "pub fn event_of", "numbers.sort();", "if numbers.len() < 4 { numbers.sort(); }"),
     (REPLIES, "fn overflows", "acked.iter()", "acked.iter().take(3)"),
+    (REPLIES, "pub fn never_sent", "acked.iter()", "acked.iter().take(3)"),
+    (REPLIES, "pub fn never_sent", "acked.iter()", "acked.iter().rev().take(3)"),
 ]
 
 
@@ -240,7 +257,7 @@ def command_for(change):
         return "lists"
     if file == READING and after == EXPORTED:
         return "exports"
-    return "filter" if file in (FILTER, READING, ANSWERS) else "diff"
+    return "filter" if file in (FILTER, READING, ANSWERS) and after != LEFT else "diff"
 
 
 def build(original, package, target, command):

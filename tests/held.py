@@ -102,7 +102,7 @@ SIZED = [f"crates/{crate}/{folder}/*" for crate in ("words", "layout", "argument
 # Where a number above every word and every call, and below 1000, is a size, or one of these: bits of a word, values of a
 # byte, and what is the program `serve`'s own (oracle/README.md, "The frames").
 COUNTED = SIZED + ["crates/serve/src/*"]
-OTHERS = {64, 256} | {98, 99, 100, 165, 272, 528}
+OTHERS = {64, 256} | {98, 99, 100, 165, 272, 536}
 # Worked examples, and a count of lines.
 NOT_COUNTED = ["crates/guovssalu/specs/Examples.antt", "crates/theorems/specs/Examples.antt", "crates/theorems/specs/Theorems.antt"]
 # Where the numbers of a section's names stand: `Reply::Done => 0` in the source, `number Done = 0` in definitions.

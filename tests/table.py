@@ -194,7 +194,7 @@ def page_answer():
     event, words = SIZE["EVENT_IN_CALL"], SIZE["EVENT_WORDS"]
     start = TABLE.call.ON_CONGESTION_EVENT_START
     more = {
-        "reply": ": 0 done, 1 to 5 refused (the table of replies, below)",
+        "reply": ": 0 done, 1 to 5 or 10 refused (the table of replies, below)",
         "event": f" after call {start}; where that is refused, the record handed in, words {event} to {event + words - 1} of the call as they are, byte for byte. 0 for the other calls, which leave it",
     }
     table = grid(["word", "what"], [(at, row["what"] + more.get(row["part"], "")) for row, at in parts_of("answer")])

@@ -71,12 +71,15 @@ impl Trace {
 
     /// Sends alone.
     pub fn sends(count: usize) -> Self {
-        Maker::trace(|maker| maker.send(), count)
+        Maker::new().trace(Maker::send, count)
     }
 
-    /// Events, each with its finish.
+    /// Events, each with its finish, after one send: what they ack was sent.
     pub fn events(count: usize) -> Self {
-        Maker::trace(|maker| maker.event(), count)
+        let mut maker = Maker::new();
+        maker.sent = 2 * count as u64;
+        maker.send();
+        maker.trace(Maker::event, count)
     }
 
     /// Two sends, then an event and its finish, over and over.
@@ -86,7 +89,7 @@ impl Trace {
             maker.send();
             maker.event();
         };
-        Maker::trace(turn, count)
+        Maker::new().trace(turn, count)
     }
 }
 
@@ -107,11 +110,10 @@ impl Maker {
     const BYTES: u64 = 1200;
     const WINDOW: u64 = 60_000;
 
-    /// So many calls, or a few more.
-    fn trace(turn: impl Fn(&mut Maker), count: usize) -> Trace {
+    fn new() -> Self {
         let start = Host::usual_start();
         let host = Host::new(&start);
-        let mut maker = Maker {
+        Maker {
             random: Random::new(11),
             trace: Trace {
                 start,
@@ -125,11 +127,15 @@ impl Maker {
             acked: 0,
             in_flight: 0,
             totals: [0; 2],
-        };
-        while maker.trace.count() < count {
-            turn(&mut maker);
         }
-        maker.trace
+    }
+
+    /// So many calls, or a few more.
+    fn trace(mut self, turn: impl Fn(&mut Maker), count: usize) -> Trace {
+        while self.trace.count() < count {
+            turn(&mut self);
+        }
+        self.trace
     }
 
     /// A packet of 1200 bytes.

@@ -4,6 +4,7 @@ use crate::events;
 use crate::filter::Filter;
 use crate::model::Model;
 use crate::numbers;
+use crate::sends;
 use crate::slope::Slope;
 use crate::trial::Trial;
 
@@ -14,7 +15,7 @@ pub fn sweep(trial: &mut Trial) {
     model.each_malformed(trial);
     model.each_no_call(trial);
     model.each_length(trial);
-    for sweep in events::SWEEPS {
+    for sweep in events::SWEEPS.into_iter().chain(sends::SWEEPS) {
         sweep(&mut model, trial);
     }
     Filter::new().each_length(trial);

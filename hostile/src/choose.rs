@@ -1,5 +1,6 @@
 //! States, calls and lengths to hand in: good ones, and hostile ones made of them.
 
+use guovssalu_sys::table::argument::on_packet_sent as sent;
 use guovssalu_sys::table::call as calls;
 use guovssalu_sys::table::CALL_WORDS;
 use guovssalu_sys::table::STATE_WORDS;
@@ -24,9 +25,10 @@ const COUNTERS: [usize; 4] = [
     s::ROUNDS_WITH_QUEUEING,
 ];
 
-/// The calls that add 1 to a counter, and those with many arguments: they are made more often.
-const OFTEN: [u64; 12] = [
+/// The calls that add 1 to a counter, sends, and those with many arguments: they are made more often.
+const OFTEN: [u64; 13] = [
     calls::START,
+    calls::ON_PACKET_SENT,
     calls::ON_PACKET_SENT,
     calls::ON_CONGESTION_EVENT_START,
     calls::ON_CONGESTION_EVENT_START,
@@ -53,6 +55,13 @@ pub fn good_state(dice: &mut Dice) -> State {
     kinds::fill(dice, &mut state, &kinds::STATE);
     state[s::BYTES_LOST_IN_ROUND] = values::within(dice, state[s::TOTAL_LOST]);
     state[s::MAX_BYTES_DELIVERED_IN_ROUND] = values::within(dice, state[s::TOTAL_ACKED]);
+    state[s::ANYTHING_SENT] = !dice.one_in(8) as u64;
+    if !dice.one_in(4) {
+        // An end that a number sent after it can pass.
+        let step = dice.pick(&[1, 2, 3, 24, 1_000, u64::MAX]);
+        state[s::END_OF_ROUND_TRIP] = 1;
+        state[s::END_OF_ROUND_TRIP + 1] = state[s::LAST_SENT_PACKET].saturating_sub(step);
+    }
     if dice.one_in(4) {
         state[dice.pick(&COUNTERS)] = u64::MAX;
     }
@@ -126,7 +135,8 @@ pub fn number(dice: &mut Dice) -> u64 {
     }
 }
 
-/// A call that is accepted in the state, if that is good and its counters are not full.
+/// A call that is accepted in the state, if that is good and its counters are not full; of the events
+/// some ack a number that was never sent.
 pub fn good_call(dice: &mut Dice, state: &State, number: u64) -> Call {
     let mut call = [0; CALL_WORDS];
     call[c::NUMBER] = number;
@@ -137,8 +147,8 @@ pub fn good_call(dice: &mut Dice, state: &State, number: u64) -> Call {
     call
 }
 
-/// Sets a call's moment and totals to the stored ones or a little above, and its acked packets near
-/// the round's end, in any order.
+/// Sets a call's moment and totals to the stored ones or a little above, the number of most sends above
+/// the last, and the acked packets near the round's end or the last sent one, in any order.
 fn go_on(dice: &mut Dice, state: &State, call: &mut Call) {
     let mut above = |stored: u64, bound: u64| {
         let step = dice.pick(&[0, 0, 1, 1_000, 1 << 20, 1 << 41]);
@@ -151,9 +161,11 @@ fn go_on(dice: &mut Dice, state: &State, call: &mut Call) {
         call[c::TOTAL_ACKED] = above(state[s::TOTAL_ACKED], table::TOTAL);
         call[c::TOTAL_LOST] = above(state[s::TOTAL_LOST], table::TOTAL);
         call[c::ACKED_COUNT] = dice.pick(&[0, 1, 2, 3, 3, 3]);
-        if !dice.one_in(4) {
-            lists::fill_call(dice, state, call);
-        }
+        lists::fill_call(dice, state, call);
+    }
+    if call[c::NUMBER] == calls::ON_PACKET_SENT && !dice.one_in(4) {
+        let step = dice.pick(&[1, 1, 2, 1_000]);
+        call[sent::PACKET_NUMBER] = state[s::LAST_SENT_PACKET].saturating_add(step);
     }
 }
 
@@ -162,6 +174,14 @@ pub fn stand_still(state: &State, call: &mut Call) {
     call[c::EVENT_TIME] = state[s::LAST_MOMENT];
     call[c::TOTAL_ACKED] = state[s::TOTAL_ACKED];
     call[c::TOTAL_LOST] = state[s::TOTAL_LOST];
+}
+
+/// A good send of a number, at the stored moment.
+pub fn send_now(dice: &mut Dice, state: &State, number: u64) -> Call {
+    let mut call = good_call(dice, state, calls::ON_PACKET_SENT);
+    call[sent::SENT_TIME] = state[s::LAST_MOMENT];
+    call[sent::PACKET_NUMBER] = number;
+    call
 }
 
 /// Makes some words of a call hostile, most of them such as it reads.
@@ -204,7 +224,7 @@ pub fn malform_call(dice: &mut Dice, call: &mut Call, spoilt: &mut Spoilt) {
     spoilt.call.push(place);
 }
 
-/// What else can be wrong beside a malformed word or a place outside the lists.
+/// What else can be wrong beside a malformed word, a place outside the lists or an ack never sent.
 #[derive(Clone, Copy, PartialEq, Debug)]
 pub enum Beside {
     Nothing,
@@ -216,11 +236,12 @@ pub enum Beside {
     Record,
     Moment,
     Total,
+    NothingSent,
     Counters,
 }
 
 impl Beside {
-    pub const ALL: [Beside; 10] = [
+    pub const ALL: [Beside; 11] = [
         Beside::Nothing,
         Beside::StoredModel,
         Beside::StoredCycle,
@@ -230,6 +251,7 @@ impl Beside {
         Beside::Record,
         Beside::Moment,
         Beside::Total,
+        Beside::NothingSent,
         Beside::Counters,
     ];
 
@@ -262,6 +284,7 @@ impl Beside {
                 call[c::TOTAL_ACKED] = state[s::TOTAL_ACKED].saturating_sub(1);
             }
             Beside::Total => {}
+            Beside::NothingSent => state[s::ANYTHING_SENT] = 0,
             Beside::Counters => {
                 for counter in COUNTERS {
                     state[counter] = u64::MAX;

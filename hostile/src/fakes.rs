@@ -18,6 +18,7 @@ use crate::after;
 use crate::cases::random;
 use crate::cases::sweep;
 use crate::events;
+use crate::events::Sweep;
 use crate::filter;
 use crate::filter::Samples;
 use crate::foreign::FilterRun;
@@ -27,11 +28,9 @@ use crate::foreign::RunLists;
 use crate::model::Model;
 use crate::pages::page;
 use crate::reckon;
-use crate::rounds::Greatest;
 use crate::slope;
 use crate::table;
 use crate::table::Rows;
-use crate::tally::Export;
 use crate::tally::Fault;
 use crate::tally::Tally;
 use crate::trial::Trial;
@@ -283,7 +282,13 @@ pub fn step(state: &mut State, call: &Call) -> Answer {
 
 /// One call of a run with lists.
 pub fn step_with(state: &mut State, call: &Call, lists: &[u64]) -> Answer {
-    let due = table::call_rows(state, call, lists).due();
+    let rows = table::call_rows(state, call, lists);
+    step_by(&rows, state, call, lists)
+}
+
+/// One call, by the rows that are said to hold.
+pub fn step_by(rows: &Rows, state: &mut State, call: &Call, lists: &[u64]) -> Answer {
+    let due = rows.due();
     let answer = after::answer(state, call, lists, due);
     *state = after::state(state, call, lists, due);
     answer
@@ -649,10 +654,10 @@ fn notices(port: Port, fault: Fault) -> bool {
     })
 }
 
-/// Whether they notice it when they sweep events.
-fn notices_swept(port: Port, fault: Fault) -> bool {
+/// Whether they notice it when they sweep these cases of events.
+fn notices_swept(port: Port, fault: Fault, sweeps: &[Sweep]) -> bool {
     let (mut trial, mut model) = (Trial::new(&port, SEED), Model::new());
-    events::SWEEPS.iter().any(|sweep| {
+    sweeps.iter().any(|sweep| {
         sweep(&mut model, &mut trial);
         trial.tally.count(fault) > 0
     })
@@ -665,20 +670,21 @@ pub fn assert_noticed(fault: Fault, runs: &[(&str, Run)]) {
     }
 }
 
-/// Fails for a run with lists whose fault the checks don't notice by chance, or when they sweep events.
-pub fn assert_lists_noticed(fault: Fault, runs: &[(&str, RunLists)]) {
+/// Fails for a run with lists whose fault the checks don't notice by chance, or when they sweep these
+/// cases of events.
+pub fn assert_lists_noticed(fault: Fault, sweeps: &[Sweep], runs: &[(&str, RunLists)]) {
     for &(name, run_lists) in runs {
         let port = Port { run_lists, ..RIGHT };
         assert!(notices(port, fault), "{}", name);
-        assert!(notices_swept(port, fault), "{}, swept", name);
+        assert!(notices_swept(port, fault, sweeps), "{}, swept", name);
     }
 }
 
-/// Fails for a run whose fault the checks don't notice when they sweep events.
-pub fn assert_noticed_swept(fault: Fault, runs: &[(&str, Run)]) {
+/// Fails for a run whose fault the checks don't notice when they sweep these cases of events.
+pub fn assert_noticed_swept(fault: Fault, sweeps: &[Sweep], runs: &[(&str, Run)]) {
     for &(name, run) in runs {
         let port = Port { run, ..RIGHT };
-        assert!(notices_swept(port, fault), "{}, swept", name);
+        assert!(notices_swept(port, fault, sweeps), "{}, swept", name);
     }
 }
 
@@ -703,20 +709,22 @@ fn the_right_port_is_found_right() {
 }
 
 #[test]
-fn every_reply_is_asked_for() {
+fn everything_is_swept() {
+    let mut trial = Trial::new(&RIGHT, SEED);
+    sweep(&mut trial);
+    assert_eq!(
+        trial.tally.fewer_than(1),
+        [""; 0],
+        "{}",
+        trial.tally.report()
+    );
+}
+
+#[test]
+fn everything_is_asked_for_by_chance() {
     let tally = found(RIGHT);
-    for (export, replies) in [
-        (Export::Run, &[0, 1, 2, 7][..]),
-        (Export::OneCall, &[0, 1, 2, 3, 4, 5]),
-        (Export::RunLists, &[0, 1, 2, 7]),
-        (Export::OneCallOfLists, &[0, 1, 2, 3, 4, 5]),
-        (Export::FilterRun, &[0, 2, 3, 7]),
-        (Export::Slope, &[0, 1, 2, 7]),
-    ] {
-        for &reply in replies {
-            assert!(tally.given(export, reply) > 50, "{:?} {}", export, reply);
-        }
-    }
+    assert_eq!(tally.fewer_than(20), [""; 0], "{}", tally.report());
+    assert!(tally.outside() > 50);
 }
 
 #[test]
@@ -728,23 +736,10 @@ fn every_reason_is_asked_for() {
 }
 
 #[test]
-fn every_end_of_a_round_is_asked_for() {
-    let tally = found(RIGHT);
-    for greatest in [
-        Greatest::NoEnd,
-        Greatest::Below,
-        Greatest::AtEnd,
-        Greatest::First,
-        Greatest::Between,
-        Greatest::Last,
-    ] {
-        for in_a_list in [false, true] {
-            let stood = tally.stood(in_a_list, greatest);
-            assert!(stood > 20, "{:?}, in a list {}", greatest, in_a_list);
-        }
-    }
-    assert!(tally.stood(false, Greatest::Nothing) > 20);
-    assert!(tally.outside() > 50);
+fn what_was_not_asked_for_is_told() {
+    let tally = Tally::default();
+    assert!(tally.report().contains("not reached: guovssalu_run, 7\n"));
+    assert!(tally.report().ends_with(" not reached\n"));
 }
 
 #[test]
@@ -789,6 +784,7 @@ fn touched_bytes_are_noticed() {
     );
     assert_lists_noticed(
         Fault::Touched,
+        &events::SWEEPS,
         &[
             ("lists", touches_lists as RunLists),
             ("after the lists", writes_after_lists),

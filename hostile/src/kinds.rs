@@ -92,6 +92,7 @@ pub const STATE: [Kind; STATE_WORDS] = [
     Upto(TOTAL),
     Upto(TOTAL),
     Upto(MOMENT),
+    Flag,
     Phase,
     Upto(MOMENT),
     Upto(MOMENT),

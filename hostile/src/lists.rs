@@ -69,44 +69,51 @@ pub fn starts(len: u64, count: u64) -> [u64; 16] {
     ]
 }
 
-/// A number at which a round of a state can end: its end, or the one that would be set.
-fn end(dice: &mut Dice, state: &State) -> u64 {
-    let end = state[s::END_OF_ROUND_TRIP + 1];
-    dice.pick(&[end, end, state[s::LAST_SENT_PACKET]])
+/// Fills a list for an event in a state: one in four about the last sent number, with some above it, and
+/// the others about it or about the end of the round, with none above it.
+fn fill_in(dice: &mut Dice, state: &State, numbers: &mut [u64]) {
+    let (end, sent) = (state[s::END_OF_ROUND_TRIP + 1], state[s::LAST_SENT_PACKET]);
+    if dice.one_in(4) {
+        return fill(dice, numbers, sent);
+    }
+    let limit = dice.pick(&[end, end, sent]);
+    fill(dice, numbers, limit);
+    for number in numbers {
+        *number = sent.min(*number);
+    }
 }
 
-/// Fills a list with numbers about an end: in any order, falling, rising, all the same, or not above
-/// the end but for one.
-pub fn fill(dice: &mut Dice, numbers: &mut [u64], end: u64) {
-    let (above, below) = (end.saturating_add(1), end.saturating_sub(1));
+/// Fills a list with numbers about a limit: in any order, falling, rising, all the same, or not above
+/// the limit but for one.
+pub fn fill(dice: &mut Dice, numbers: &mut [u64], limit: u64) {
+    let (above, below) = (limit.saturating_add(1), limit.saturating_sub(1));
     let count = numbers.len() as u64;
-    let highest = end.saturating_add(dice.below(count + 2));
-    let same = dice.pick(&[0, below, end, above, MAX]);
-    let way = dice.below(10);
+    let highest = limit.saturating_add(dice.below(count + 2));
+    let same = dice.pick(&[0, below, limit, above, MAX]);
+    let way = dice.below(12);
     for (at, number) in (0..count).zip(numbers.iter_mut()) {
         *number = match way {
             0 => values::any(dice),
             1 => highest.saturating_sub(at),
             2 => highest.saturating_sub(count - 1 - at),
             3 => same,
-            4 => dice.pick(&[below, end, above]),
-            _ => end.saturating_sub(dice.below(3)),
+            4 => dice.pick(&[below, limit, above]),
+            _ => limit.saturating_sub(dice.below(3)),
         };
     }
     if way > 4 && count > 0 {
-        let any = dice.length(numbers.len());
-        let place = dice.pick(&[0, any, numbers.len() / 2, numbers.len() - 1]);
-        numbers[place] = dice.pick(&[below, end, above, above, MAX]);
+        let (any, half) = (dice.length(numbers.len()), numbers.len() / 2);
+        let place = dice.pick(&[0, any, half, half, numbers.len() - 1]);
+        numbers[place] = dice.pick(&[below, limit, above, above, MAX]);
     }
 }
 
 /// Fills the call's own room for acked numbers. Those past the count must not be looked at, and often
-/// they would end the round.
+/// they would end the round and were never sent.
 pub fn fill_call(dice: &mut Dice, state: &State, call: &mut Call) {
-    let end = end(dice, state);
     let count = call[c::ACKED_COUNT].min(3) as usize;
     let (counted, rest) = call[c::ACKED..c::RECORD].split_at_mut(count);
-    fill(dice, counted, end);
+    fill_in(dice, state, counted);
     if dice.one_in(2) {
         rest.fill(MAX);
     }
@@ -120,8 +127,7 @@ pub fn chosen(dice: &mut Dice, state: &State) -> Vec<u64> {
         _ => dice.length(24),
     };
     let mut lists = vec![0; length];
-    let end = end(dice, state);
-    fill(dice, &mut lists, end);
+    fill_in(dice, state, &mut lists);
     lists
 }
 
@@ -140,8 +146,7 @@ pub fn place(dice: &mut Dice, state: &State, call: &mut Call, lists: &mut [u64])
     call[c::ACKED_COUNT] = count as u64;
     call[c::ACKED] = start as u64;
     if let (Some(numbers), true) = (lists.get_mut(start..start + count), dice.one_in(2)) {
-        let end = end(dice, state);
-        fill(dice, numbers, end);
+        fill_in(dice, state, numbers);
     }
 }
 

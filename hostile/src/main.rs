@@ -17,17 +17,20 @@ mod filter;
 mod foreign;
 mod kinds;
 mod lent;
+mod limits;
 mod lists;
 #[cfg(test)]
 mod misplaces;
 #[cfg(test)]
 mod misreads;
+#[cfg(test)]
+mod missends;
 mod model;
 mod next;
 mod numbers;
 mod pages;
 mod reckon;
-mod rounds;
+mod sends;
 mod slope;
 mod table;
 mod tally;
@@ -55,5 +58,6 @@ fn main() {
     cases::sweep(&mut trial);
     cases::random(&mut trial, calls);
     print!("{}", trial.tally.report());
-    std::process::exit((trial.tally.wrongs() > 0) as i32);
+    let failed = trial.tally.wrongs() > 0 || !trial.tally.fewer_than(1).is_empty();
+    std::process::exit(failed as i32);
 }

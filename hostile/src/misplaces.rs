@@ -3,6 +3,7 @@
 
 use guovssalu_sys::table::call as calls;
 
+use crate::events::SWEEPS;
 use crate::fakes::assert_lists_noticed;
 use crate::fakes::assert_noticed;
 use crate::fakes::assert_noticed_swept;
@@ -28,12 +29,12 @@ use crate::words::State;
 const MAX: u64 = u64::MAX;
 
 /// Whether it is an event.
-fn is_event(call: &Call) -> bool {
+pub fn is_event(call: &Call) -> bool {
     call[c::NUMBER] == calls::ON_CONGESTION_EVENT_START
 }
 
 /// The event with one number acked, in the call itself, or with none.
-fn with_one(call: &Call, number: Option<u64>) -> Call {
+pub fn with_one(call: &Call, number: Option<u64>) -> Call {
     let mut other = *call;
     other[c::ACKED_COUNT] = number.is_some() as u64;
     other[c::ACKED] = number.unwrap_or(0);
@@ -69,7 +70,10 @@ fn takes(
     lists: &[u64],
 ) -> Answer {
     match words::acked(call, lists) {
-        Some(acked) if is_event(call) && counts(acked.len()) => {
+        // Which numbers were sent is asked of all of them, as it should be.
+        Some(acked)
+            if counts(acked.len()) && is_event(call) && !table::acks_unsent(state, call, lists) =>
+        {
             let end = words::optional(state, s::END_OF_ROUND_TRIP);
             step(state, &with_one(call, taken(end, acked)))
         }
@@ -112,9 +116,10 @@ fn another_number_than_the_greatest_is_noticed() {
         ("0 of no numbers", takes_in_calls::<7>),
     ];
     assert_noticed(Fault::Content, &in_calls);
-    assert_noticed_swept(Fault::Content, &in_calls);
+    assert_noticed_swept(Fault::Content, &SWEEPS, &in_calls);
     assert_lists_noticed(
         Fault::Content,
+        &SWEEPS,
         &[
             ("beside, the last", takes_beside_lists::<0> as RunLists),
             ("beside, the first", takes_beside_lists::<1>),
@@ -241,6 +246,7 @@ makes!(looks_with_few_inside, |state, call, lists| {
 fn numbers_from_elsewhere_are_noticed() {
     assert_lists_noticed(
         Fault::Content,
+        &SWEEPS,
         &[
             ("from the first word on", takes_elsewhere::<0> as RunLists),
             ("the start in bytes", takes_elsewhere::<1>),
@@ -260,6 +266,7 @@ fn numbers_from_elsewhere_are_noticed() {
 fn misjudged_places_are_noticed() {
     assert_lists_noticed(
         Fault::Reply,
+        &SWEEPS,
         &[
             ("the sum wraps", misjudges::<0> as RunLists),
             ("the sum in bytes wraps", misjudges::<1>),
@@ -398,6 +405,7 @@ refused_where!(calls_as_lists_refuse_the_run, |calls, lists| {
 fn other_replies_to_a_place_outside_are_noticed() {
     assert_lists_noticed(
         Fault::Reply,
+        &SWEEPS,
         &[
             ("out of bounds", outside_is_out_of_bounds as RunLists),
             ("asked before row 1", outside_is_asked_first),
@@ -418,6 +426,7 @@ fn other_replies_to_a_place_outside_are_noticed() {
 fn other_answers_after_a_place_outside_are_noticed() {
     assert_lists_noticed(
         Fault::Content,
+        &SWEEPS,
         &[
             ("no record", outside_has_no_record as RunLists),
             ("another record", outside_has_a_record_without_end),
@@ -426,6 +435,7 @@ fn other_answers_after_a_place_outside_are_noticed() {
     );
     assert_lists_noticed(
         Fault::Touched,
+        &SWEEPS,
         &[("the moment", outside_moves_on as RunLists)],
     );
 }

@@ -13,9 +13,11 @@ use crate::choose::Spoilt;
 use crate::dice::Dice;
 use crate::kinds;
 use crate::lent::Ground;
+use crate::limits;
 use crate::lists;
-use crate::rounds;
 use crate::table;
+use crate::table::Rows;
+use crate::table::NEVER_SENT;
 use crate::tally::Export;
 use crate::tally::Fault;
 use crate::tally::Tally;
@@ -45,6 +47,18 @@ const CARRIED: u32 = 64;
 /// Of the calls but events, every word is swept in a run with lists at one number of so many: they
 /// don't look at lists. 63 numbers are swept, so that each word gets others than the one before it.
 const SPARSE: usize = 13;
+
+/// The ranges of bytes that a run is lent.
+#[derive(Clone, Copy)]
+pub enum Range {
+    State,
+    Calls,
+    Answers,
+}
+
+impl Range {
+    pub const ALL: [Range; 3] = [Range::State, Range::Calls, Range::Answers];
+}
 
 /// What a run is lent; with lists it is the run that takes them. They can be the words of the calls
 /// themselves, in the same place: both are only read.
@@ -78,9 +92,30 @@ impl Lent {
         self.in_calls = true;
     }
 
+    /// One of the ranges of bytes.
+    pub fn range(&mut self, range: Range) -> &mut Vec<u8> {
+        match range {
+            Range::State => &mut self.state,
+            Range::Calls => &mut self.calls,
+            Range::Answers => &mut self.answers,
+        }
+    }
+
     /// The words of the lists; a run without lists has none.
     fn words(&self) -> &[u64] {
         self.lists.as_deref().unwrap_or(&[])
+    }
+
+    /// The rows of the run itself.
+    fn rows(&self) -> Rows {
+        table::run_rows(&self.state, &self.calls, self.answers.len())
+    }
+
+    /// Whether it has an event that acks what was never sent, by the words of the state handed in.
+    fn acks_unsent(&self) -> bool {
+        let state = words::words(&self.state);
+        let mut calls = self.calls.chunks_exact(CALL_BYTES).map(words::words);
+        calls.any(|call| table::acks_unsent(&state, &call, self.words()))
     }
 
     /// What the run is counted as, and a call of it that is made alone.
@@ -212,17 +247,13 @@ impl Model {
     /// Each of the three ranges of bytes in turn at each length, the others being right for one call,
     /// with lists and without.
     pub fn each_length(&mut self, trial: &mut Trial) {
+        let ranges = Range::ALL.map(|range| [(range, false), (range, true)]);
         for length in 0..=LONGEST_STATE {
-            for (range, with_lists) in (0..3).flat_map(|range| [(range, false), (range, true)]) {
+            for (range, with_lists) in ranges.concat() {
                 let number = choose::number(&mut trial.dice);
                 let (state, call, lists) = good(&mut trial.dice, number, with_lists);
                 let mut lent = Lent::new(&mut trial.dice, &state, &[call], lists);
-                let bytes = match range {
-                    0 => &mut lent.state,
-                    1 => &mut lent.calls,
-                    _ => &mut lent.answers,
-                };
-                choose::resize(&mut trial.dice, bytes, length);
+                choose::resize(&mut trial.dice, lent.range(range), length);
                 self.run(trial, &lent);
             }
         }
@@ -282,7 +313,7 @@ impl Model {
 
     /// Makes a run and checks it; of an accepted run of several calls, also each of them alone.
     pub fn run(&mut self, trial: &mut Trial, lent: &Lent) {
-        let due = table::run_rows(&lent.state, &lent.calls, lent.answers.len()).due();
+        let due = lent.rows().due();
         let alone = lent.calls.len() == CALL_BYTES;
         let parts = if due == 0 && !alone {
             Some(self.one_by_one(trial, lent))
@@ -336,10 +367,13 @@ impl Model {
                 trial.port.run_lists(state, calls, lists, answers)
             }
         };
-        let rows = table::run_rows(&lent.state, &lent.calls, lent.answers.len());
+        let rows = lent.rows();
         let [export, _] = lent.exports();
         let (tally, tell) = (&mut trial.tally, || tell(lent));
         tally.replied(export, &rows, given, tell);
+        if rows.due() != 0 && lent.acks_unsent() {
+            tally.never_asked(&rows);
+        }
         checks::guards(tally, &mut self.state, "state", tell);
         checks::guards(tally, &mut self.calls, "calls", tell);
         checks::guards(tally, &mut self.answers, "answers", tell);
@@ -404,7 +438,7 @@ impl Model {
         tally.worded(kinds::is_malformed(&call, lists), unknown);
         let due = rows.due();
         if is_event(call[c::NUMBER]) {
-            count_acked(tally, &before, &call, lent, due);
+            count_acked(tally, &before, &call, lent, &rows);
         }
         if left != after::state(&before, &call, lists, due) {
             let fault = if due == 0 || call[c::NUMBER] == calls::START {
@@ -453,15 +487,18 @@ fn good(dice: &mut Dice, number: u64, with_lists: bool) -> (State, Call, Option<
     (state, call, Some(lists))
 }
 
-/// A call for a run, good or hostile. In a run with lists there are more events, and half of those take
-/// nothing hostile but their place.
+/// A call for a run, good or hostile. Where no number that was sent can end the round there are more
+/// sends. In a run with lists there are more events, and half of those take nothing hostile but their
+/// place.
 fn chosen_call(
     dice: &mut Dice,
     state: &State,
     lists: &mut Option<Vec<u64>>,
     spoilt: &mut Spoilt,
 ) -> Call {
+    let end = words::optional(state, s::END_OF_ROUND_TRIP);
     let number = match lists {
+        _ if table::last_sent(state) <= end && dice.one_in(4) => calls::ON_PACKET_SENT,
         Some(_) if dice.one_in(2) => calls::ON_CONGESTION_EVENT_START,
         _ => choose::number(dice),
     };
@@ -501,15 +538,26 @@ fn choose_place(dice: &mut Dice, state: &State, call: &mut Call, lists: &mut [u6
     }
 }
 
-/// Counts how the greatest number of an event stands, or that its place is outside the lists.
-fn count_acked(tally: &mut Tally, before: &State, call: &Call, lent: &Lent, due: u64) {
-    let end = words::optional(before, s::END_OF_ROUND_TRIP);
-    match words::acked(call, lent.words()) {
-        None if lent.lists.is_some() => tally.misplaced(),
-        Some(acked) if due == 0 => {
-            tally.rounded(acked.len() > 3, rounds::greatest(end, acked));
+/// Counts how the greatest number of an event stands to the end of the round and to the last sent one,
+/// what holds beside a number never sent, or that the place is outside the lists.
+fn count_acked(tally: &mut Tally, before: &State, call: &Call, lent: &Lent, rows: &Rows) {
+    let (due, acked) = (rows.due(), words::acked(call, lent.words()));
+    if acked.is_none() && lent.lists.is_some() {
+        tally.misplaced();
+    }
+    if let Some(acked) = acked {
+        let in_a_list = acked.len() > 3;
+        if due == 0 {
+            let end = words::optional(before, s::END_OF_ROUND_TRIP);
+            tally.rounded(in_a_list, limits::greatest(end, acked));
         }
-        _ => {}
+        if due == 0 || due == NEVER_SENT {
+            let sent = table::last_sent(before);
+            tally.sent(in_a_list, limits::greatest(sent, acked));
+        }
+        if rows.holds(NEVER_SENT) {
+            tally.never_sent(in_a_list, rows);
+        }
     }
 }
 

@@ -79,6 +79,8 @@ fn on_packet_sent(state: &mut State, call: &Call) {
         state[s::INFLIGHT_HI_LIMITED_IN_ROUND] = 1;
     }
     state[s::LAST_SENT_PACKET] = call[arg::on_packet_sent::PACKET_NUMBER];
+    // Document 02: "The state gains a note of whether anything was sent."
+    state[s::ANYTHING_SENT] = 1;
 }
 
 /// on_congestion_event_start: changes the state and answers the record.

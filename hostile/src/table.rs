@@ -1,6 +1,6 @@
-//! Which number is due: document 01's section "Replies and bounds", read sentence by sentence, and
-//! for the runs and the form of words docs/LAYOUT.md. Where the document leaves a choice, the reading
-//! is that of docs/DECISIONS.md, named at its place.
+//! Which number is due: document 01's section "Replies and bounds", read sentence by sentence, of
+//! document 02 "Acks for packets never sent", and for the runs and the form of words docs/LAYOUT.md.
+//! Where the documents leave a choice, the reading is that of docs/DECISIONS.md, named at its place.
 //!
 //! A malformed word counts as one out of bounds: a flag that is neither 0 nor 1, an f32 with bits
 //! above the 32nd, a pair that is neither 1 and a number nor 0 and 0. In an argument or in the event's
@@ -38,30 +38,43 @@ pub const WAIT: u64 = LENGTH + 500_000;
 pub const BANDWIDTH: u64 = 1 << 40;
 pub const ROUNDS: u64 = 30;
 
-/// The rows of the table that hold for a case.
+/// The numbers of the rows, in the order in which they are asked: rising, but for "10, asked after 4
+/// and before 5".
+pub const ORDER: [u64; 8] = [1, 2, 3, 4, NEVER_SENT, 5, 6, 7];
+
+/// Document 02's row: a number is acked that was never sent.
+pub const NEVER_SENT: u64 = 10;
+
+/// The rows of the table that hold for a case, by their numbers.
 #[derive(Clone, Copy, Default, Debug, PartialEq)]
-pub struct Rows([bool; 8]);
+pub struct Rows([bool; 11]);
 
 impl Rows {
     /// The same rows, and this one if it holds.
-    pub fn with(mut self, row: usize, holds: bool) -> Self {
-        self.0[row] |= holds;
+    pub fn with(mut self, row: u64, holds: bool) -> Self {
+        self.0[row as usize] |= holds;
         self
     }
 
-    /// "If several refusals apply, the lowest number is given"; 0 is done.
+    /// Whether a row holds.
+    pub fn holds(&self, row: u64) -> bool {
+        self.0[row as usize]
+    }
+
+    /// The numbers of the rows that hold, the one that is asked first before the others.
+    pub fn numbers(&self) -> impl Iterator<Item = u64> + '_ {
+        ORDER.into_iter().filter(|&row| self.holds(row))
+    }
+
+    /// "If several refusals apply, the lowest number is given", 10 counting as between 4 and 5; 0 is
+    /// done.
     pub fn due(&self) -> u64 {
-        self.0.iter().position(|&holds| holds).unwrap_or(0) as u64
+        self.numbers().next().unwrap_or(0)
     }
 
     /// Whether two or more refusals apply.
     pub fn overlap(&self) -> bool {
-        self.0.iter().filter(|&&holds| holds).count() > 1
-    }
-
-    /// The numbers of the rows that hold.
-    pub fn numbers(&self) -> Vec<usize> {
-        (0..self.0.len()).filter(|&row| self.0[row]).collect()
+        self.numbers().count() > 1
     }
 }
 
@@ -90,6 +103,8 @@ pub fn call_rows(state: &State, call: &Call, lists: &[u64]) -> Rows {
             4,
             number == calls::ON_CONGESTION_EVENT_START && totals_fall(state, call),
         )
+        // Document 02: "10, asked after 4 and before 5"
+        .with(NEVER_SENT, acks_unsent(state, call, lists))
         // "5: the call's rule adds 1 to a counter that is 2^64 - 1"
         .with(5, fills_a_counter(state, call, lists))
 }
@@ -99,7 +114,7 @@ pub fn run_rows(state: &[u8], calls: &[u8], answers: usize) -> Rows {
     let whole = state.len() == words::STATE_BYTES;
     let count = calls.len() / words::CALL_BYTES;
     Rows::default()
-        // "1: the state's 400 bytes encode no state"
+        // "1: the state's 408 bytes encode no state"
         .with(1, whole && !encodes(&words::words(state)))
         // "2: the state has another length, or the calls are no whole number of 392 bytes"
         .with(2, !whole || calls.len() % words::CALL_BYTES != 0)
@@ -192,6 +207,7 @@ pub fn encodes(state: &State) -> bool {
         s::CWND_LIMITED,
         s::FULL_BANDWIDTH_REACHED,
         s::IGNORE_APP_LIMITED,
+        s::ANYTHING_SENT,
     ];
     let optionals = [
         s::END_OF_ROUND_TRIP,
@@ -388,6 +404,22 @@ fn totals_fall(state: &State, call: &Call) -> bool {
     call[c::TOTAL_ACKED] < state[s::TOTAL_ACKED] || call[c::TOTAL_LOST] < state[s::TOTAL_LOST]
 }
 
+/// The last sent number, if anything was sent. It is the last, also where numbers went down; a note of
+/// no counts whatever the number is.
+pub fn last_sent(state: &State) -> Option<u64> {
+    yes(state[s::ANYTHING_SENT]).then_some(state[s::LAST_SENT_PACKET])
+}
+
+/// Document 02: "An event whose acked list holds a number above the last sent one, or any number before
+/// the first send, is to be turned away as a whole." An empty list holds none, nor does one that is not
+/// inside the lists.
+pub fn acks_unsent(state: &State, call: &Call, lists: &[u64]) -> bool {
+    let sent = last_sent(state);
+    let unsent = |&number: &u64| sent.map_or(true, |sent| number > sent);
+    call[c::NUMBER] == calls::ON_CONGESTION_EVENT_START
+        && acked(call, lists).map_or(false, |acked| acked.iter().any(unsent))
+}
+
 /// Row 5, given only where this very call would add 1 (decision 23).
 fn fills_a_counter(state: &State, call: &Call, lists: &[u64]) -> bool {
     let full = |index: usize| state[index] == u64::MAX;
@@ -453,6 +485,7 @@ pub fn counts_a_queue(state: &State, call: &Call) -> bool {
 
 #[cfg(test)]
 mod tests {
+    use guovssalu_sys::table::reply;
     use guovssalu_sys::table::CALL_WORDS;
     use guovssalu_sys::table::STATE_WORDS;
 
@@ -467,7 +500,31 @@ mod tests {
             assert_eq!(takes_params(number), calls::TAKE_PARAMS.contains(&number));
         }
         let sizes = [words::STATE_BYTES, words::CALL_BYTES, words::ANSWER_BYTES];
-        assert_eq!(sizes, [400, 392, 144]);
+        assert_eq!(sizes, [408, 392, 144]);
+        assert_eq!(NEVER_SENT, reply::NEVER_SENT);
+    }
+
+    /// Rows that hold, and the number that is due: by hand.
+    #[test]
+    fn ten_is_asked_after_four_and_before_five() {
+        for (rows, due) in [
+            (&[][..], 0),
+            (&[10], 10),
+            (&[1, 10], 1),
+            (&[2, 10], 2),
+            (&[3, 10], 3),
+            (&[4, 10], 4),
+            (&[5, 10], 10),
+            (&[7, 10], 10),
+            (&[5, 7], 5),
+            (&[4, 5, 10], 4),
+            (&[1, 2, 3, 4, 5, 10], 1),
+        ] {
+            let with = |held: Rows, &row: &u64| held.with(row, true);
+            let held = rows.iter().fold(Rows::default(), with);
+            assert_eq!(held.due(), due, "{:?}", rows);
+            assert_eq!(held.overlap(), rows.len() > 1, "{:?}", rows);
+        }
     }
 
     /// The end of a round, if one is set, numbers acked, and whether they end it: worked by hand.
@@ -492,23 +549,81 @@ mod tests {
         (Some(u64::MAX - 1), &[0, u64::MAX, 0, 0], true),
     ];
 
+    /// An event with these numbers, and the lists that have them where they are too many for the call.
+    fn event(acked: &[u64]) -> (Call, Vec<u64>) {
+        let mut call = [0; CALL_WORDS];
+        call[c::NUMBER] = calls::ON_CONGESTION_EVENT_START;
+        call[c::ACKED_COUNT] = acked.len() as u64;
+        if acked.len() <= 3 {
+            call[c::ACKED..][..acked.len()].copy_from_slice(acked);
+            (call, Vec::new())
+        } else {
+            call[c::ACKED] = 2;
+            (call, [&[7, 7][..], acked, &[7]].concat())
+        }
+    }
+
     #[test]
     fn the_greatest_number_ends_a_round() {
         for (end, acked, due) in ROUNDS_BY_HAND {
             let mut state = [0; STATE_WORDS];
             state[s::END_OF_ROUND_TRIP] = end.is_some() as u64;
             state[s::END_OF_ROUND_TRIP + 1] = end.unwrap_or(0);
-            let mut call = [0; CALL_WORDS];
-            call[c::ACKED_COUNT] = acked.len() as u64;
-            let mut lists = Vec::new();
-            if acked.len() <= 3 {
-                call[c::ACKED..][..acked.len()].copy_from_slice(acked);
-            } else {
-                call[c::ACKED] = 2;
-                lists = [&[7, 7][..], acked, &[7]].concat();
-            }
+            let (call, lists) = event(acked);
             let ends = ends_a_round(&state, &call, &lists);
             assert_eq!(ends, due, "{:?} {:?}", end, acked);
+        }
+    }
+
+    /// The note, the last sent number, numbers acked, and whether one of them was never sent: worked by
+    /// hand.
+    const SENDS_BY_HAND: [(u64, u64, &[u64], bool); 22] = [
+        (0, 0, &[], false),
+        (0, 0, &[0], true),
+        (0, 5, &[], false),
+        (0, 5, &[0], true),
+        (0, 5, &[3, 4], true),
+        (0, u64::MAX, &[0, 0, 0, 0], true),
+        (1, 0, &[], false),
+        (1, 0, &[0], false),
+        (1, 0, &[1], true),
+        (1, 0, &[0, 0, 0, 0], false),
+        (1, 5, &[5], false),
+        (1, 5, &[6], true),
+        (1, 5, &[6, 5], true),
+        (1, 5, &[5, 6], true),
+        (1, 5, &[0, 6, 1], true),
+        (1, 5, &[5, 4, 3], false),
+        (1, 5, &[5, 4, 3, 2, 1], false),
+        (1, 5, &[1, 2, 6, 4, 3], true),
+        (1, 5, &[1 << 63], true),
+        (1, u64::MAX - 1, &[0, 0, 0, 0, u64::MAX], true),
+        (1, u64::MAX, &[u64::MAX], false),
+        (1, u64::MAX, &[u64::MAX, 0, u64::MAX, 1], false),
+    ];
+
+    #[test]
+    fn a_number_above_the_last_sent_was_never_sent() {
+        for (note, sent, acked, due) in SENDS_BY_HAND {
+            let mut state = [0; STATE_WORDS];
+            state[s::ANYTHING_SENT] = note;
+            state[s::LAST_SENT_PACKET] = sent;
+            let (mut call, lists) = event(acked);
+            let told = (note, sent, acked);
+            assert_eq!(acks_unsent(&state, &call, &lists), due, "{:?}", told);
+            call[c::NUMBER] = calls::ON_CONGESTION_EVENT_FINISH;
+            assert!(!acks_unsent(&state, &call, &lists), "{:?}", told);
+        }
+    }
+
+    /// A flag of 2 is malformed; any last sent number may stand beside a note of no.
+    #[test]
+    fn the_note_is_a_flag() {
+        for (note, sent, is_a_state) in [(0, 0, true), (0, 5, true), (1, 0, true), (2, 5, false)] {
+            let mut state = [0; STATE_WORDS];
+            state[s::ANYTHING_SENT] = note;
+            state[s::LAST_SENT_PACKET] = sent;
+            assert_eq!(encodes(&state), is_a_state, "{} {}", note, sent);
         }
     }
 

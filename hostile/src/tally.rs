@@ -1,13 +1,15 @@
-//! What was made and what was wrong, counted.
+//! What was made and what was wrong, counted; and what had to be made and was not.
 
 use std::sync::atomic::AtomicU64;
 use std::sync::atomic::Ordering;
 
 use guovssalu_sys::table::reason;
 
-use crate::rounds;
-use crate::rounds::Greatest;
+use crate::limits;
+use crate::limits::Greatest;
+use crate::limits::WAYS;
 use crate::table::Rows;
+use crate::table::ORDER;
 
 /// The calls made so far, for the one who watches.
 pub static MADE: AtomicU64 = AtomicU64::new(0);
@@ -50,14 +52,50 @@ const NAMES: [&str; 13] = [
 ];
 
 impl Export {
+    /// Those that have a reply.
+    pub const REPLYING: [Export; 6] = [
+        Export::Run,
+        Export::OneCall,
+        Export::RunLists,
+        Export::OneCallOfLists,
+        Export::FilterRun,
+        Export::Slope,
+    ];
+
     /// Whether it is a call within a run, which is counted with the run.
     fn is_within(self) -> bool {
         matches!(self, Export::OneCall | Export::OneCallOfLists)
+    }
+
+    /// The replies that have to be met.
+    pub fn replies(self) -> &'static [u64] {
+        match self {
+            Export::Run | Export::RunLists | Export::Slope => &[0, 1, 2, 7],
+            Export::OneCall | Export::OneCallOfLists => &[0, 1, 2, 3, 4, 10, 5],
+            Export::FilterRun => &[0, 2, 3, 7],
+            _ => &[],
+        }
     }
 }
 
 /// Where an event's numbers are: in the call, or in a list. Their names.
 const PLACES: [&str; 2] = ["in the call", "in a list"];
+
+/// The rows of a call that can hold beside row 10, and those of a run that is refused with such a call.
+const BESIDE: [u64; 5] = [1, 2, 3, 4, 5];
+const OF_RUN: [u64; 3] = [1, 2, 7];
+
+/// How many replies are counted apart: done, each row, and any other.
+const REPLIES: usize = ORDER.len() + 2;
+
+/// The place of a reply among them.
+fn place(reply: u64) -> usize {
+    match ORDER.iter().position(|&row| row == reply) {
+        Some(row) => row + 1,
+        None if reply == 0 => 0,
+        None => REPLIES - 1,
+    }
+}
 
 /// What can be wrong.
 #[derive(Clone, Copy, PartialEq, Debug)]
@@ -74,9 +112,12 @@ pub enum Fault {
 #[derive(Default)]
 pub struct Tally {
     calls: [u64; 13],
-    replies: [[u64; 9]; 13],
+    replies: [[u64; REPLIES]; 13],
     reasons: [u64; 8],
-    rounds: [[u64; 7]; 2],
+    rounds: [[u64; WAYS]; 2],
+    sends: [[u64; WAYS]; 2],
+    beside: [[u64; BESIDE.len()]; 2],
+    of_run: [u64; OF_RUN.len()],
     outside: u64,
     overlaps: u64,
     malformed: u64,
@@ -99,10 +140,10 @@ impl Tally {
     /// Counts a call and its reply, and compares that with the row due.
     pub fn replied(&mut self, export: Export, rows: &Rows, given: u64, about: impl Fn() -> String) {
         self.answered(export);
-        self.replies[export as usize][given.min(8) as usize] += 1;
+        self.replies[export as usize][place(given)] += 1;
         self.overlaps += rows.overlap() as u64;
         if given != rows.due() {
-            let rows = rows.numbers();
+            let rows: Vec<u64> = rows.numbers().collect();
             self.wrong(Fault::Reply, || {
                 format!("rows {:?}, given {}\n{}", rows, given, about())
             });
@@ -114,9 +155,28 @@ impl Tally {
         self.reasons[reason as usize] += 1;
     }
 
-    /// Counts an event that was done, by where its numbers are and how the greatest stands.
+    /// Counts an event that was done, by where its numbers are and how the greatest stands to the end.
     pub fn rounded(&mut self, in_a_list: bool, greatest: Greatest) {
         self.rounds[in_a_list as usize][greatest as usize] += 1;
+    }
+
+    /// Counts an event that was done or refused with 10, by how the greatest stands to the last sent.
+    pub fn sent(&mut self, in_a_list: bool, greatest: Greatest) {
+        self.sends[in_a_list as usize][greatest as usize] += 1;
+    }
+
+    /// Counts an event with a number that was never sent, by the other rows that hold.
+    pub fn never_sent(&mut self, in_a_list: bool, rows: &Rows) {
+        for (count, row) in self.beside[in_a_list as usize].iter_mut().zip(BESIDE) {
+            *count += rows.holds(row) as u64;
+        }
+    }
+
+    /// Counts a refused run that has such an event, by the rows of the run that hold.
+    pub fn never_asked(&mut self, rows: &Rows) {
+        for (count, row) in self.of_run.iter_mut().zip(OF_RUN) {
+            *count += rows.holds(row) as u64;
+        }
     }
 
     /// Counts an event whose place is outside the lists.
@@ -163,21 +223,14 @@ impl Tally {
     }
 
     /// How often this reply was given.
-    #[cfg(test)]
-    pub fn given(&self, export: Export, reply: usize) -> u64 {
-        self.replies[export as usize][reply]
+    pub fn given(&self, export: Export, reply: u64) -> u64 {
+        self.replies[export as usize][place(reply)]
     }
 
     /// How often this reason was due.
     #[cfg(test)]
     pub fn due(&self, reason: u64) -> u64 {
         self.reasons[reason as usize]
-    }
-
-    /// How many events with numbers at this place were done, with the greatest standing so.
-    #[cfg(test)]
-    pub fn stood(&self, in_a_list: bool, greatest: Greatest) -> u64 {
-        self.rounds[in_a_list as usize][greatest as usize]
     }
 
     /// How many events had a place outside the lists.
@@ -189,19 +242,23 @@ impl Tally {
     /// The report; its last line has the verdict.
     pub fn report(&self) -> String {
         let [reply, content, touched] = self.faults;
-        let told: String = self
-            .told
-            .iter()
-            .map(|told| format!("\n{}\n", told))
-            .collect();
+        let reasons = Counted::new("filter reasons due", reason::NAMES, &self.reasons);
+        let lines = [reasons].into_iter().chain(self.counted());
+        let lines = lines.map(|counted| counted.line());
+        let told = self.told.iter().map(|told| format!("\n{}\n", told));
+        let fewer = self.fewer_than(1);
+        let missing = fewer.iter().map(|name| format!("not reached: {}\n", name));
+        let verdict = match fewer.len() {
+            0 => String::new(),
+            count => format!(", {} not reached", count),
+        };
         format!(
-            "{}\nfilter reasons due: {}\n{}{} events with a place outside the lists\n{} calls with two or more refusals at once\n{} calls with a \
-             malformed word, {} with a number of no call\n{} lent ranges, {} guard bytes \
-             compared\n{} wrong replies, {} wrong answers or states, {} bytes touched\n{}{} calls, \
-             {} wrong\n",
+            "{}\n{}{} events with a place outside the lists\n{} calls with two or more refusals at \
+             once\n{} calls with a malformed word, {} with a number of no call\n{} lent ranges, {} \
+             guard bytes compared\n{} wrong replies, {} wrong answers or states, {} bytes \
+             touched\n{}{}{} calls, {} wrong{}\n",
             self.table(),
-            self.named_reasons(),
-            self.named_rounds(),
+            lines.collect::<String>(),
             self.outside,
             self.overlaps,
             self.malformed,
@@ -211,24 +268,50 @@ impl Tally {
             reply,
             content,
             touched,
-            told,
+            told.collect::<String>(),
+            missing.collect::<String>(),
             self.made(),
-            self.wrongs()
+            self.wrongs(),
+            verdict
         )
     }
 
-    /// How often each reason was due, by name.
-    fn named_reasons(&self) -> String {
-        named(&reason::NAMES, &self.reasons)
+    /// What has to be met, also where nothing is left to chance, and was met fewer times than this.
+    pub fn fewer_than(&self, times: u64) -> Vec<String> {
+        let named = self.counted().into_iter().flat_map(Counted::named);
+        let replies = Export::REPLYING.into_iter().flat_map(|export| {
+            let name = NAMES[export as usize].trim();
+            let given = move |&reply: &u64| (reply, self.given(export, reply));
+            let given = export.replies().iter().map(given);
+            given.map(move |(reply, count)| (format!("{}, {}", name, reply), count))
+        });
+        let fewer = named.chain(replies).filter(|&(_, count)| count < times);
+        fewer.map(|(name, _)| name).collect()
     }
 
-    /// How often the greatest number of an event stood in each way, a line for each place.
-    fn named_rounds(&self) -> String {
-        let line = |(place, counts): (&&str, &[u64; 7])| {
-            let counts = named(&rounds::NAMES, counts);
-            format!("events done, numbers {}: {}\n", place, counts)
-        };
-        PLACES.iter().zip(&self.rounds).map(line).collect()
+    /// What is counted of events by their numbers.
+    fn counted(&self) -> Vec<Counted> {
+        let rounds = by_place("events done", limits::BY_END, &self.rounds);
+        let sends = by_place(
+            "events done or refused with 10",
+            limits::BY_SENT,
+            &self.sends,
+        );
+        let beside = PLACES.iter().zip(&self.beside).map(|(place, counts)| {
+            let title = format!("events with a number never sent, numbers {}", place);
+            Counted::new(
+                &title,
+                BESIDE.map(|row| format!("beside row {}", row)),
+                counts,
+            )
+        });
+        let title = "runs refused that have such an event";
+        let of_run = Counted::new(
+            title,
+            OF_RUN.map(|row| format!("with {}", row)),
+            &self.of_run,
+        );
+        rounds.chain(sends).chain(beside).chain([of_run]).collect()
     }
 
     /// The calls and replies, a line for each exported call.
@@ -240,11 +323,13 @@ impl Tally {
                 .collect();
             format!("{:36}{}\n", name, columns)
         };
-        let head = "calls 0 1 2 3 4 5 6 7 other".split(' ');
-        let mut table = row("replies", head.map(String::from).collect());
+        let mut head = vec!["calls".to_string(), "0".to_string()];
+        head.extend(ORDER.iter().map(u64::to_string));
+        head.push("other".to_string());
+        let mut table = row("replies", head);
         for (index, name) in NAMES.iter().enumerate() {
             let mut columns = vec![self.calls[index].to_string()];
-            if index <= Export::Slope as usize {
+            if index < Export::REPLYING.len() {
                 columns.extend(self.replies[index].iter().map(u64::to_string));
             }
             table += &row(name, columns);
@@ -253,11 +338,55 @@ impl Tally {
     }
 }
 
-/// Counts, each with its name.
-fn named(names: &[&str], counts: &[u64]) -> String {
-    let counts = names.iter().zip(counts);
-    let named: Vec<String> = counts
-        .map(|(name, count)| format!("{} {}", count, name))
-        .collect();
-    named.join(", ")
+/// Counts, each with its name, none of which may be 0.
+struct Counted {
+    title: String,
+    counts: Vec<(String, u64)>,
+}
+
+impl Counted {
+    /// Counts with as many names.
+    fn new<'a>(
+        title: &str,
+        names: impl IntoIterator<Item = impl ToString>,
+        counts: impl IntoIterator<Item = &'a u64>,
+    ) -> Self {
+        let names = names.into_iter().map(|name| name.to_string());
+        Counted {
+            title: title.to_string(),
+            counts: names.zip(counts.into_iter().copied()).collect(),
+        }
+    }
+
+    /// All of them in a line.
+    fn line(&self) -> String {
+        let counts = self.counts.iter();
+        let named: Vec<String> = counts
+            .map(|(name, count)| format!("{} {}", count, name))
+            .collect();
+        format!("{}: {}\n", self.title, named.join(", "))
+    }
+
+    /// Each with all of its name.
+    fn named(self) -> impl Iterator<Item = (String, u64)> {
+        let title = self.title;
+        let counts = self.counts.into_iter();
+        counts.map(move |(name, count)| (format!("{}, {}", title, name), count))
+    }
+}
+
+/// How often the greatest number of an event stood in each way, apart for each place. A list is not
+/// empty.
+fn by_place(
+    title: &str,
+    names: [&'static str; WAYS],
+    counts: &[[u64; WAYS]; 2],
+) -> impl Iterator<Item = Counted> {
+    let [in_the_call, in_a_list] = PLACES.map(|place| format!("{}, numbers {}", title, place));
+    let some = Greatest::NoLimit as usize;
+    [
+        Counted::new(&in_the_call, names, &counts[0]),
+        Counted::new(&in_a_list, &names[some..], &counts[1][some..]),
+    ]
+    .into_iter()
 }

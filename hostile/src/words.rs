@@ -49,6 +49,7 @@ pub mod state {
     pub const TOTAL_ACKED: usize = state::TOTAL_BYTES_ACKED;
     pub const TOTAL_LOST: usize = state::TOTAL_BYTES_LOST;
     pub const LAST_MOMENT: usize = state::LAST_ACCEPTED_MOMENT;
+    pub const ANYTHING_SENT: usize = state::ANYTHING_SENT;
     pub const PHASE: usize = state::PHASE;
     pub const CYCLE_START: usize = state::START_TIME;
     pub const PHASE_START: usize = state::PHASE_START_TIME;

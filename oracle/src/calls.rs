@@ -175,7 +175,7 @@ impl Calls {
         self.left = match self.manner {
             Anything => 20 + random.below(25),
             Rounds => 30 + random.below(40),
-            Reductions => 10 + random.below(24),
+            Reductions => 12 + random.below(28),
         };
         self.window = match self.manner {
             Rounds => 1300 * (2 + random.below(60)),
@@ -253,20 +253,27 @@ impl Calls {
         let random = &mut self.random;
         let mut plan = Vec::new();
         match self.manner {
-            Anything => match random.below(20) {
-                0 | 1 => plan.extend([SET_RECORD, EVENT, FINISH]),
-                2 => plan.extend([SET_RECORD, EVENT]),
-                3 => plan.extend([EVENT, FINISH]),
-                4 => plan.extend([EVENT]),
-                5 => plan.extend([SET_RECORD, call::MAYBE_EXPIRE_MIN_RTT]),
-                6 => plan.extend([SET_RECORD, call::IS_INFLIGHT_TOO_HIGH]),
-                7 => plan.extend([SET_RECORD, call::HAS_BANDWIDTH_GROWTH]),
-                8 | 9 => plan.push(call::ON_PACKET_SENT),
-                10 | 11 => plan.push(random.pick(&ENTRIES)),
-                12 => plan.push(random.pick(&Getter::ALL) as u64),
-                13 => plan.push(random.pick(&QUESTIONS)),
-                _ => plan.push(random.pick(&CHANGES)),
-            },
+            Anything => {
+                let turn = random.below(20);
+                // Only what was sent since a round began ends it.
+                if turn < 5 && random.one_in(2) {
+                    plan.push(call::ON_PACKET_SENT);
+                }
+                match turn {
+                    0 | 1 => plan.extend([SET_RECORD, EVENT, FINISH]),
+                    2 => plan.extend([SET_RECORD, EVENT]),
+                    3 => plan.extend([EVENT, FINISH]),
+                    4 => plan.extend([EVENT]),
+                    5 => plan.extend([SET_RECORD, call::MAYBE_EXPIRE_MIN_RTT]),
+                    6 => plan.extend([SET_RECORD, call::IS_INFLIGHT_TOO_HIGH]),
+                    7 => plan.extend([SET_RECORD, call::HAS_BANDWIDTH_GROWTH]),
+                    8 | 9 => plan.push(call::ON_PACKET_SENT),
+                    10 | 11 => plan.push(random.pick(&ENTRIES)),
+                    12 => plan.push(random.pick(&Getter::ALL) as u64),
+                    13 => plan.push(random.pick(&QUESTIONS)),
+                    _ => plan.push(random.pick(&CHANGES)),
+                }
+            }
             Rounds => {
                 plan.resize(random.below(3) as usize, call::ON_PACKET_SENT);
                 plan.extend([SET_RECORD, EVENT]);
@@ -314,7 +321,7 @@ impl Calls {
                 }
             }
             Reductions => {
-                if random.one_in(3) {
+                if !random.one_in(8) {
                     plan.push(call::ON_PACKET_SENT);
                 }
                 plan.extend([SET_RECORD, EVENT]);
@@ -436,20 +443,24 @@ impl Calls {
         // which a queue begins.
         let hi = state[INFLIGHT_HI];
         let queue = bdp(state) + 2600;
-        let in_flight = match random.below(8) {
+        let in_flight = match random.below(10) {
             0 | 1 if hi != UNSET => near(random, hi.saturating_sub(bytes)),
-            2 => near(random, queue),
-            3 if state[MIN_IN_FLIGHT] != UNSET => near(random, state[MIN_IN_FLIGHT]),
-            4 if any => random.pick(&TURNS),
-            5 if any => random.of_length(40),
+            2..=4 => near(random, queue),
+            5 if state[MIN_IN_FLIGHT] != UNSET => near(random, state[MIN_IN_FLIGHT]),
+            6 if any => random.pick(&TURNS),
+            7 if any => random.of_length(40),
             _ => random.below(self.window + 1),
         };
 
         let last = state[LAST_SENT];
-        let number = match random.below(16) {
+        let first = state[ANYTHING_SENT] == 0;
+        let number = match random.below(32) {
             0 if any => random.pick(&[0, u64::MAX, last]),
             1 if any => random.of_length(64),
-            2 => last.saturating_add(1 + random.below(4)),
+            // Numbers may go down.
+            2 | 3 if any || random.one_in(4) => last.saturating_sub(1 + random.below(4)),
+            4..=7 => last.saturating_add(1 + random.below(4)),
+            _ if first && random.one_in(2) => 0,
             _ => last.saturating_add(1),
         };
         Call::Sent {
@@ -579,6 +590,7 @@ impl Calls {
         let send_state = self.send_state(state, total_acked, if reductions { 2 } else { 3 });
 
         let acked_length = match self.random.below(6) {
+            _ if state[ANYTHING_SENT] == 0 => 0,
             0 if !reductions => 0,
             1 | 2 => 2,
             3 | 4 => MOST_ACKED,
@@ -608,17 +620,19 @@ impl Calls {
         }
     }
 
-    /// Makes acked numbers, in any order: the greatest may stand anywhere.
+    /// Makes acked numbers that were sent, in any order: the greatest may stand
+    /// anywhere.
     fn acked(&mut self, acked: &mut [u64], state: &State) {
         let random = &mut self.random;
-        let (end, past) = (state[END], state[END].saturating_add(1));
+        let sent = state[LAST_SENT];
+        let (end, past) = around_end(state);
         for number in &mut *acked {
             *number = match random.below(6) {
                 0 => end,
                 1 | 2 => past,
                 3 => end.saturating_sub(1),
-                4 if self.manner == Anything => random.of_length(64),
-                _ => state[LAST_SENT],
+                4 if self.manner == Anything => random.of_length(64).min(sent),
+                _ => sent,
             };
         }
         if acked.is_empty() {
@@ -648,7 +662,7 @@ impl Calls {
     fn send_state(&mut self, state: &State, total: u64, valid: u64) -> SendState {
         let random = &mut self.random;
         let valid = !random.one_in(valid);
-        if !valid && !random.one_in(4) {
+        if !valid && random.one_in(2) {
             return SendState::default();
         }
         // An inflight of which the bytes lost in the round, or one byte fewer,
@@ -756,6 +770,31 @@ impl Calls {
     fn gain(&mut self) -> f32 {
         gain(&mut self.random)
     }
+}
+
+/// The end of the state's round and the number past it, as far as such were sent.
+pub fn around_end(state: &State) -> (u64, u64) {
+    let (end, sent) = (state[END], state[LAST_SENT]);
+    (end.min(sent), end.saturating_add(1).min(sent))
+}
+
+/// A number that was never sent, if there is one: above the last sent one, or any
+/// before the first send.
+pub fn never_sent(random: &mut Random, state: &State) -> Option<u64> {
+    let sent = state[LAST_SENT];
+    if state[ANYTHING_SENT] == 0 {
+        let any = random.of_length(64);
+        return Some(random.pick(&[0, 0, 1, sent, state[END], any, any.min(sent), u64::MAX]));
+    }
+    let above = sent.checked_add(1)?;
+    let number = match random.below(8) {
+        0..=2 => above,
+        3 => above.saturating_add(random.below(4)),
+        4 => state[END].saturating_add(1),
+        5 => u64::MAX,
+        _ => random.of_length(64),
+    };
+    Some(number.max(above))
 }
 
 /// The number, one more or one less.

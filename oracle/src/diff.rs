@@ -11,6 +11,7 @@ use guovssalu_sys::table::REPLY_IN_ANSWER;
 use crate::frame;
 use crate::frame::Frame;
 use crate::port::Port;
+use crate::replies::Given;
 use crate::text;
 use crate::world::Step;
 use crate::world::World;
@@ -65,8 +66,7 @@ struct Comparison<'a> {
     /// taken with it.
     frame: Frame,
     taken: Vec<usize>,
-    /// How many calls were given each reply.
-    replies: [u64; 8],
+    given: Given,
 }
 
 impl<'a> Comparison<'a> {
@@ -78,14 +78,14 @@ impl<'a> Comparison<'a> {
             steps: Vec::new(),
             frame: Frame::default(),
             taken: Vec::new(),
-            replies: [0; 8],
+            given: Given::default(),
         }
     }
 
     /// How many calls were made, without those that only put numbers into the
     /// state or fill up a frame.
     fn calls(&self) -> u64 {
-        self.replies.iter().sum()
+        self.given.calls()
     }
 
     /// Takes a step, and asks the port when the frame is full.
@@ -94,7 +94,9 @@ impl<'a> Comparison<'a> {
         let puts = matches!(step, Step::Put(_));
         self.steps.push(step);
         for asked in asked {
-            self.replies[asked.answer[REPLY_IN_ANSWER] as usize] += !puts as u64;
+            if !puts {
+                self.given.add(asked.answer[REPLY_IN_ANSWER]);
+            }
             self.frame.add(&asked);
             self.taken.push(self.steps.len());
             if self.frame.is_full() {
@@ -195,16 +197,17 @@ fn compare(comparison: &mut Comparison, steps: Vec<Step>) -> Option<Difference> 
 
 fn conclude(comparison: Comparison, difference: Option<Difference>) -> bool {
     let calls = comparison.calls();
-    let [accepted, refused @ ..] = comparison.replies;
-    eprintln!("{accepted} accepted; refused with 1 to 7: {refused:?}");
-    let tally = &comparison.world.tally;
+    eprintln!("{}", comparison.given.told());
+    let World { tally, unsent, .. } = &comparison.world;
     if !tally.is_empty() {
         for (what, count) in tally.told() {
             eprintln!("{count} x {what}");
         }
     }
+    unsent.tell("");
     let Some(difference) = difference else {
         tally.hold();
+        unsent.hold();
         println!("{calls} calls, 0 differences");
         return true;
     };

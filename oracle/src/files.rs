@@ -115,7 +115,9 @@ impl Files {
         for (what, count) in self.world.tally.told() {
             eprintln!("frames: {count:4} x {what}");
         }
+        self.world.unsent.tell("frames: ");
         self.world.tally.hold();
+        self.world.unsent.hold();
         let (asked, answered) = (self.requests.len(), self.answers.len());
         eprintln!(
             "frames: {} calls, {asked} and {answered} bytes",

@@ -39,6 +39,8 @@ pub fn add(files: &mut Files) {
     records(&mut run);
     samples(&mut run);
     orders(&mut run);
+    never_sent(&mut run, usual);
+    never_sent_and_more(&mut run);
     stored(&mut run);
     full(&mut run);
     raised(&mut run);
@@ -370,11 +372,7 @@ fn records(run: &mut Run) {
     ];
     for (limit, set) in records {
         begin(run);
-        let event = Call::Event(Sample {
-            total_acked: run.state[TOTAL_ACKED],
-            total_lost: run.state[TOTAL_LOST],
-            ..NONE
-        });
+        let event = Call::Event(run.acking(&[]));
         for (reply, value) in [(2, limit + 1), (0, limit)] {
             let mut record = Record {
                 event_time: 1000,
@@ -414,11 +412,7 @@ fn samples(run: &mut Run) {
     for (limit, set) in samples {
         begin(run);
         run.record(Record::default());
-        let same = Sample {
-            total_acked: run.state[TOTAL_ACKED],
-            total_lost: run.state[TOTAL_LOST],
-            ..NONE
-        };
+        let same = run.acking(&[]);
         most(run, limit, 2, |value| {
             let mut sample = same;
             set(&mut sample, value);
@@ -467,6 +461,89 @@ fn orders(run: &mut Run) {
     for getter in Getter::ALL {
         run.get(getter);
     }
+}
+
+/// Numbers that were never sent: an event that acks one is refused.
+fn never_sent(run: &mut Run, usual: Start) {
+    // Before the first send any number, 0 too, also where the round's end is 0.
+    run.start(usual);
+    run.acked(&[]);
+    for acked in [&[0][..], &[1], &[u64::MAX], &[0, 0, 0]] {
+        run.unsent(acked);
+    }
+    run.call(Call::RestartRound);
+    run.unsent(&[0]);
+    // Packet 0 alone is sent, then 5 is the last.
+    run.sent(0, 0, 1300);
+    run.unsent(&[1]);
+    run.acked(&[0]);
+    run.sent(0, 5, 1300);
+    for acked in [&[6][..], &[u64::MAX], &[6, 5], &[5, 6], &[1, 6, 0]] {
+        run.unsent(acked);
+    }
+    run.acked(&[5, 0, 5]);
+    // The last sent one counts, also where the numbers went down.
+    run.sent(0, 3, 1300);
+    for acked in [&[5][..], &[4], &[3, 4]] {
+        run.unsent(acked);
+    }
+    run.acked(&[3, 2]);
+    run.sent(0, u64::MAX, 1300);
+    run.acked(&[u64::MAX, 6]);
+    // A start forgets what was sent, a refused one too.
+    run.start(usual);
+    run.unsent(&[0]);
+    run.sent(0, 9, 1300);
+    run.expect(
+        2,
+        Call::Start(Start {
+            moment: MOMENT + 1,
+            ..usual
+        }),
+    );
+    run.unsent(&[0]);
+}
+
+/// Packet 8, which was never sent, and what else is refused: rows 1 to 4 come
+/// before row 10, and row 5 after it.
+fn never_sent_and_more(run: &mut Run) {
+    begin(run);
+    run.record(Record::default());
+    let sample = run.acking(&[8]);
+    let unsent = Call::Event(sample);
+    run.expect_with(1, SLOT_1, BANDWIDTH + 1, unsent);
+    run.expect(
+        2,
+        Call::Event(Sample {
+            max_inflight: BYTES + 1,
+            ..sample
+        }),
+    );
+    run.call(Call::Record(Record {
+        event_time: 999,
+        ..Record::default()
+    }));
+    run.expect(3, unsent);
+    run.record(Record::default());
+    run.expect(
+        4,
+        Call::Event(Sample {
+            total_acked: sample.total_acked - 1,
+            ..sample
+        }),
+    );
+    run.expect(10, unsent);
+    run.expect_with(10, ROUND_TRIP_COUNT, u64::MAX, unsent);
+    let loses = Call::Event(Sample {
+        total_lost: sample.total_lost + 1,
+        ..sample
+    });
+    run.expect_with(10, LOSS_EVENTS_IN_ROUND, u64::MAX, loses);
+    // Where nothing was sent it doesn't count that 7 is stored as the last.
+    let last = Call::Event(run.acking(&[7]));
+    run.expect_with(10, ANYTHING_SENT, 0, last);
+    run.expect_with(0, ANYTHING_SENT, 0, Call::Event(run.acking(&[])));
+    run.expect(0, last);
 }
 
 /// Each stored number one past its limit: every call on it replies 1, whatever
@@ -640,25 +717,11 @@ fn stored(run: &mut Run) {
 fn full(run: &mut Run) {
     let full = u64::MAX;
     begin(run);
-    run.record(Record::default());
-    let same = Sample {
-        total_acked: run.state[TOTAL_ACKED],
-        total_lost: run.state[TOTAL_LOST],
-        ..NONE
-    };
     let end = run.state[END];
-    let acked = |acked| {
-        Call::Event(Sample {
-            acked_length: 3,
-            acked,
-            ..same
-        })
-    };
-    let ends = Call::Event(Sample {
-        acked_length: 1,
-        acked: [end + 1, 0, 0],
-        ..same
-    });
+    run.sent(1300, end + 1, 1300);
+    run.record(Record::default());
+    let ends = Call::Event(run.acking(&[end + 1]));
+    let same = run.acking(&[]);
     let loses = Call::Event(Sample {
         total_lost: same.total_lost + 1,
         ..same
@@ -666,9 +729,11 @@ fn full(run: &mut Run) {
     run.expect_with(5, ROUND_TRIP_COUNT, full, ends);
     // The greatest acked number counts, wherever it stands.
     for ending in [[end + 1, end, 0], [end, end + 1, 0], [0, end, end + 1]] {
-        run.expect_with(5, ROUND_TRIP_COUNT, full, acked(ending));
+        let ends = Call::Event(run.acking(&ending));
+        run.expect_with(5, ROUND_TRIP_COUNT, full, ends);
     }
-    run.expect_with(0, ROUND_TRIP_COUNT, full, acked([end, 0, end]));
+    let ends_none = Call::Event(run.acking(&[end, 0, end]));
+    run.expect_with(0, ROUND_TRIP_COUNT, full, ends_none);
     run.expect_with(5, LOSS_EVENTS_IN_ROUND, full, loses);
     run.expect_with(0, LOSS_EVENTS_IN_ROUND, full, ends);
     run.expect_with(0, ROUND_TRIP_COUNT, full, loses);

@@ -3,6 +3,7 @@
 
 use guovssalu_sys::table::MOST_ACKED;
 
+use crate::calls;
 use crate::model::field::*;
 use crate::model::Sample;
 use crate::model::State;
@@ -27,8 +28,10 @@ pub enum Acked {
 pub struct Lists {
     random: Random,
     pub lent: Vec<u64>,
-    /// Places to which no list was put yet: beginning and length.
+    /// Places to which no list was put yet, and those to which one was: beginning
+    /// and length.
     free: Vec<(usize, usize)>,
+    filled: Vec<(usize, usize)>,
 }
 
 impl Lists {
@@ -37,16 +40,18 @@ impl Lists {
             random: Random::new(stream),
             lent: Vec::new(),
             free: Vec::new(),
+            filled: Vec::new(),
         };
         lists.renew();
         lists
     }
 
     /// Lends other words: places for up to six lists, and between them words
-    /// most of which would end any round.
+    /// most of which would end any round, or were never sent.
     pub fn renew(&mut self) {
         let random = &mut self.random;
         self.free.clear();
+        self.filled.clear();
         let mut length = gap(random);
         for _ in 0..random.below(7) {
             let longest = long(random);
@@ -66,8 +71,8 @@ impl Lists {
     }
 
     /// The acked numbers of an event in this state: none to three in the call,
-    /// the sample's own at times; or a list, which is put into the lent words;
-    /// or a place that is outside of these.
+    /// the sample's own at times; or a list, which is put into the lent words, or
+    /// a part of one that was; or a place that is outside of these.
     pub fn choose(&mut self, sample: &Sample, state: &State) -> Acked {
         match self.random.below(16) {
             0..=2 => self.few(sample.acked().to_vec()),
@@ -81,14 +86,33 @@ impl Lists {
                 Some((start, length)) => {
                     let numbers = self.numbers(length, state);
                     self.lent[start..][..length].copy_from_slice(&numbers);
+                    self.filled.push((start, length));
                     Acked::Listed(numbers, self.said(start as u64, length as u64))
                 }
-                None => match self.inside() {
-                    Some(said) => Acked::Listed(self.at(&said).to_vec(), said),
-                    None => Acked::Outside(self.outside()),
-                },
+                None => self.as_it_stands(),
             },
         }
+    }
+
+    /// Numbers that are lent already.
+    fn as_it_stands(&mut self) -> Acked {
+        let anywhere = self.filled.is_empty() || self.random.one_in(8);
+        let said = match anywhere {
+            true => self.inside(),
+            false => Some(self.part()),
+        };
+        match said {
+            Some(said) => Acked::Listed(self.at(&said).to_vec(), said),
+            None => Acked::Outside(self.outside()),
+        }
+    }
+
+    /// A part of a list that was put into the lent words.
+    fn part(&mut self) -> Said {
+        let (start, length) = self.random.pick(&self.filled);
+        let left_out = self.random.below((length - MOST_ACKED) as u64);
+        let before = self.random.below(left_out + 1);
+        self.said(start as u64 + before, length as u64 - left_out)
     }
 
     /// Numbers that stand in the call. The rest of the three don't count.
@@ -169,31 +193,39 @@ impl Lists {
         self.random.pick(&[0, u64::MAX, any])
     }
 
-    /// So many acked numbers, at the end of the state's round.
+    /// So many acked numbers, at the end of the state's round. In one list of ten
+    /// there is one that was never sent, if there is such.
     fn numbers(&mut self, length: usize, state: &State) -> Vec<u64> {
+        let mut numbers = self.sent_numbers(length, state);
         let random = &mut self.random;
-        let (end, sent) = (state[END], state[LAST_SENT]);
-        let past = end.saturating_add(1);
-        let turns = [end, past, end.saturating_sub(1), sent, 0, u64::MAX];
+        if length > 0 && random.one_in(10) {
+            let unsent = calls::never_sent(random, state);
+            numbers[place(random, length)] = unsent.unwrap_or(u64::MAX);
+        }
+        numbers
+    }
+
+    /// Such numbers, none above the last sent one.
+    fn sent_numbers(&mut self, length: usize, state: &State) -> Vec<u64> {
+        let random = &mut self.random;
+        let sent = state[LAST_SENT];
+        let (end, past) = calls::around_end(state);
+        let turns = [end, past, end.saturating_sub(1), sent, 0];
         let upto = |random: &mut Random| match random.below(4) {
-            0 => end,
-            1 => end.saturating_sub(1),
-            2 => end.min(sent),
+            0 | 1 => end,
+            2 => end.saturating_sub(1),
             _ => end.min(random.of_length(64)),
         };
         let mut numbers = vec![0; length];
         if length == 0 {
             return numbers;
         }
-        let last = length - 1;
-        let anywhere = random.below(length as u64) as usize;
-        let places = [0, 1, 3, length / 2, anywhere, last.saturating_sub(3), last];
-        let place = random.pick(&places).min(last);
+        let place = place(random, length);
         match random.below(12) {
             // One past the end, or the end and none past it.
             0..=3 => {
                 numbers.fill_with(|| upto(random));
-                numbers[place] = random.pick(&[past, past, past, u64::MAX]);
+                numbers[place] = random.pick(&[past, past, past, sent]);
             }
             4 | 5 => {
                 numbers.fill_with(|| upto(random));
@@ -204,6 +236,7 @@ impl Lists {
             turn @ (7 | 8) => {
                 let top = random.pick(&turns);
                 let top = top.saturating_add(random.below(2) * random.below(length as u64));
+                let top = top.min(sent);
                 let descending = (0..length as u64).map(|below| top.saturating_sub(below));
                 numbers = descending.collect();
                 if turn == 8 {
@@ -211,10 +244,18 @@ impl Lists {
                 }
             }
             9 | 10 => numbers.fill_with(|| random.pick(&turns)),
-            _ => numbers.fill_with(|| random.of_length(64)),
+            _ => numbers.fill_with(|| random.of_length(64).min(sent)),
         }
         numbers
     }
+}
+
+/// A place in a list of this length: often one of the first or the last.
+fn place(random: &mut Random, length: usize) -> usize {
+    let last = length - 1;
+    let anywhere = random.below(length as u64) as usize;
+    let places = [0, 1, 3, length / 2, anywhere, last.saturating_sub(3), last];
+    random.pick(&places).min(last)
 }
 
 /// The words before, between and after lists.

@@ -3,10 +3,10 @@
 //! answer, word by word. The archive is asked each list as it came, the original
 //! sorted.
 
-use std::collections::BTreeMap;
 use std::time::Duration;
 use std::time::Instant;
 
+use guovssalu_sys::table::call;
 use guovssalu_sys::table::sample;
 use guovssalu_sys::table::ANSWER_WORDS;
 use guovssalu_sys::table::ARGUMENTS_IN_CALL;
@@ -31,9 +31,11 @@ use crate::model::Sample;
 use crate::model::State;
 use crate::model::SET_RECORD;
 use crate::replies;
+use crate::replies::Given;
 use crate::steps;
 use crate::text;
 use crate::values::Random;
+use crate::wanted::Wanted;
 use crate::world::Step;
 use crate::world::World;
 use crate::world::FILLER;
@@ -46,7 +48,7 @@ const TOGETHER: u64 = 60;
 
 /// What has to occur, each at least `LEAST` times in `MANY` calls: without it an
 /// error in the order of a list or in its bounds could stay unseen.
-const WANTED: [&str; 10] = [
+const WANTED: [&str; 14] = [
     "a round ends, and not by the last number",
     "a round ends, and not by the first number",
     "a round ends, and by none of the first three of a long list",
@@ -56,6 +58,10 @@ const WANTED: [&str; 10] = [
     "no round ends, and a word of the call that doesn't count is past the end",
     "no end is set, and no number is acked",
     "refused with 5 for a long list, and not for its last number",
+    "refused with 10 for a long list, and for none of its first three",
+    "refused with 10 for a long list, and for none of its last three",
+    "taken, and a word beside a long list was never sent",
+    "taken, and a word of the call that doesn't count was never sent",
     "refused with 2 or 1, and the list is outside",
 ];
 const LEAST: u64 = 3;
@@ -102,12 +108,10 @@ struct Comparison {
     lists: Lists,
     random: Random,
     together: Together,
-    /// How many calls were given each reply.
-    replies: [u64; 8],
-    /// How many lists there were of each of `LENGTHS`, and how often what is
-    /// wanted occurred.
+    given: Given,
+    /// How many lists there were of each of `LENGTHS`.
     lengths: [u64; LENGTHS.len()],
-    counts: BTreeMap<&'static str, u64>,
+    wanted: Wanted,
 }
 
 impl Comparison {
@@ -121,29 +125,36 @@ impl Comparison {
             lists: Lists::new(seeds.next()),
             random: Random::new(seeds.next()),
             together: Together::default(),
-            replies: [0; 8],
+            given: Given::default(),
             lengths: [0; LENGTHS.len()],
-            counts: WANTED.iter().map(|&what| (what, 0)).collect(),
+            wanted: Wanted::new(&WANTED),
         }
     }
 
     /// How many calls were made, each once.
     fn calls(&self) -> u64 {
-        self.replies.iter().sum()
+        self.given.calls()
     }
 
     /// One of the steps of `diff`, or an event, for which a record is set where
-    /// the current one is too early. Now and then the count of rounds is full.
+    /// the current one is too early, and mostly a packet sent where none past the
+    /// round's end was. Now and then the count of rounds is full, or it is forgotten
+    /// that something was sent.
     fn next(&mut self) -> Step {
         if self.random.one_in(400) {
-            return Step::Put(vec![(ROUND_TRIP_COUNT, u64::MAX)]);
+            let full = (ROUND_TRIP_COUNT, u64::MAX);
+            return Step::Put(vec![self.random.pick(&[full, full, (ANYTHING_SENT, 0)])]);
         }
         if self.random.one_in(2) {
             return self.steps.next(&self.world);
         }
         let state = steps::within(&self.world.state);
-        let early = state[EVENT_TIME] < state[LAST_MOMENT];
-        let number = if early { SET_RECORD } else { EVENT };
+        let over = state[LAST_SENT] <= state[END];
+        let number = match state[EVENT_TIME] < state[LAST_MOMENT] {
+            _ if over && !self.random.one_in(3) => call::ON_PACKET_SENT,
+            true => SET_RECORD,
+            false => EVENT,
+        };
         Step::Call(self.events.make(number, &state))
     }
 
@@ -261,7 +272,7 @@ impl Comparison {
         if !names_list(words) || [1, 2].contains(&reply) {
             self.ask("guovssalu_run", before, words, None, answer)?;
         }
-        self.replies[reply as usize] += 1;
+        self.given.add(reply);
 
         let together = &mut self.together;
         if together.before.is_none() {
@@ -327,7 +338,7 @@ impl Comparison {
 
     /// Marks what is wanted, if it holds.
     fn mark(&mut self, wanted: &'static str, holds: bool) {
-        *self.counts.get_mut(wanted).expect(wanted) += holds as u64;
+        self.wanted.mark(wanted, holds);
     }
 
     /// Counts an event with these acked numbers, and marks what it shows.
@@ -345,6 +356,17 @@ impl Comparison {
             "refused with 5 for a long list, and not for its last number",
             full && long && acked.iter().any(past) && last.is_some_and(upto),
         );
+        let few = acked.len().min(MOST_ACKED);
+        let (firsts, lasts) = (&acked[..few], &acked[acked.len() - few..]);
+        let sent = |numbers: &[u64]| !replies::never_sent(numbers, before);
+        self.mark(
+            "refused with 10 for a long list, and for none of its first three",
+            reply == 10 && long && sent(firsts),
+        );
+        self.mark(
+            "refused with 10 for a long list, and for none of its last three",
+            reply == 10 && long && sent(lasts),
+        );
         if reply != 0 {
             return;
         }
@@ -357,14 +379,13 @@ impl Comparison {
             "a round ends, and not by the first number",
             ended && first.is_some_and(upto),
         );
-        let few = acked.len().min(MOST_ACKED);
         self.mark(
             "a round ends, and by none of the first three of a long list",
-            ended && long && acked[..few].iter().all(upto),
+            ended && long && firsts.iter().all(upto),
         );
         self.mark(
             "a round ends, and by none of the last three of a long list",
-            ended && long && acked[acked.len() - few..].iter().all(upto),
+            ended && long && lasts.iter().all(upto),
         );
         self.mark(
             "no round ends, and a number is the end",
@@ -373,15 +394,23 @@ impl Comparison {
         let lent = |at: Option<usize>| at.and_then(|at| self.lists.lent.get(at));
         let start = said[1] as usize;
         let beside = [start.checked_sub(1), start.checked_add(acked.len())];
-        let beside = beside.map(|at| lent(at).is_some_and(past));
+        let beside: Vec<u64> = beside.into_iter().filter_map(lent).copied().collect();
         self.mark(
             "no round ends, and a word beside a long list is past the end",
-            !ended && long && beside.contains(&true),
+            !ended && long && beside.iter().any(past),
+        );
+        self.mark(
+            "taken, and a word beside a long list was never sent",
+            long && !sent(&beside),
         );
         let others = said.get(1 + acked.len()..).unwrap_or(&[]);
         self.mark(
             "no round ends, and a word of the call that doesn't count is past the end",
             !ended && others.iter().any(past),
+        );
+        self.mark(
+            "taken, and a word of the call that doesn't count was never sent",
+            !sent(others),
         );
         self.mark(
             "no end is set, and no number is acked",
@@ -406,23 +435,21 @@ pub fn run(seed: u64, calls: u64) -> bool {
     };
     let compared = compare();
     let calls = comparison.calls();
-    let [accepted, refused @ ..] = comparison.replies;
-    eprintln!("{accepted} accepted; refused with 1 to 7: {refused:?}");
+    eprintln!("{}", comparison.given.told());
     for ((_, length), count) in LENGTHS.iter().zip(comparison.lengths) {
         eprintln!("{count} x {length}");
     }
-    for (what, count) in &comparison.counts {
-        eprintln!("{count} x {what}");
-    }
+    comparison.wanted.tell("");
+    comparison.world.unsent.tell("");
     if let Err(difference) = compared {
         tell(&difference);
         println!("{calls} calls, a difference");
         return false;
     }
-    let least = if calls < MANY { 0 } else { LEAST };
-    for (what, &count) in &comparison.counts {
-        assert!(count >= least, "{what}: {count} times, fewer than {least}");
+    if calls >= MANY {
+        comparison.wanted.demand(LEAST);
     }
+    comparison.world.unsent.hold();
     println!("{calls} calls, 0 differences");
     true
 }

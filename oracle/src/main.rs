@@ -30,7 +30,9 @@ mod sequences;
 mod serve;
 mod steps;
 mod text;
+mod unsent;
 mod values;
+mod wanted;
 mod windowed;
 mod world;
 
@@ -76,12 +78,13 @@ Name one folder, into which the lists are written, or one of these:
   serve                    is the original as a port";
 
 /// The seed of the kept frames' chosen calls, how many there are of each kind,
-/// and how often at least each reason, and each pair of steps that both act,
-/// occurs.
+/// and how often at least each reason, each pair of steps that both act, and
+/// each case of numbers that were sent or never sent occurs.
 const KEPT_SEED: u64 = 1;
 const KEPT_CALLS: u64 = 100;
 const KEPT_REASONS: u64 = 20;
 const KEPT_PAIRS: u64 = 1;
+const KEPT_UNSENT: u64 = 1;
 
 fn main() {
     let arguments: Vec<String> = env::args().skip(1).collect();
@@ -173,13 +176,14 @@ fn kept() -> Files {
     let mut steps = Steps::new(KEPT_SEED);
     files.take(KEPT_CALLS, |world| steps.next(world));
     files.choose_others(KEPT_SEED, NumberSteps::at_random(KEPT_SEED), KEPT_CALLS);
-    for reply in [0, 1, 2, 3, 4, 5, 7] {
+    for reply in [0, 1, 2, 3, 4, 5, 7, 10] {
         assert!(files.replies.contains_key(&reply), "no reply {reply}");
     }
     for call in text::asked() {
         assert!(files.calls.contains_key(&call), "no call {call}");
     }
     files.world.tally.demand(KEPT_REASONS, KEPT_PAIRS);
+    files.world.unsent.demand(KEPT_UNSENT);
     files
 }
 

@@ -14,6 +14,7 @@ use crate::model::Sample;
 use crate::model::Start;
 use crate::model::State;
 use crate::replies::MOMENT;
+use crate::wanted::Wanted;
 
 /// What has to occur, each at least `LEAST` times. Cases with the same number
 /// are of one point at which document 01 is silent or easily misread.
@@ -107,10 +108,10 @@ const WANTED: [&str; 87] = [
     "advance of an empty slot leaves the maximum",
 ];
 
-const LEAST: u32 = 2;
+const LEAST: u64 = 2;
 
 pub struct Marks {
-    counts: BTreeMap<&'static str, u32>,
+    wanted: Wanted,
     calls: BTreeMap<u64, u32>,
     reductions: u32,
     rounds: u32,
@@ -126,7 +127,7 @@ pub struct Marks {
 impl Marks {
     pub fn new(start: Start) -> Self {
         Marks {
-            counts: WANTED.iter().map(|&mark| (mark, 0)).collect(),
+            wanted: Wanted::new(&WANTED),
             calls: BTreeMap::new(),
             reductions: 0,
             rounds: 0,
@@ -139,8 +140,7 @@ impl Marks {
 
     /// Marks `mark` if it holds.
     fn mark(&mut self, mark: &'static str, holds: bool) {
-        let count = self.counts.get_mut(mark).expect(mark);
-        *count += holds as u32;
+        self.wanted.mark(mark, holds);
     }
 
     pub fn look(&mut self, call: &Call, answer: u64, before: &State, after: &State) {
@@ -566,7 +566,10 @@ impl Marks {
     fn restart(&mut self, before: &State, after: &State) {
         self.mark(
             "fact 14: restart before any send, end 0",
-            before[END_SET] == 0 && after[END_SET] == 1 && after[END] == 0,
+            before[ANYTHING_SENT] == 0
+                && before[END_SET] == 0
+                && after[END_SET] == 1
+                && after[END] == 0,
         );
         self.mark(
             "fact 14: restart moves the end",
@@ -694,16 +697,14 @@ impl Marks {
         }
     }
 
-    /// Prints the counts; whether all that has to occur does.
-    pub fn tell(&self) -> bool {
+    /// Prints the counts, and stops if something that has to occur is too rare.
+    pub fn demand(&self) {
         for (call, count) in &self.calls {
             eprintln!("sequences: {count:4} x call {call}");
         }
         eprintln!("sequences: {:4} x a round ended", self.rounds);
         eprintln!("sequences: {:4} x a reduction", self.reductions);
-        for (mark, count) in &self.counts {
-            eprintln!("sequences: {count:4} x {mark}");
-        }
-        self.counts.values().all(|&count| count >= LEAST)
+        self.wanted.tell("sequences: ");
+        self.wanted.demand(LEAST);
     }
 }

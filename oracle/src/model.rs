@@ -13,8 +13,8 @@ use guovssalu_sys::table::MOST_ACKED;
 use guovssalu_sys::table::PARAMS_WORDS;
 use guovssalu_sys::table::STATE_WORDS;
 
-/// The fields in the order of README.md: the model, the last accepted moment,
-/// the cycle, the record of the current event.
+/// The fields in the order of README.md: the model, the last accepted moment and
+/// whether anything was sent, the cycle, the record of the current event.
 pub type State = [u64; FIELDS];
 
 /// How many there are.
@@ -63,6 +63,7 @@ pub mod field {
     pub const TOTAL_ACKED: usize = state::TOTAL_BYTES_ACKED;
     pub const TOTAL_LOST: usize = state::TOTAL_BYTES_LOST;
     pub const LAST_MOMENT: usize = state::LAST_ACCEPTED_MOMENT;
+    pub const ANYTHING_SENT: usize = state::ANYTHING_SENT;
     pub const PHASE: usize = state::PHASE;
     pub const CYCLE_START: usize = state::START_TIME;
     pub const PHASE_START: usize = state::PHASE_START_TIME;

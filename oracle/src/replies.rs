@@ -53,9 +53,33 @@ pub const REFUSED_START: Start = Start {
     ignore_app_limited: false,
 };
 
+/// How many calls were given each reply.
+#[derive(Default)]
+pub struct Given([u64; 11]);
+
+impl Given {
+    pub fn add(&mut self, reply: u64) {
+        self.0[reply as usize] += 1;
+    }
+
+    /// How many calls there were.
+    pub fn calls(&self) -> u64 {
+        self.0.iter().sum()
+    }
+
+    pub fn told(&self) -> String {
+        let refused = [1, 2, 3, 4, 5, 7, 10].map(|reply| format!("{reply}: {}", self.0[reply]));
+        format!(
+            "{} accepted; refused with {}",
+            self.0[0],
+            refused.join(", ")
+        )
+    }
+}
+
 /// The number of the reply to a call in a state, after a start with these
 /// parameters or with the start's own: the first row of the table that holds,
-/// or 0.
+/// or 0. Row 10 is asked after 4 and before 5.
 pub fn reply(call: &Call, state: &State, start: &Start) -> u64 {
     match call {
         Call::Event(sample) => reply_with(call, sample.acked(), state, start),
@@ -74,6 +98,8 @@ pub fn reply_with(call: &Call, acked: &[u64], state: &State, start: &Start) -> u
         3
     } else if total_falls(call, state) {
         4
+    } else if never_sent(acked, state) {
+        10
     } else if overflows(call, acked, state, start) {
         5
     } else {
@@ -335,9 +361,16 @@ fn total_falls(call: &Call, state: &State) -> bool {
     }
 }
 
+/// Whether one of an event's acked numbers is above the last sent one, or there
+/// is any before the first send.
+pub fn never_sent(acked: &[u64], state: &State) -> bool {
+    let unsent = |&number: &u64| state[ANYTHING_SENT] == 0 || number > state[LAST_SENT];
+    acked.iter().any(unsent)
+}
+
 /// Whether the call's rule adds 1 to a counter that is full. It is the greatest
 /// acked number that ends a round.
-fn overflows(call: &Call, acked: &[u64], state: &State, start: &Start) -> bool {
+pub fn overflows(call: &Call, acked: &[u64], state: &State, start: &Start) -> bool {
     let full = |field: usize| state[field] == u64::MAX;
     match call {
         Call::Event(sample) => {

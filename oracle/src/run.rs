@@ -123,19 +123,28 @@ impl<'a> Run<'a> {
         }));
     }
 
-    /// An event that acks these numbers, and nothing else; whether it ended a
-    /// round.
-    pub fn acked(&mut self, numbers: &[u64]) -> bool {
+    /// The sample of an event that acks these numbers, and nothing else.
+    pub fn acking(&self, numbers: &[u64]) -> Sample {
         let mut acked = [0; MOST_ACKED];
         acked[..numbers.len()].copy_from_slice(numbers);
-        self.call(Call::Event(Sample {
+        Sample {
             total_acked: self.state[TOTAL_ACKED],
             total_lost: self.state[TOTAL_LOST],
             acked_length: numbers.len(),
             acked,
             ..NONE
-        }));
+        }
+    }
+
+    /// Such an event; whether it ended a round.
+    pub fn acked(&mut self, numbers: &[u64]) -> bool {
+        self.call(Call::Event(self.acking(numbers)));
         self.state[ROUND_ENDED] == 1
+    }
+
+    /// Such an event, which acks a number that was never sent.
+    pub fn unsent(&mut self, numbers: &[u64]) {
+        self.expect(10, Call::Event(self.acking(numbers)));
     }
 
     /// An event with a sample of this bandwidth that ends no round.
@@ -160,12 +169,16 @@ impl<'a> Run<'a> {
         self.event(None, more);
     }
 
-    /// An event that ends the round.
+    /// An event that ends the round, by a packet that is sent before it where none
+    /// past the end was.
     pub fn round(&mut self, more: Sample) {
         let past = match self.state[END_SET] {
             0 => 0,
             _ => self.state[END] + 1,
         };
+        if self.state[ANYTHING_SENT] == 0 || self.state[LAST_SENT] < past {
+            self.sent(1300, past, 1300);
+        }
         self.event(Some(past), more);
     }
 }

@@ -8,13 +8,16 @@ use guovssalu_sys::table::event;
 use guovssalu_sys::table::params;
 use guovssalu_sys::table::sample;
 use guovssalu_sys::table::ARGUMENTS_IN_CALL;
+use guovssalu_sys::table::MOST_ACKED;
 use guovssalu_sys::table::UNSET;
 
+use crate::calls;
 use crate::calls::Calls;
 use crate::frame::CARRIED;
 use crate::model::field::*;
 use crate::model::Call;
 use crate::model::Record;
+use crate::model::Sample;
 use crate::model::Start;
 use crate::model::State;
 use crate::recovery::gcongestion::Host;
@@ -51,7 +54,7 @@ use Kind::*;
 
 /// What may be put into a state: the field, its kind, and the field before it
 /// that says whether it is set, if there is one.
-const FIELDS: [(usize, Kind, Option<usize>); 44] = [
+const FIELDS: [(usize, Kind, Option<usize>); 45] = [
     (ROUND_TRIP_COUNT, Free, None),
     (LAST_SENT, Free, None),
     (END, Free, Some(END_SET)),
@@ -82,6 +85,7 @@ const FIELDS: [(usize, Kind, Option<usize>); 44] = [
     (TOTAL_ACKED, UpTo(TOTAL), None),
     (TOTAL_LOST, UpTo(TOTAL), None),
     (LAST_MOMENT, UpTo(MOMENT), None),
+    (ANYTHING_SENT, Below(2), None),
     (PHASE, Below(5), None),
     (CYCLE_START, UpTo(MOMENT), None),
     (PHASE_START, UpTo(MOMENT), None),
@@ -185,10 +189,39 @@ impl Steps {
         }
         let state = within(&world.state);
         let call = self.calls.next(&state);
-        if self.random.one_in(6) {
-            self.refuse(&call, world);
+        let unsent = if state[ANYTHING_SENT] == 0 { 2 } else { 12 };
+        match call {
+            Call::Event(sample) if self.random.one_in(unsent) => self.refuse_unsent(sample, &state),
+            _ if self.random.one_in(6) => self.refuse(&call, world),
+            _ => {}
         }
         self.planned.push_back(Step::Call(call));
+    }
+
+    /// Plans an event with a number that was never sent, in place of this one;
+    /// sometimes a total falls, too.
+    fn refuse_unsent(&mut self, mut sample: Sample, state: &State) {
+        if !self.ack_unsent(&mut sample, state) {
+            return;
+        }
+        if self.random.one_in(8) {
+            sample.total_acked = state[TOTAL_ACKED].saturating_sub(1);
+        }
+        self.planned.push_back(Step::Call(Call::Event(sample)));
+    }
+
+    /// Puts a number that was never sent among the acked ones; whether there is
+    /// one.
+    fn ack_unsent(&mut self, sample: &mut Sample, state: &State) -> bool {
+        let Some(number) = calls::never_sent(&mut self.random, state) else {
+            return false;
+        };
+        if sample.acked_length == 0 {
+            sample.acked_length = 1 + self.random.below(MOST_ACKED as u64) as usize;
+        }
+        let place = self.random.below(sample.acked_length as u64) as usize;
+        sample.acked[place] = number;
+        true
     }
 
     /// Plans a call that is refused, in place of this one.
@@ -219,7 +252,12 @@ impl Steps {
                     _ => self.outside(&world.state),
                 };
             }
-            let call = Call::of(number, &numbers[ARGUMENTS_IN_CALL..], &world.start).unwrap();
+            let mut call = Call::of(number, &numbers[ARGUMENTS_IN_CALL..], &world.start).unwrap();
+            if let Call::Event(sample) = &mut call {
+                if self.random.one_in(4) {
+                    self.ack_unsent(sample, &state);
+                }
+            }
             if replies::reply(&call, &world.state, &world.start) > 0 {
                 self.planned.push_back(Step::Call(call));
                 return;

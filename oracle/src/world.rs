@@ -41,6 +41,7 @@ use crate::reasons::Tally;
 use crate::recovery::gcongestion::Host;
 use crate::replies;
 use crate::scalars;
+use crate::unsent::Unsent;
 use crate::windowed;
 use crate::windowed::Filter;
 
@@ -87,6 +88,8 @@ pub struct World {
     pub filter: Filter,
     /// The accepted updates of filters so far; of runs, those that were done.
     pub tally: Tally,
+    /// What the events so far show of numbers that were never sent.
+    pub unsent: Unsent,
 }
 
 impl World {
@@ -99,6 +102,7 @@ impl World {
             start: usual,
             filter: [0; 8],
             tally: Tally::default(),
+            unsent: Unsent::new(),
         };
         world.host.put(&world.state, &usual);
         world
@@ -222,6 +226,7 @@ impl World {
             self.start = *start;
         }
         let reply = replies::reply(call, &self.state, &self.start);
+        self.look(call, &[], reply);
         let mut answer = 0;
         if reply == 0 {
             answer = self.host.call(call);
@@ -237,6 +242,7 @@ impl World {
     pub fn event(&mut self, sample: &Sample, acked: &[u64]) -> Answer {
         let call = Call::Event(*sample);
         let reply = replies::reply_with(&call, acked, &self.state, &self.start);
+        self.look(&call, acked, reply);
         if reply == 0 {
             self.host.event_of(sample, acked);
             self.state = self.host.state();
@@ -251,12 +257,24 @@ impl World {
         let reply = reply.expect("the words make no call");
         match words[NUMBER_IN_CALL] {
             START => {
+                self.look(&Call::Start(replies::REFUSED_START), &[], reply);
                 self.start_refused();
                 self.answer(reply, 0, &[])
             }
             EVENT => self.answer(reply, 0, &words[EVENT_IN_CALL..PARAMS_IN_CALL]),
             _ => self.answer(reply, 0, &[]),
         }
+    }
+
+    /// Counts a call that is given this reply, before it is made.
+    fn look(&mut self, call: &Call, acked: &[u64], reply: u64) {
+        let World {
+            state,
+            start,
+            unsent,
+            ..
+        } = self;
+        unsent.look(call, acked, state, start, reply);
     }
 
     /// Leaves what a refused start does.
@@ -280,6 +298,7 @@ impl World {
         self.start = self.start.with_parameters(&parameters);
         self.host.put(&self.state, &self.start);
         self.state = self.host.state();
+        self.unsent.forget();
 
         let after = self.carried();
         let changed = (0..CARRIED).filter(|&index| before[index] != after[index]);

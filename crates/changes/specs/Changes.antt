@@ -12,11 +12,11 @@ use Rattle.units.specs.Time.{plus, isBefore}
 use Rattle.state.specs.declared.network_model.NetworkModel.{NetworkModel}
 use Rattle.state.specs.declared.refusals.Rows.{Rows}
 use Rattle.state.specs.Bounds.{bytesOk, lengthOk, momentOk}
-use Rattle.state.specs.NetworkModel.{modelOk, withRounds, withMinrtt, withRound, withGains, withGrowth, withMoment, givenNumber}
+use Rattle.state.specs.NetworkModel.{modelOk, withRounds, withMinrtt, withRound, withGains, withGrowth, withMoment, withBegun, givenNumber}
 use Rattle.state.specs.Parts.{roundSent}
-use Rattle.state.specs.Refusals.{noRows, stored, argument, earlier, lowest}
+use Rattle.state.specs.Refusals.{noRows, stored, argument, earlier, firstOf}
 
--- ---- on_packet_sent
+-- ---- on_packet_sent; document 02, request i: "a note of whether anything was sent"
 abbrev pub sentRows : NetworkModel → Moment → (inflight bytes : ℕ) → Rows
 sentRows m now inflight bytes =
     stored (not (modelOk m))
@@ -25,12 +25,13 @@ sentRows m now inflight bytes =
     noRows))
 
 unfoldable pub sentNumber : NetworkModel → Moment → ℕ → ℕ → ℕ
-sentNumber m now inflight bytes = lowest (sentRows m now inflight bytes)
+sentNumber m now inflight bytes = firstOf (sentRows m now inflight bytes)
 
 unfoldable pub sentNext : NetworkModel → Moment → ℕ → ℕ → ℕ → NetworkModel
 sentNext m now inflight packet bytes =
     let reaches = leb (m .high) (inflight + bytes) in
-    withMoment (withRounds (withRound m (roundSent (m .round) inflight reaches)) (roundsSent (m .rounds) packet)) now
+    let numbered = withRounds (withRound m (roundSent (m .round) inflight reaches)) (roundsSent (m .rounds) packet) in
+    withBegun (withMoment numbered now) true
 
 -- ---- setters, caps and clears
 unfoldable pub reachedNext : NetworkModel → NetworkModel

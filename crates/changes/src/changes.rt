@@ -60,6 +60,7 @@ pub fn sent_tested(
         next.round = round.sent(inflight, reaches(model.high, inflight, bytes));
         next.rounds = rounds.on_packet_sent(packet);
         next.moment = now;
+        next.begun = true;
     }
     Changed { reply, model: next }
 }

@@ -45,7 +45,7 @@ record-first after e = simp (flag-written, bandwidth-back, length-back, flag-bac
 record-back : (before after : List ℕ) (e : CongestionEvent) → length before ≡ 22 → eventFrom (before ++ (eventWords e ++ after)) ≡ e
 record-back before after e h = rw (← h) (record-moved before (eventWords e ++ after) ∙ record-first after e)
 
-state-length : (m : NetworkModel) (c : Cycle) → length (modelWords m ++ cycleWords c) ≡ 50
+state-length : (m : NetworkModel) (c : Cycle) → length (modelWords m ++ cycleWords c) ≡ 51
 unfolding modelWords cycleWords
 state-length m c = refl
 

@@ -21,9 +21,9 @@ zeros n = replicate n 0
 abbrev pub with : List ℕ → ℕ → ℕ → List ℕ
 with words i x = take i words ++ (x ∷ drop (i + 1) words)
 
--- a state within its bounds: both gains are 1
+-- a state within its bounds: both gains are 1, and the last packet that was sent is packet 9
 abbrev sound : List ℕ
-sound = with (with (zeros 50) 19 0x3f80_0000) 20 0x3f80_0000
+sound = with (with (with (with (zeros 51) 1 9) 19 0x3f80_0000) 20 0x3f80_0000) 34 1
 
 -- a call by its number, with parameters within their bounds
 abbrev call : ℕ → List ℕ
@@ -52,7 +52,7 @@ outcomeExamples =
     ∷ replies (call 39) 2
     ∷ replies (call 46) 2
     ∷ replies (call (2 ^ 64 - 1)) 2
-    ∷ shows (call 46) (zeros 50) 1 (zeros 16)
+    ∷ shows (call 46) (zeros 51) 1 (zeros 16)
     -- a gain with a bit above the 32nd, a NaN, a gain of 1
     ∷ replies (with (call 15) 1 0x1_3f80_0000) 2
     ∷ replies (with (call 15) 1 0x7fc0_0001) 2
@@ -96,4 +96,12 @@ outcomeExamples =
     -- up to three numbers stand in the call, whatever the lists hold: 7 in word 19; none
     ∷ names 3 7 5 0 (with (zeros 16) 6 1)
     ∷ names 0 7 5 0 (zeros 16)
+    -- packets that were never sent, 10 in the call, 9 in the lists where 8 is the last sent: the record comes back as
+    -- it was. 9 is taken where it is the last sent
+    ∷ shows (with (with (with (call 3) 18 1) 19 10) 23 5) sound 10 (with (zeros 16) 1 5)
+    ∷ shows (with (with (with (call 3) 18 1) 19 9) 28 1) sound 0 (with (zeros 16) 6 1)
+    ∷ shows (with (with (call 3) 18 4) 23 5 ++ (1 ∷ 9 ∷ 2 ∷ 3 ∷ [])) (with sound 1 8) 10 (with (zeros 16) 1 5)
+    -- nothing was sent yet, whatever word 1 is: 0 is refused, and no number at all is taken
+    ∷ shows (with (call 3) 18 1) (with sound 34 0) 10 (zeros 16)
+    ∷ shows (call 3) (with sound 34 0) 0 (zeros 16)
     ∷ []

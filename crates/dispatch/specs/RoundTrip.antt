@@ -36,8 +36,8 @@ pub record RoundTrip : Type 0 where
   -- an answer's 16 words, handed in as words 22 to 37 of the next call
   pub event : (before after : List ℕ) (e : CongestionEvent) → length before ≡ 22 →
       eventFrom (before ++ (eventWords e ++ after)) ≡ e
-  -- the state takes 50 words, the record 16
-  pub stateLength : (m : NetworkModel) (c : Cycle) → length (modelWords m ++ cycleWords c) ≡ 50
+  -- the state takes 51 words, the record 16
+  pub stateLength : (m : NetworkModel) (c : Cycle) → length (modelWords m ++ cycleWords c) ≡ 51
   pub eventLength : (e : CongestionEvent) → length (eventWords e) ≡ 16
   -- the sampler's answer in words 1 to 17 of a call, with acked numbers that are there after it
   pub sample : (number : ℕ) (after : List ℕ) (s : CongestionEventSample) →

@@ -3,7 +3,7 @@ use mathlib.Core.Bool.{Bool, true, false, cond}
 use mathlib.Core.Path.{_≡_, refl}
 use Rattle.state.specs.declared.network_model.NetworkModel.{NetworkModel}
 use Rattle.state.specs.Parts.{roundNew}
-use Rattle.state.specs.NetworkModel.{withMaxbw, withRounds, withRound, withMinrtt, withHigh, withGains, withGrowth, withMoment, restartNext, advanceNext}
+use Rattle.state.specs.NetworkModel.{withMaxbw, withRounds, withRound, withMinrtt, withHigh, withGains, withGrowth, withMoment, withBegun, restartNext, advanceNext}
 use Rattle.changes.specs.Changes.{sentNext, reachedNext, pacingNext, cwndNext, postponeNext}
 use Rattle.events.specs.Event.{finishNext}
 use Rattle.judge.specs.Judge.{expireNext, growthNext, queueNext}
@@ -42,7 +42,7 @@ left-high m c = go (isDown (c .stay .phase)) (c .advanced)
     go false u = refl
 
 pub other-same : (c : Other) (s : State) → Same (otherNext c s .model) (s .model)
-unfolding otherNext sentNext withMoment withRounds withRound finishNext expireNext withMinrtt growthNext withGrowth queueNext restartNext reachedNext pacingNext withGains cwndNext withHigh advanceNext withMaxbw postponeNext restartedAt
+unfolding otherNext sentNext withMoment withBegun withRounds withRound finishNext expireNext withMinrtt growthNext withGrowth queueNext restartNext reachedNext pacingNext withGains cwndNext withHigh advanceNext withMaxbw postponeNext restartedAt
 other-same (sent now inflight packet bytes) s = record { lower = refl; latest = refl }
 other-same (finish e) s = go (e .ended)
   where

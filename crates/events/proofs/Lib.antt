@@ -2,4 +2,5 @@
 pub mod Room
 pub mod Determined
 pub mod Examples
+pub mod NeverSent
 pub mod OnlyGreatest

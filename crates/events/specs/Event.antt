@@ -30,7 +30,7 @@ use Rattle.units.specs.declared.maybe.MaybeBandwidth.{MaybeBandwidth}
 use Rattle.units.specs.declared.maybe.MaybeBandwidth.the-variants.{Unset, Set}
 use Rattle.state.specs.declared.parts.Round.{Round}
 use Rattle.state.specs.declared.refusals.Rows.{Rows}
-use Rattle.state.specs.NetworkModel.{modelOk, withRounds, withRound, one, startModel, givenRows}
+use Rattle.state.specs.NetworkModel.{modelOk, withRounds, withRound, withBegun, one, startModel, givenRows}
 use Rattle.state.specs.Params.{paramsOk}
 use Rattle.units.specs.declared.maybe.MaybeDuration.{MaybeDuration}
 use Rattle.units.specs.declared.maybe.MaybeDuration.the-variants as Length
@@ -39,7 +39,7 @@ use Rattle.state.specs.declared.congestion_event.CongestionEventSample.{Congest
 use Rattle.state.specs.declared.congestion_event.SendTimeState.{SendTimeState}
 use Rattle.state.specs.CongestionEvent.{eventOk, sampleOk}
 use Rattle.state.specs.Parts.{roundNew}
-use Rattle.state.specs.Refusals.{noRows, stored, argument, earlier, lower, full, isFullCounter, lowest}
+use Rattle.state.specs.Refusals.{noRows, stored, argument, earlier, lower, unsent, full, isFullCounter, firstOf}
 
 -- "bytes acked and lost"
 abbrev pub bytesAcked : NetworkModel → CongestionEventSample → ℕ
@@ -192,6 +192,7 @@ modelAfter m p after s counter =
       rates = record { send = s .send; ack = s .ack };
       totals = s .totals;
       moment = after .time;
+      begun = m .begun;
     }
 
 unfoldable pub modelNext : NetworkModel → Params → CongestionEvent → CongestionEventSample → List ℕ → NetworkModel
@@ -200,6 +201,15 @@ modelNext m p e s acked = modelAfter m p (eventNext m e s acked) s (roundsAcked 
 -- ---- the refusals. Row 4: "the total acked or the total lost is lower than the one stored"
 abbrev pub isLower : NetworkModel → CongestionEventSample → Bool
 isLower m s = ltb (s .totals .acked) (m .totals .acked) || ltb (s .totals .lost) (m .totals .lost)
+
+-- row 10, document 02, request i: "An event whose acked list holds a number above the last sent one, or any number
+-- before the first send". The last sent one is the number of the last send, also where the numbers went down
+abbrev pub neverSent : NetworkModel → ℕ → Bool
+neverSent m n = not (m .begun) || ltb (m .rounds .sent) n
+
+unfoldable pub isUnsent : NetworkModel → List ℕ → Bool
+isUnsent m [] = false
+isUnsent m (n ∷ acked) = neverSent m n || isUnsent m acked
 
 -- row 5: a round ends and the count of rounds is full, or bytes were lost and the count of loss events is
 unfoldable pub isFull : NetworkModel → CongestionEventSample → List ℕ → Bool
@@ -211,22 +221,23 @@ eventRows m p e s acked =
     (argument (not (eventOk e && sampleOk s))
     (earlier (isBefore (e .time) (m .moment))
     (lower (isLower m s)
+    (unsent (isUnsent m acked)
     (full (isFull m s acked)
-    noRows))))
+    noRows)))))
 
 unfoldable pub eventNumber : NetworkModel → Params → CongestionEvent → CongestionEventSample → List ℕ → ℕ
-eventNumber m p e s acked = lowest (eventRows m p e s acked)
+eventNumber m p e s acked = firstOf (eventRows m p e s acked)
 
 -- ---- on_congestion_event_finish: "The finish call clears the round's sums if the round ended"
 unfoldable pub finishNumber : NetworkModel → CongestionEvent → ℕ
-finishNumber m e = lowest (givenRows m (eventOk e))
+finishNumber m e = firstOf (givenRows m (eventOk e))
 
 unfoldable pub finishNext : NetworkModel → CongestionEvent → NetworkModel
 finishNext m e = cond (e .ended) (withRound m roundNew) m
 
 -- ---- worked out: three lossy rounds at beta 0.3, as in document 01's example 8. In each a packet is sent with 1300
 -- bytes in flight in a window of 1300, and an event, 100 ms after the one before, acks 1000 bytes and loses 100
-abbrev usual : Params
+abbrev pub usual : Params
 usual =
     record {
       beta = ofBits binary32 0x3e99_999a;
@@ -243,15 +254,15 @@ usual =
     }
 
 -- a fresh model with a round trip of 200 ms
-abbrev fresh : NetworkModel
+abbrev pub fresh : NetworkModel
 fresh = startModel usual (record { 0 = 200_000_000 }) (record { 0 = 0 })
 
--- packet n is sent: of that an event reads the last number alone
-abbrev sends : (n : ℕ) → NetworkModel → NetworkModel
-sends n m = withRounds m (roundsSent (m .rounds) n)
+-- packet n is sent: of that an event reads the last number alone, and that there is one
+abbrev pub sends : (n : ℕ) → NetworkModel → NetworkModel
+sends n m = withBegun (withRounds m (roundsSent (m .rounds) n)) true
 
 -- the record of round n as handed in: nothing is known yet but the moment, the window and the bytes in flight
-abbrev told : (n : ℕ) → CongestionEvent
+abbrev pub told : (n : ℕ) → CongestionEvent
 told n =
     record {
       time = record { 0 = n * 100_000_000 };
@@ -268,7 +279,7 @@ told n =
     }
 
 -- what the sampler says in round n: 1000 bytes in 100 ms are 80,000 bits per second
-abbrev heard : (n : ℕ) → CongestionEventSample
+abbrev pub heard : (n : ℕ) → CongestionEventSample
 heard n =
     record {
       bandwidth = Set (record { 0 = 80_000 });
@@ -289,7 +300,7 @@ roundReply n m = eventNumber (sends n m) usual (told n) (heard n) (n ∷ [])
 abbrev roundRecord : (n : ℕ) → NetworkModel → CongestionEvent
 roundRecord n m = eventNext (sends n m) (told n) (heard n) (n ∷ [])
 
-abbrev roundModel : (n : ℕ) → NetworkModel → NetworkModel
+abbrev pub roundModel : (n : ℕ) → NetworkModel → NetworkModel
 roundModel n m = modelNext (sends n m) usual (told n) (heard n) (n ∷ [])
 
 -- the model after its finish

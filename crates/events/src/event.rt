@@ -7,7 +7,7 @@ ghost use Rattle.units.specs.Reply.{number};
 ghost use Rattle.filters.specs.RoundTripCounter.{listed};
 ghost use Rattle.state.specs.Answers.{settled};
 ghost use Rattle.state.specs.NetworkModel.{modelOk};
-ghost use Rattle.events.specs.Event.{cwndlimitedAfter, stateAfter, isChanged, maxbwAfter, bandwidthAfter, minrttAfter, rttAfter, deliveredBy, roundAfter, raisedBandwidth, latestRaised, seedOf, startOf, newestOf, latestAfter, eventAfter, eventNext, maxbwNext, roundNext, adaptLowerBounds, modelAfter, modelNext, isLower, isFull, eventNumber, finishNumber, finishNext};
+ghost use Rattle.events.specs.Event.{cwndlimitedAfter, stateAfter, isChanged, maxbwAfter, bandwidthAfter, minrttAfter, rttAfter, deliveredBy, roundAfter, raisedBandwidth, latestRaised, seedOf, startOf, newestOf, latestAfter, eventAfter, eventNext, maxbwNext, roundNext, adaptLowerBounds, modelAfter, modelNext, isLower, isUnsent, isFull, eventNumber, finishNumber, finishNext};
 use filters::MaxBandwidthFilter;
 use filters::MinRttFilter;
 use filters::RoundTripCounter;
@@ -119,6 +119,7 @@ fn event_reply(
         argument: !(event.ok() & sample.ok()),
         earlier: time.is_before(moment),
         lower: is_lower(model, sample),
+        unsent: is_unsent(model, most),
         full: is_full(model, sample, most),
     })
 }
@@ -127,6 +128,16 @@ fn is_lower(model: NetworkModel, sample: CongestionEventSample) -> bool
     ensures { λ r. ⌜ r ≡ isLower model sample ⌝ }
 {
     (sample.totals.acked < model.totals.acked) | (sample.totals.lost < model.totals.lost)
+}
+
+// Whether an acked number was never sent: one above the last sent, or any before the first send.
+fn is_unsent(model: NetworkModel, most: MaybeNumber) -> bool
+    ensures { λ r. ⌜ r ≡ isUnsent model (listed most) ⌝ }
+{
+    let MaybeNumber::Set(number) = most else {
+        return false;
+    };
+    !model.begun | (model.rounds.sent < number)
 }
 
 // Whether the event would raise a counter that is full.

@@ -9,7 +9,7 @@ use Rattle.state.specs.Answers.{settled}
 use Rattle.state.specs.Bounds.{within}
 use Rattle.state.specs.Params.{paramsOk}
 use Rattle.state.specs.Parts.{roundOk, roundSent}
-use Rattle.state.specs.NetworkModel.{modelTests, withRounds, withRound, withMoment, modelNew, startNumber, startModel}
+use Rattle.state.specs.NetworkModel.{modelTests, withRounds, withRound, withMoment, withBegun, modelNew, startNumber, startModel}
 use Rattle.state.specs.Cycle.{cycleNew, stayFrom, freshNumber, freshCycle}
 use Rattle.changes.specs.Changes.{sentNumber, sentNext}
 use lib.Ieee as Ieee
@@ -34,5 +34,5 @@ unfolding all exportExamples isReplaced raised shifted lingers renewed aged wind
 export-examples = refl
 
 pub start-examples : all startExamples ≡ true
-unfolding all startExamples Ieee.ofBits Ieee.toBits Ieee.le roundsSent settled within rowOf paramsOk roundOk roundSent modelTests withRounds withRound withMoment modelNew startNumber startModel cycleNew stayFrom freshNumber freshCycle sentNumber sentNext numberAt lowBytes wordsAt allBytes modelFrom modelWords cycleFrom cycleWords paramsFrom answerWords startOutcome sendOutcome outcomeOf sameWords isState encodesNone outcomeAt answersTo leftBy answersFrom wordsLeft modelRow answersOut stateOut orShort answered
+unfolding all startExamples Ieee.ofBits Ieee.toBits Ieee.le roundsSent settled within rowOf paramsOk roundOk roundSent modelTests withRounds withRound withMoment withBegun modelNew startNumber startModel cycleNew stayFrom freshNumber freshCycle sentNumber sentNext numberAt lowBytes wordsAt allBytes modelFrom modelWords cycleFrom cycleWords paramsFrom answerWords startOutcome sendOutcome outcomeOf sameWords isState encodesNone outcomeAt answersTo leftBy answersFrom wordsLeft modelRow answersOut stateOut orShort answered
 start-examples = refl

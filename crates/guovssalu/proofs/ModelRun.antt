@@ -57,12 +57,12 @@ length-event m y src lists at =
     (either (eqb call 3) (eventOutcome w m y) ends (length-started w m)
     (either (eqb call 4) (finishOutcome w m y) (otherOutcome w m y) refl (length-other w m y)))
 
-pub length-left : (m : NetworkModel) (y : Cycle) (src lists : List ℕ) (at n : ℕ) → length (leftBy m y src lists at n) ≡ 50
+pub length-left : (m : NetworkModel) (y : Cycle) (src lists : List ℕ) (at n : ℕ) → length (leftBy m y src lists at n) ≡ 51
 unfolding leftBy
 length-left m y src lists at zero = round-trip .stateLength m y
 length-left m y src lists at (suc n) = length-left (outcomeAt m y src lists at .model) (outcomeAt m y src lists at .cycle) src lists (at + 392) n
 
-pub length-words-left : (state src lists : List ℕ) → length (wordsLeft state src lists) ≡ 50
+pub length-words-left : (state src lists : List ℕ) → length (wordsLeft state src lists) ≡ 51
 unfolding wordsLeft
 length-words-left state src lists = length-left (modelFrom (stateIn state)) (cycleFrom (stateIn state)) src lists 0 (callsIn src)
 
@@ -165,8 +165,8 @@ pub run-room : (state src : List ℕ) (room : ℕ) → eqb (modelRow state src r
 unfolding modelRow
 run-room state src room h = ltb-false room (144 * callsIn src) (done-room _ (ltb room (144 * callsIn src)) h)
 
-pub run-whole : (state src : List ℕ) (room : ℕ) → eqb (modelRow state src room) 0 ≡ true → length state ≡ 400
+pub run-whole : (state src : List ℕ) (room : ℕ) → eqb (modelRow state src room) 0 ≡ true → length state ≡ 408
 unfolding modelRow
 run-whole state src room h =
     let fine = none _ _ _ _ _ (done-first _ (ltb room (144 * callsIn src)) h) .argument-fine in
-    eqb-true (length state) 400 (not-false (eqb (length state) 400) (or-left (not (eqb (length state) 400)) _ fine))
+    eqb-true (length state) 408 (not-false (eqb (length state) 408) (or-left (not (eqb (length state) 408)) _ fine))

@@ -37,7 +37,7 @@ refused = allBytes (3 ∷ 5 ∷ 2 ∷ 5 ∷ [])
 
 -- a state of zeros, in which every call is refused, with one word put anew
 abbrev pub states : ℕ → ℕ → List ℕ
-states i x = allBytes (with (zeros 50) i x)
+states i x = allBytes (with (zeros 51) i x)
 
 -- one call of no arguments, by its number
 abbrev pub call : ℕ → List ℕ
@@ -82,8 +82,8 @@ exportExamples =
     ∷ eqb (slopeRow 30 26_000 15) 7
     ∷ same (slopeOut 31 26_000 (room 17)) (room 17)
     -- no call: done, and the state written as it was
-    ∷ eqb (modelRow (zeros 400) [] 0) 0
-    ∷ same (stateOut (zeros 400) [] noLists []) (zeros 400)
+    ∷ eqb (modelRow (zeros 408) [] 0) 0
+    ∷ same (stateOut (zeros 408) [] noLists []) (zeros 408)
     -- a flag of 2, a number that is unset, a float of 33 bits, a phase past the last; and those that are states
     ∷ eqb (modelRow (states 12 2) [] 0) 1
     ∷ eqb (modelRow (states 12 1) [] 0) 0
@@ -91,20 +91,23 @@ exportExamples =
     ∷ eqb (modelRow (states 19 4_294_967_296) [] 0) 1
     ∷ eqb (modelRow (states 19 2_143_289_345) [] 0) 1
     ∷ eqb (modelRow (states 19 2_143_289_344) [] 0) 0
-    ∷ eqb (modelRow (states 34 5) [] 0) 1
-    ∷ eqb (modelRow (states 34 4) [] 0) 0
-    -- lengths that are wrong, and rows that overlap
-    ∷ eqb (modelRow (zeros 399) [] 0) 2
-    ∷ eqb (modelRow (zeros 401) [] 0) 2
-    ∷ eqb (modelRow (zeros 400) (take 391 (call 12)) 144) 2
+    ∷ eqb (modelRow (states 35 5) [] 0) 1
+    ∷ eqb (modelRow (states 35 4) [] 0) 0
+    ∷ eqb (modelRow (states 34 2) [] 0) 1
+    ∷ eqb (modelRow (states 34 1) [] 0) 0
+    -- lengths that are wrong, that of a state before request i among them, and rows that overlap
+    ∷ eqb (modelRow (zeros 400) [] 0) 2
+    ∷ eqb (modelRow (zeros 407) [] 0) 2
+    ∷ eqb (modelRow (zeros 409) [] 0) 2
+    ∷ eqb (modelRow (zeros 408) (take 391 (call 12)) 144) 2
     ∷ eqb (modelRow (states 12 2) (take 391 (call 12)) 0) 1
     -- a number that is no call's does not refuse the run: its call is refused (crates/dispatch/specs/Examples.antt)
-    ∷ eqb (modelRow (zeros 400) (call 2) 144) 0
-    ∷ eqb (modelRow (zeros 400) (call 12 ++ call 46) 288) 0
+    ∷ eqb (modelRow (zeros 408) (call 2) 144) 0
+    ∷ eqb (modelRow (zeros 408) (call 12 ++ call 46) 288) 0
     -- a byte is missing for an answer: nothing is written
-    ∷ eqb (modelRow (zeros 400) (call 45 ++ call 12) 288) 0
-    ∷ eqb (modelRow (zeros 400) (call 45 ++ call 12) 287) 7
-    ∷ same (answersOut (zeros 400) (call 12) noLists (room 143)) (room 143)
+    ∷ eqb (modelRow (zeros 408) (call 45 ++ call 12) 288) 0
+    ∷ eqb (modelRow (zeros 408) (call 45 ++ call 12) 287) 7
+    ∷ same (answersOut (zeros 408) (call 12) noLists (room 143)) (room 143)
     ∷ same (answersOut (states 12 2) (call 12) noLists (room 144)) (room 144)
     ∷ same (stateOut (states 12 2) (call 12) noLists (room 144)) (states 12 2)
     ∷ []
@@ -133,18 +136,18 @@ abbrev pub firstCalls : List ℕ
 firstCalls = allBytes (startAt 5 100 ++ sends 9 7 ++ sends 8 6)
 
 abbrev pub firstState : List ℕ
-firstState = stateOut (zeros 400) firstCalls noLists (room 432)
+firstState = stateOut (zeros 408) firstCalls noLists (room 432)
 
 abbrev pub firstAnswers : List ℕ
-firstAnswers = answersOut (zeros 400) firstCalls noLists (room 432)
+firstAnswers = answersOut (zeros 408) firstCalls noLists (room 432)
 
 unfoldable pub startExamples : List Bool
 startExamples =
     -- the run is done: three answers of 18 words
-    eqb (modelRow (zeros 400) firstCalls 432) 0
+    eqb (modelRow (zeros 408) firstCalls 432) 0
     -- word 0 of each: the start and the first send are done, and the second send is refused with 3
     ∷ same (wordsIn firstAnswers (0 ∷ 18 ∷ 36 ∷ [])) (0 ∷ 0 ∷ 3 ∷ [])
-    -- of the state left: the packet last sent, the round trip and its moment, inflight_lo, which is unset, and the last
-    -- accepted moment
-    ∷ same (wordsIn firstState (1 ∷ 6 ∷ 7 ∷ 17 ∷ 33 ∷ [])) (7 ∷ 100 ∷ 5 ∷ (2 ^ 64 - 1) ∷ 9 ∷ [])
+    -- of the state left: the packet last sent, the round trip and its moment, inflight_lo, which is unset, the last
+    -- accepted moment, and that something was sent
+    ∷ same (wordsIn firstState (1 ∷ 6 ∷ 7 ∷ 17 ∷ 33 ∷ 34 ∷ [])) (7 ∷ 100 ∷ 5 ∷ (2 ^ 64 - 1) ∷ 9 ∷ 1 ∷ [])
     ∷ []

@@ -9,7 +9,7 @@ use mathlib.Core.List.{List, [], _++_}
 use lib.Dec.{ltb, eqb}
 use lib.ListN.{length}
 use Rattle.state.specs.declared.network_model.NetworkModel.{NetworkModel}
-use Rattle.state.specs.Refusals.{noRows, stored, argument, lowest, orShort}
+use Rattle.state.specs.Refusals.{noRows, stored, argument, firstOf, orShort}
 use Rattle.state.specs.declared.cycle.Cycle.{Cycle}
 use Rattle.words.specs.Words.{wordsAt}
 use Rattle.layout.specs.NetworkModel.{modelFrom}
@@ -20,13 +20,13 @@ use Rattle.guovssalu.specs.Reply.{answered}
 use Rattle.layout.specs.StateWords.{stateWords, isState}
 use Rattle.dispatch.specs.OneCall.{callAt, answerWords}
 
--- a state has 50 words, 400 bytes
+-- a state has 51 words, 408 bytes
 abbrev pub stateIn : List ℕ → List ℕ
-stateIn s = wordsAt s 0 50
+stateIn s = wordsAt s 0 51
 
--- docs/LAYOUT.md, reply 1: "the state's 400 bytes encode no state"
+-- docs/LAYOUT.md, reply 1: "the state's 408 bytes encode no state"
 unfoldable pub encodesNone : List ℕ → Bool
-encodesNone s = eqb (length s) 400 && not (isState (stateIn s))
+encodesNone s = eqb (length s) 408 && not (isState (stateIn s))
 
 -- how many calls there are: a call has 49 words, 392 bytes
 abbrev pub callsIn : List ℕ → ℕ
@@ -63,8 +63,8 @@ wordsLeft state src lists = leftBy (modelFrom (stateIn state)) (cycleFrom (state
 -- docs/LAYOUT.md, "What the run itself replies", 1, 2 and 7: "Of several the lowest is given; then no byte is written"
 unfoldable pub modelRow : (state src : List ℕ) (room : ℕ) → ℕ
 modelRow state src room =
-    let uneven = not (eqb (length state) 400) || not (eqb (length src % 392) 0) in
-    orShort (lowest (stored (encodesNone state) (argument uneven noRows))) (ltb room (144 * callsIn src))
+    let uneven = not (eqb (length state) 408) || not (eqb (length src % 392) 0) in
+    orShort (firstOf (stored (encodesNone state) (argument uneven noRows))) (ltb room (144 * callsIn src))
 
 unfoldable pub answersOut : (state src lists out : List ℕ) → List ℕ
 answersOut state src lists out = answered (modelRow state src (length out)) (answersFrom state src lists) out

@@ -6,7 +6,7 @@ use mathlib.Core.List.{List, [], _∷_}
 use lib.ListN.{length}
 use lib.Dec.{ltb}
 use Rattle.state.specs.Bounds.{bytesOk}
-use Rattle.state.specs.Refusals.{noRows, stored, argument, lowest, orShort}
+use Rattle.state.specs.Refusals.{noRows, stored, argument, firstOf, orShort}
 use Rattle.state.specs.Cycle.{roundsOk}
 use Rattle.phases.specs.Slope.{nextRounds, upBytes}
 use Rattle.guovssalu.specs.Reply.{answered}
@@ -15,7 +15,7 @@ use Rattle.guovssalu.specs.Reply.{answered}
 -- has two words
 unfoldable pub slopeRow : (rounds window room : ℕ) → ℕ
 slopeRow rounds window room =
-    orShort (lowest (stored (not (roundsOk rounds)) (argument (not (bytesOk window)) noRows))) (ltb room 16)
+    orShort (firstOf (stored (not (roundsOk rounds)) (argument (not (bytesOk window)) noRows))) (ltb room 16)
 
 -- the next rounds, then probe_up_bytes
 unfoldable pub slopeWords : (rounds window : ℕ) → List ℕ

@@ -69,7 +69,7 @@ pub extern "C" fn guovssalu_run_lists(
 fn model_reply(state: &[u8], calls: &[u8], room: usize) -> Reply
     ensures { λ r. ⌜ number r ≡ modelRow (now (state .entry)) (now (calls .entry)) room ⌝ }
 {
-    let uneven = (state.len() != 400) | (calls.len() % 392 != 0);
+    let uneven = (state.len() != 408) | (calls.len() % 392 != 0);
     let reply = refusal(Rows {
         stored: encodes_none(state),
         argument: uneven,
@@ -82,7 +82,7 @@ fn model_reply(state: &[u8], calls: &[u8], room: usize) -> Reply
 fn encodes_none(state: &[u8]) -> bool
     ensures { λ r. ⌜ r ≡ encodesNone (now (state .entry)) ⌝ }
 {
-    if state.len() != 400 {
+    if state.len() != 408 {
         return false;
     }
     let words = state_in(state);
@@ -90,11 +90,11 @@ fn encodes_none(state: &[u8]) -> bool
 }
 
 // The words of a state.
-fn state_in(state: &[u8]) -> [u64; 50]
-    requires { ⌜ length (now state) ≡ 400 ⌝ }
+fn state_in(state: &[u8]) -> [u64; 51]
+    requires { ⌜ length (now state) ≡ 408 ⌝ }
     ensures { λ r. ⌜ r ≡ stateIn (now (state .entry)) ⌝ }
 {
-    let mut words = [0u64; 50];
+    let mut words = [0u64; 51];
     get_words(state, 0, &mut words);
     words
 }
@@ -106,7 +106,7 @@ fn run_calls(
     calls: &[u8],
     lists: &[u64],
     answers: &mut [u8],
-) -> [u64; 50]
+) -> [u64; 51]
     requires { ⌜ 144 * callsIn (now calls) ≤ length (now answers) ⌝ }
     ensures { λ r. ⌜ r ≡ leftBy model cycle (now (calls .entry)) (now (lists .entry)) 0 (callsIn (now (calls .entry))) ⌝ }
     ensures { λ _. ⌜ now (answers .exit) ≡ sets (now (answers .entry)) 0 (allBytes (answersTo model cycle (now (calls .entry)) (now (lists .entry)) 0 (callsIn (now (calls .entry))))) ⌝ }

@@ -26,10 +26,10 @@ use Rattle.units.specs.declared.maybe.MaybeDuration.the-variants as Length
 use Rattle.state.specs.declared.congestion_event.CongestionEvent.{CongestionEvent}
 use Rattle.state.specs.declared.congestion_event.SendTimeState.{SendTimeState}
 use Rattle.state.specs.CongestionEvent.{eventOk}
-use Rattle.state.specs.Refusals.{isFullCounter, lowest}
+use Rattle.state.specs.Refusals.{isFullCounter, firstOf}
 
 unfoldable pub judgedNumber : NetworkModel → Params → CongestionEvent → Bool → ℕ
-judgedNumber m p e rises = lowest (judgedRows m p (eventOk e) rises)
+judgedNumber m p e rises = firstOf (judgedRows m p (eventOk e) rises)
 
 -- ---- maybe_expire_min_rtt: "Expiry needs a sample and a moment not earlier than the stored one plus the period; the
 -- sample is then forced in"
@@ -129,7 +129,7 @@ abbrev pub queueRows : NetworkModel → Params → Float → Rows
 queueRows m p gain = judgedRows m p (gainOk gain) (isQueueing m gain && isFullCounter (m .growth .queueing))
 
 unfoldable pub queueNumber : NetworkModel → Params → Float → ℕ
-queueNumber m p gain = lowest (queueRows m p gain)
+queueNumber m p gain = firstOf (queueRows m p gain)
 
 unfoldable pub queueNext : NetworkModel → Params → Float → NetworkModel
 queueNext m p gain = withGrowth m (queueAfter (m .growth) (isQueueing m gain) p)

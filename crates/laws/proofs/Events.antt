@@ -30,13 +30,14 @@ use Rattle.state.specs.Params.{betaOk, paramsOk}
 use Rattle.state.specs.Parts.{roundOk, latestOk, lowerOk, totalsOk, roundNew}
 use Rattle.state.specs.NetworkModel.{maxbwOk, minrttOk, modelTests, modelOk, withRound, withMinrtt, withGrowth}
 use Rattle.laws.proofs.Model.{round-new-ok}
-use Rattle.state.proofs.Rows.{none, row-stored, row-argument, and-left, and-right, and-both, or-left, or-right, all-at, all-put}
+use Rattle.state.proofs.Rows.{row-stored, row-argument, and-left, and-right, and-both, or-left, or-right, all-at, all-put}
 use Rattle.units.specs.declared.maybe.MaybeDuration.{MaybeDuration}
 use Rattle.units.specs.declared.maybe.MaybeDuration.the-variants as Length
 use Rattle.state.specs.declared.congestion_event.CongestionEvent.{CongestionEvent}
 use Rattle.state.specs.declared.congestion_event.CongestionEventSample.{CongestionEventSample}
 use Rattle.state.specs.declared.congestion_event.SendTimeState.{SendTimeState}
 use Rattle.events.specs.Event as E
+use Rattle.events.proofs.Room.{no-row}
 use Rattle.state.specs.CongestionEvent as H
 use Rattle.judge.specs.Judge as J
 
@@ -201,27 +202,27 @@ less-ok a b k h = le-leb (a - b) k (omega (arith, leb-true a k h))
 module _ (m : NetworkModel) (p : Params) (e : CongestionEvent) (s : CongestionEventSample) (acked : List ℕ) (N : E.eventNumber m p e s acked ≡ 0) where
   pub event-model : modelOk m ≡ true
   unfolding E.eventNumber
-  event-model = and-left (modelOk m) (paramsOk p) (not-false (modelOk m && paramsOk p) (none _ _ _ _ _ N .stored-fine))
+  event-model = and-left (modelOk m) (paramsOk p) (not-false (modelOk m && paramsOk p) (no-row m p e s acked N .1 .stored-fine))
 
   event-params : paramsOk p ≡ true
   unfolding E.eventNumber
-  event-params = and-right (modelOk m) (paramsOk p) (not-false (modelOk m && paramsOk p) (none _ _ _ _ _ N .stored-fine))
+  event-params = and-right (modelOk m) (paramsOk p) (not-false (modelOk m && paramsOk p) (no-row m p e s acked N .1 .stored-fine))
 
   event-record : H.eventOk e ≡ true
   unfolding E.eventNumber
-  event-record = and-left (H.eventOk e) (H.sampleOk s) (not-false (H.eventOk e && H.sampleOk s) (none _ _ _ _ _ N .argument-fine))
+  event-record = and-left (H.eventOk e) (H.sampleOk s) (not-false (H.eventOk e && H.sampleOk s) (no-row m p e s acked N .1 .argument-fine))
 
   pub event-sample : H.sampleOk s ≡ true
   unfolding E.eventNumber
-  event-sample = and-right (H.eventOk e) (H.sampleOk s) (not-false (H.eventOk e && H.sampleOk s) (none _ _ _ _ _ N .argument-fine))
+  event-sample = and-right (H.eventOk e) (H.sampleOk s) (not-false (H.eventOk e && H.sampleOk s) (no-row m p e s acked N .1 .argument-fine))
 
   acked-up : m .totals .acked ≤ s .totals .acked
   unfolding E.eventNumber
-  acked-up = ltb-false _ _ (or-left (ltb (s .totals .acked) (m .totals .acked)) (ltb (s .totals .lost) (m .totals .lost)) (none _ _ _ _ _ N .no-lower))
+  acked-up = ltb-false _ _ (or-left (ltb (s .totals .acked) (m .totals .acked)) (ltb (s .totals .lost) (m .totals .lost)) (no-row m p e s acked N .1 .no-lower))
 
   lost-up : m .totals .lost ≤ s .totals .lost
   unfolding E.eventNumber
-  lost-up = ltb-false _ _ (or-right (ltb (s .totals .acked) (m .totals .acked)) (ltb (s .totals .lost) (m .totals .lost)) (none _ _ _ _ _ N .no-lower))
+  lost-up = ltb-false _ _ (or-right (ltb (s .totals .acked) (m .totals .acked)) (ltb (s .totals .lost) (m .totals .lost)) (no-row m p e s acked N .1 .no-lower))
 
   abbrev after : CongestionEvent
   after = E.eventNext m e s acked

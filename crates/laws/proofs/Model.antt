@@ -19,7 +19,7 @@ use Rattle.state.specs.declared.parts.Totals.{Totals}
 use Rattle.state.specs.Bounds.{bytesOk, bytesOrUnsetOk, totalOk, lengthOk, fractionOk, gainOk, bandwidthOk, maybeOk, momentOk}
 use Rattle.state.specs.Params.{betaOk, thresholdOk, paramsOk}
 use Rattle.state.specs.Parts.{roundOk, lowerOk, roundNew, roundSent, lowerCapped}
-use Rattle.state.specs.NetworkModel.{maxbwOk, modelTests, modelOk, withMaxbw, withRounds, withRound, withLower, withGrowth, withMoment, withHigh, withGains, withMinrtt, growthRestarted, modelNew, startNumber, storedNumber, givenNumber, restartNext, capNext, clearInflightNext, clearBandwidthNext, advanceNext}
+use Rattle.state.specs.NetworkModel.{maxbwOk, modelTests, modelOk, withMaxbw, withRounds, withRound, withLower, withGrowth, withMoment, withBegun, withHigh, withGains, withMinrtt, growthRestarted, modelNew, startNumber, storedNumber, givenNumber, restartNext, capNext, clearInflightNext, clearBandwidthNext, advanceNext}
 use Rattle.state.specs.declared.params.Params.{Params}
 use Rattle.changes.specs.Changes.{sentNumber, sentNext, reachedNext, pacingNext, cwndNext, postponed, postponeNumber, postponeNext}
 use Rattle.state.proofs.Rows.{and-left, and-right, and-both, all-at, all-put, row-stored, row-argument}
@@ -124,7 +124,7 @@ unfolding givenNumber
 given-fine m fine h = row-argument (not (modelOk m)) fine false false false h
 
 pub sent-kept : (m : NetworkModel) (now : Moment) (inflight packet bytes : ℕ) → sentNumber m now inflight bytes ≡ 0 → modelOk (sentNext m now inflight packet bytes) ≡ true
-unfolding sentNumber modelTests sentNext withMoment withRounds withRound roundSent roundOk
+unfolding sentNumber modelTests sentNext withMoment withBegun withRounds withRound roundSent roundOk
 sent-kept m now inflight packet bytes done =
     let given = momentOk now && bytesOk inflight && bytesOk bytes in
     let h = row-stored (modelOk m) (not given) (isBefore now (m .moment)) false false done in

@@ -12,7 +12,7 @@ use Rattle.filters.specs.Reason.{windowedReason}
 use Rattle.filters.specs.WindowedFilter.{isAfter, windowedNumber, windowedUpdate}
 use Rattle.state.specs.Answers.{settled}
 use Rattle.state.specs.declared.refusals.Rows.{Rows}
-use Rattle.state.specs.Refusals.{isFullCounter, rowOf, lowest}
+use Rattle.state.specs.Refusals.{isFullCounter, rowOf, askedOf, firstOf}
 use Rattle.state.specs.NetworkModel.{startNumber, startModel, storedNumber, givenNumber, headroomNumber}
 use Rattle.changes.specs.Changes.{sentNumber, postponeNumber}
 use Rattle.state.proofs.Rows.{None}
@@ -23,69 +23,80 @@ use Rattle.phases.specs.Phases.{entryNumber, exitNumber, slopeNumber}
 use Rattle.laws.specs.Replies.{Exactly, Answered, EveryAnswer, EveryChange, EveryEvent, EveryPhase, EveryFilter, EveryReply}
 use Rattle.laws.proofs.Contracts.{settled-both}
 
--- ---- refusal n is given exactly when row n holds and no lower row does
-abbrev Row : ℕ → Bool → Bool → Bool → Bool → Bool → Type 0
-Row zero s a e l f = None s a e l f
-Row (suc zero) s a e l f = s ≡ true
-Row (suc (suc zero)) s a e l f = (s ≡ false) × (a ≡ true)
-Row (suc (suc (suc zero))) s a e l f = (s ≡ false) × (a ≡ false) × (e ≡ true)
-Row (suc (suc (suc (suc zero)))) s a e l f = (s ≡ false) × (a ≡ false) × (e ≡ false) × (l ≡ true)
-Row (suc (suc (suc (suc (suc zero))))) s a e l f = (s ≡ false) × (a ≡ false) × (e ≡ false) × (l ≡ false) × (f ≡ true)
-Row (suc (suc (suc (suc (suc (suc n)))))) s a e l f = ⊥
+-- ---- refusal n is given exactly when row n holds and none that is asked before it does
+abbrev Row : ℕ → Bool → Bool → Bool → Bool → Bool → Bool → Type 0
+Row zero s a e l u f = (u ≡ false) × None s a e l f
+Row (suc zero) s a e l u f = s ≡ true
+Row (suc (suc zero)) s a e l u f = (s ≡ false) × (a ≡ true)
+Row (suc (suc (suc zero))) s a e l u f = (s ≡ false) × (a ≡ false) × (e ≡ true)
+Row (suc (suc (suc (suc zero)))) s a e l u f = (s ≡ false) × (a ≡ false) × (e ≡ false) × (l ≡ true)
+Row (suc (suc (suc (suc (suc zero))))) s a e l u f = (s ≡ false) × (a ≡ false) × (e ≡ false) × (l ≡ false) × (u ≡ false) × (f ≡ true)
+-- 10, and none of the others
+Row (suc (suc (suc (suc (suc (suc n)))))) s a e l u f = (n ≡ 4) × (s ≡ false) × (a ≡ false) × (e ≡ false) × (l ≡ false) × (u ≡ true)
 
-row-holds : (s a e l f : Bool) → Row (rowOf s a e l f) s a e l f
+row-holds : (s a e l u f : Bool) → Row (askedOf s a e l u f) s a e l u f
 unfolding rowOf
-row-holds true a e l f = refl
-row-holds false true e l f = (refl, refl)
-row-holds false false true l f = (refl, refl, refl)
-row-holds false false false true f = (refl, refl, refl, refl)
-row-holds false false false false true = (refl, refl, refl, refl, refl)
-row-holds false false false false false = record { stored-fine = refl; argument-fine = refl; in-order = refl; no-lower = refl; not-full = refl }
+row-holds true a e l true f = refl
+row-holds true a e l false f = refl
+row-holds false true e l true f = (refl, refl)
+row-holds false true e l false f = (refl, refl)
+row-holds false false true l true f = (refl, refl, refl)
+row-holds false false true l false f = (refl, refl, refl)
+row-holds false false false true true f = (refl, refl, refl, refl)
+row-holds false false false true false f = (refl, refl, refl, refl)
+row-holds false false false false true f = (refl, refl, refl, refl, refl, refl)
+row-holds false false false false false true = (refl, refl, refl, refl, refl, refl)
+row-holds false false false false false false = (refl, record { stored-fine = refl; argument-fine = refl; in-order = refl; no-lower = refl; not-full = refl })
 
-row-only : (n : ℕ) (s a e l f : Bool) → Row n s a e l f → rowOf s a e l f ≡ n
+row-only : (n : ℕ) (s a e l u f : Bool) → Row n s a e l u f → askedOf s a e l u f ≡ n
 unfolding rowOf
-row-only zero s a e l f h = simp (h .stored-fine, h .argument-fine, h .in-order, h .no-lower, h .not-full)
-row-only (suc zero) s a e l f h = simp h
-row-only (suc (suc zero)) s a e l f h = simp (h .0, h .1)
-row-only (suc (suc (suc zero))) s a e l f h = simp (h .0, h .1, h .2)
-row-only (suc (suc (suc (suc zero)))) s a e l f h = simp (h .0, h .1, h .2, h .3)
-row-only (suc (suc (suc (suc (suc zero))))) s a e l f h = simp (h .0, h .1, h .2, h .3, h .4)
-row-only (suc (suc (suc (suc (suc (suc n)))))) s a e l f h = absurd h
+row-only zero s a e l u f h = simp (h .0, h .1 .stored-fine, h .1 .argument-fine, h .1 .in-order, h .1 .no-lower, h .1 .not-full)
+row-only (suc zero) s a e l true f h = simp h
+row-only (suc zero) s a e l false f h = simp h
+row-only (suc (suc zero)) s a e l true f h = simp (h .0, h .1)
+row-only (suc (suc zero)) s a e l false f h = simp (h .0, h .1)
+row-only (suc (suc (suc zero))) s a e l true f h = simp (h .0, h .1, h .2)
+row-only (suc (suc (suc zero))) s a e l false f h = simp (h .0, h .1, h .2)
+row-only (suc (suc (suc (suc zero)))) s a e l true f h = simp (h .0, h .1, h .2, h .3)
+row-only (suc (suc (suc (suc zero)))) s a e l false f h = simp (h .0, h .1, h .2, h .3)
+row-only (suc (suc (suc (suc (suc zero))))) s a e l u f h = simp (h .0, h .1, h .2, h .3, h .4, h .5)
+row-only (suc (suc (suc (suc (suc (suc n)))))) s a e l u f h = simp (h .0, h .1, h .2, h .3, h .4, h .5)
 
 -- ---- the table's number
 module _ (r : Rows) where
   abbrev Of : ℕ → Type 0
-  Of k = Row k (r .stored) (r .argument) (r .earlier) (r .lower) (r .full)
+  Of k = Row k (r .stored) (r .argument) (r .earlier) (r .lower) (r .unsent) (r .full)
 
-  given : (n k : ℕ) → n ≡ lowest r → n ≡ k → Of k
-  given n k p h = subst Of (sym p ∙ h) (row-holds (r .stored) (r .argument) (r .earlier) (r .lower) (r .full))
+  given : (n k : ℕ) → n ≡ firstOf r → n ≡ k → Of k
+  given n k p h = subst Of (sym p ∙ h) (row-holds (r .stored) (r .argument) (r .earlier) (r .lower) (r .unsent) (r .full))
 
-  only : (n k : ℕ) → n ≡ lowest r → Of k → n ≡ k
-  only n k p h = p ∙ row-only k (r .stored) (r .argument) (r .earlier) (r .lower) (r .full) h
+  only : (n k : ℕ) → n ≡ firstOf r → Of k → n ≡ k
+  only n k p h = p ∙ row-only k (r .stored) (r .argument) (r .earlier) (r .lower) (r .unsent) (r .full) h
 
-  pub exactly : (n : ℕ) → n ≡ lowest r → Exactly n r
+  pub exactly : (n : ℕ) → n ≡ firstOf r → Exactly n r
   exactly n p =
       record {
-        is0 = (λ h. let z = given n 0 p h in (z .stored-fine, z .argument-fine, z .in-order, z .no-lower, z .not-full), λ h. only n 0 p (record { stored-fine = h .0; argument-fine = h .1; in-order = h .2; no-lower = h .3; not-full = h .4 }));
+        is0 = (λ h. let z = given n 0 p h in (z .1 .stored-fine, z .1 .argument-fine, z .1 .in-order, z .1 .no-lower, z .0, z .1 .not-full), λ h. only n 0 p (h .4, record { stored-fine = h .0; argument-fine = h .1; in-order = h .2; no-lower = h .3; not-full = h .5 }));
         is1 = (given n 1 p, only n 1 p);
         is2 = (given n 2 p, only n 2 p);
         is3 = (given n 3 p, only n 3 p);
         is4 = (given n 4 p, only n 4 p);
+        is10 = (λ h. let z = given n 10 p h in (z .1, z .2, z .3, z .4, z .5), λ h. only n 10 p (refl, h .0, h .1, h .2, h .3, h .4));
         is5 = (given n 5 p, only n 5 p);
       }
 
 -- ---- a contract says a reply's number by its rows, and what is left by that number
-pub answered : {A : Type 0} {reply : Reply} {got next old : A} (r : Rows) → number reply ≡ lowest r → got ≡ settled (lowest r) next old → Answered reply r got next old
+pub answered : {A : Type 0} {reply : Reply} {got next old : A} (r : Rows) → number reply ≡ firstOf r → got ≡ settled (firstOf r) next old → Answered reply r got next old
 unfolding settled
 answered {A} {reply} {got} {next} {old} r p q =
     record {
       row = exactly r (number reply) p;
-      done = λ h. q ∙ simp (eq-eqb (lowest r) 0 (sym p ∙ h));
-      refused = λ h. q ∙ simp (ne-eqb (lowest r) 0 (λ z. h (p ∙ z)));
+      done = λ h. q ∙ simp (eq-eqb (firstOf r) 0 (sym p ∙ h));
+      refused = λ h. q ∙ simp (ne-eqb (firstOf r) 0 (λ z. h (p ∙ z)));
     }
 
-pub answered-both : {X Y : Type 0} {reply : Reply} {a x x′ : X} {b y y′ : Y} (r : Rows) → number reply ≡ lowest r → a ≡ settled (lowest r) x x′ → b ≡ settled (lowest r) y y′ → Answered {A = X × Y} reply r (a, b) (x, y) (x′, y′)
-answered-both {X} {Y} {reply} {a} {x} {x′} {b} {y} {y′} r p q t = answered r p (settled-both (lowest r) a x x′ b y y′ q t)
+pub answered-both : {X Y : Type 0} {reply : Reply} {a x x′ : X} {b y y′ : Y} (r : Rows) → number reply ≡ firstOf r → a ≡ settled (firstOf r) x x′ → b ≡ settled (firstOf r) y y′ → Answered {A = X × Y} reply r (a, b) (x, y) (x′, y′)
+answered-both {X} {Y} {reply} {a} {x} {x′} {b} {y} {y′} r p q t = answered r p (settled-both (firstOf r) a x x′ b y y′ q t)
 
 -- ---- the calls
 answers : EveryAnswer

@@ -1,7 +1,8 @@
 -- "Exactly when", call by call. Document 01, "Replies and bounds": "If several refusals apply, the lowest number is
 -- given. A refusal is given exactly when its row holds. Every refusal returns the state unchanged, 0 for a number, no
--- for a yes or no, and an event's record as handed in". Below stands a line for each public call of document 01. It is
--- said of every reply that the call's contract allows. Statements only; proofs/Replies.antt proves them.
+-- for a yes or no, and an event's record as handed in"; document 02, request i: "10, asked after 4 and before 5". Below
+-- stands a line for each public call of document 01. It is said of every reply that the call's contract allows.
+-- Statements only; proofs/Replies.antt proves them.
 --
 -- How to read it. `ℕ` is the whole numbers from 0, `Bool` is yes or no (`true` or `false`), and `Type 0` is the types
 -- and the statements. A `record` is several things or several statements at once, `abbrev` gives a name to what stands
@@ -59,23 +60,28 @@ use Rattle.state.proofs.cycle.Cycle as cycle
 use Rattle.phases.proofs.phases as phases
 
 -- ---- the table: `Rows` has a test for each row. Those of a call are its `..Rows`, beside the call's definition;
--- crates/state/specs/Refusals.antt says each row in document 01's words
+-- crates/state/specs/Refusals.antt says each row in the documents' words
 abbrev pub Holds : Bool → Type 0
 Holds test = test ≡ true
 
 abbrev pub Fails : Bool → Type 0
 Fails test = test ≡ false
 
--- the reply's number n is that of the first row that holds, and 0 exactly where none does
+-- the reply's number n is that of the first row that holds, and 0 exactly where none does. They are asked in this
+-- order: 1, 2, 3, 4, 10, 5
 pub record Exactly (n : ℕ) (r : Rows) : Type 0 where
   pub is0 :
-      n ≡ 0 ↔ Fails (r .stored) × Fails (r .argument) × Fails (r .earlier) × Fails (r .lower) × Fails (r .full)
+      n ≡ 0 ↔ Fails (r .stored) × Fails (r .argument) × Fails (r .earlier) × Fails (r .lower) × Fails (r .unsent)
+      × Fails (r .full)
   pub is1 : n ≡ 1 ↔ Holds (r .stored)
   pub is2 : n ≡ 2 ↔ Fails (r .stored) × Holds (r .argument)
   pub is3 : n ≡ 3 ↔ Fails (r .stored) × Fails (r .argument) × Holds (r .earlier)
   pub is4 : n ≡ 4 ↔ Fails (r .stored) × Fails (r .argument) × Fails (r .earlier) × Holds (r .lower)
+  pub is10 :
+      n ≡ 10 ↔ Fails (r .stored) × Fails (r .argument) × Fails (r .earlier) × Fails (r .lower) × Holds (r .unsent)
   pub is5 :
-      n ≡ 5 ↔ Fails (r .stored) × Fails (r .argument) × Fails (r .earlier) × Fails (r .lower) × Holds (r .full)
+      n ≡ 5 ↔ Fails (r .stored) × Fails (r .argument) × Fails (r .earlier) × Fails (r .lower) × Fails (r .unsent)
+      × Holds (r .full)
 
 -- the reply to a call with such rows, and what it left or answered: `next` where it is done, `old` where it is refused
 pub record Answered {A : Type 0} (reply : Reply) (r : Rows) (got next old : A) : Type 0 where

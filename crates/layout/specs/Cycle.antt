@@ -1,4 +1,4 @@
--- The cycle in words 34 to 49 of the state. Definitions only.
+-- The cycle in words 35 to 50 of the state. Definitions only.
 use Prim.Native.Nat.{ℕ}
 use mathlib.Core.Bool.{Bool, cond}
 use mathlib.Core.List.{List, [], _∷_, _++_}
@@ -26,23 +26,23 @@ phaseOf w = cond (eqb w 0) NotStarted (cond (eqb w 1) Up (cond (eqb w 2) Down (c
 
 -- ---- from words
 abbrev pub stayOf : List ℕ → Stay
-stayOf l = record { phase = phaseOf (word l 34); rounds = word l 37; entered = record { 0 = word l 36 } }
+stayOf l = record { phase = phaseOf (word l 35); rounds = word l 38; entered = record { 0 = word l 37 } }
 
 abbrev pub waitOf : List ℕ → Wait
 waitOf l =
     record {
-      start = record { 0 = word l 35 };
-      rounds = word l 38;
-      length = lengthOf (word l 39) (word l 40);
+      start = record { 0 = word l 36 };
+      rounds = word l 39;
+      length = lengthOf (word l 40) (word l 41);
     }
 
 abbrev pub slopeOf : List ℕ → Slope
 slopeOf l =
     record {
-      rounds = word l 41;
-      bytes = plainOf (word l 42) (word l 43);
-      acked = word l 44;
-      applimited = flagOf (word l 45);
+      rounds = word l 42;
+      bytes = plainOf (word l 43) (word l 44);
+      acked = word l 45;
+      applimited = flagOf (word l 46);
     }
 
 unfoldable pub cycleFrom : List ℕ → Cycle
@@ -51,9 +51,9 @@ cycleFrom l =
       stay = stayOf l;
       wait = waitOf l;
       slope = slopeOf l;
-      advanced = flagOf (word l 46);
-      probing = flagOf (word l 47);
-      last = record { high = flagOf (word l 48); risky = flagOf (word l 49) };
+      advanced = flagOf (word l 47);
+      probing = flagOf (word l 48);
+      last = record { high = flagOf (word l 49); risky = flagOf (word l 50) };
     }
 
 -- ---- into words

@@ -27,7 +27,7 @@ earlyFits l =
     && floatFits (word l 19)
     && floatFits (word l 20)
 
--- words 21 to 33
+-- words 21 to 34
 unfoldable pub lateFits : List ℕ → Bool
 lateFits l =
     flagFits (word l 21)
@@ -35,15 +35,16 @@ lateFits l =
     && flagFits (word l 26)
     && pairFits (word l 27) (word l 28)
     && pairFits (word l 29) (word l 30)
+    && flagFits (word l 34)
 
--- words 34 to 49
+-- words 35 to 50
 unfoldable pub cycleFits : List ℕ → Bool
 cycleFits l =
-    phaseFits (word l 34)
-    && pairFits (word l 39) (word l 40)
-    && pairFits (word l 42) (word l 43)
-    && flagFits (word l 45)
+    phaseFits (word l 35)
+    && pairFits (word l 40) (word l 41)
+    && pairFits (word l 43) (word l 44)
     && flagFits (word l 46)
     && flagFits (word l 47)
     && flagFits (word l 48)
     && flagFits (word l 49)
+    && flagFits (word l 50)

@@ -1,4 +1,4 @@
--- The model in words 0 to 33 of the state. Definitions only.
+-- The model in words 0 to 34 of the state. Definitions only.
 use Prim.Native.Nat.{ℕ}
 use mathlib.Core.List.{List, [], _∷_, _++_}
 use Rattle.filters.specs.declared.max_bandwidth_filter.MaxBandwidthFilter.{MaxBandwidthFilter}
@@ -64,6 +64,7 @@ modelFrom l =
       rates = ratesOf l;
       totals = record { acked = word l 31; lost = word l 32 };
       moment = record { 0 = word l 33 };
+      begun = flagOf (word l 34);
     }
 
 -- ---- into words
@@ -109,4 +110,4 @@ modelWords m =
     ++ flagWord (m .cwndlimited) ∷ growthWords (m .growth)
     ++ ratesWords (m .rates)
     ++ totalsWords (m .totals)
-    ++ m .moment .0 ∷ []
+    ++ m .moment .0 ∷ flagWord (m .begun) ∷ []

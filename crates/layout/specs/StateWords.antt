@@ -1,4 +1,4 @@
--- The state in 50 words, the model's and then the cycle's, and whether words encode one (docs/LAYOUT.md).
+-- The state in 51 words, the model's and then the cycle's, and whether words encode one (docs/LAYOUT.md).
 use Prim.Native.Nat.{ℕ, zero, suc, _+_}
 use mathlib.Core.Bool.{Bool, true, _&&_}
 use mathlib.Core.List.{List, _++_}
@@ -20,4 +20,4 @@ sameWords a b at (suc n) = eqb (getD a at 0) (getD b at 0) && sameWords a b (at 
 
 -- words encode a state where what is read from them is written as they are
 unfoldable pub isState : List ℕ → Bool
-isState w = sameWords (stateWords (modelFrom w) (cycleFrom w)) w 0 50
+isState w = sameWords (stateWords (modelFrom w) (cycleFrom w)) w 0 51

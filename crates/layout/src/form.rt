@@ -1,4 +1,4 @@
-// Whether 50 words encode a state, word by word: only flags, floats, the phase and what may be unset can fail.
+// Whether 51 words encode a state, word by word: only flags, floats, the phase and what may be unset can fail.
 ghost use mathlib.Core.Path.{_≡_};
 ghost use Rattle.layout.specs.Form.{pairFits, floatFits, phaseFits, earlyFits, lateFits, cycleFits};
 ghost use Rattle.layout.specs.StateWords.{isState};
@@ -25,7 +25,7 @@ fn phase_fits(w: u64) -> bool
 }
 
 // Words 0 to 20.
-fn early_fits(n: &[u64; 50]) -> bool
+fn early_fits(n: &[u64; 51]) -> bool
     ensures { λ r. ⌜ r ≡ earlyFits (now (n .entry)) ⌝ }
 {
     pair_fits(n[2], n[3])
@@ -35,8 +35,8 @@ fn early_fits(n: &[u64; 50]) -> bool
         & float_fits(n[20])
 }
 
-// Words 21 to 33.
-fn late_fits(n: &[u64; 50]) -> bool
+// Words 21 to 34.
+fn late_fits(n: &[u64; 51]) -> bool
     ensures { λ r. ⌜ r ≡ lateFits (now (n .entry)) ⌝ }
 {
     flag_fits(n[21])
@@ -44,24 +44,25 @@ fn late_fits(n: &[u64; 50]) -> bool
         & flag_fits(n[26])
         & pair_fits(n[27], n[28])
         & pair_fits(n[29], n[30])
+        & flag_fits(n[34])
 }
 
-// Words 34 to 49.
-fn cycle_fits(n: &[u64; 50]) -> bool
+// Words 35 to 50.
+fn cycle_fits(n: &[u64; 51]) -> bool
     ensures { λ r. ⌜ r ≡ cycleFits (now (n .entry)) ⌝ }
 {
-    phase_fits(n[34])
-        & pair_fits(n[39], n[40])
-        & pair_fits(n[42], n[43])
-        & flag_fits(n[45])
+    phase_fits(n[35])
+        & pair_fits(n[40], n[41])
+        & pair_fits(n[43], n[44])
         & flag_fits(n[46])
         & flag_fits(n[47])
         & flag_fits(n[48])
         & flag_fits(n[49])
+        & flag_fits(n[50])
 }
 
 // Whether the state that the words are read as is written in the same words.
-pub fn is_state(words: &[u64; 50]) -> bool
+pub fn is_state(words: &[u64; 51]) -> bool
     ensures { λ r. ⌜ r ≡ isState (now (words .entry)) ⌝ }
 {
     early_fits(words) & late_fits(words) & cycle_fits(words)

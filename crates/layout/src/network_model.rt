@@ -1,4 +1,4 @@
-// The model: words 0 to 33 of the state.
+// The model: words 0 to 34 of the state.
 ghost use mathlib.Core.Path.{_≡_};
 ghost use mathlib.Core.List.{[], _∷_, _++_};
 ghost use lib.Seq.{sets};
@@ -29,7 +29,7 @@ use words::word::float_word;
 // ---- from words
 
 // The model in the state's words.
-pub fn model_from(n: &[u64; 50]) -> NetworkModel
+pub fn model_from(n: &[u64; 51]) -> NetworkModel
     ensures { λ r. ⌜ r ≡ modelFrom (now (n .entry)) ⌝ }
 {
     NetworkModel {
@@ -58,10 +58,11 @@ pub fn model_from(n: &[u64; 50]) -> NetworkModel
             lost: n[32],
         },
         moment: Moment(n[33]),
+        begun: n[34] == 1,
     }
 }
 
-fn rounds_of(n: &[u64; 50]) -> RoundTripCounter
+fn rounds_of(n: &[u64; 51]) -> RoundTripCounter
     ensures { λ r. ⌜ r ≡ roundsOf (now (n .entry)) ⌝ }
 {
     RoundTripCounter {
@@ -71,7 +72,7 @@ fn rounds_of(n: &[u64; 50]) -> RoundTripCounter
     }
 }
 
-fn round_of(n: &[u64; 50]) -> Round
+fn round_of(n: &[u64; 51]) -> Round
     ensures { λ r. ⌜ r ≡ roundOf (now (n .entry)) ⌝ }
 {
     Round {
@@ -83,7 +84,7 @@ fn round_of(n: &[u64; 50]) -> Round
     }
 }
 
-fn lower_of(n: &[u64; 50]) -> Lower
+fn lower_of(n: &[u64; 51]) -> Lower
     ensures { λ r. ⌜ r ≡ lowerOf (now (n .entry)) ⌝ }
 {
     Lower {
@@ -92,7 +93,7 @@ fn lower_of(n: &[u64; 50]) -> Lower
     }
 }
 
-fn gains_of(n: &[u64; 50]) -> Gains
+fn gains_of(n: &[u64; 51]) -> Gains
     ensures { λ r. ⌜ r ≡ gainsOf (now (n .entry)) ⌝ }
 {
     Gains {
@@ -101,7 +102,7 @@ fn gains_of(n: &[u64; 50]) -> Gains
     }
 }
 
-fn growth_of(n: &[u64; 50]) -> Growth
+fn growth_of(n: &[u64; 51]) -> Growth
     ensures { λ r. ⌜ r ≡ growthOf (now (n .entry)) ⌝ }
 {
     Growth {
@@ -113,7 +114,7 @@ fn growth_of(n: &[u64; 50]) -> Growth
     }
 }
 
-fn rates_of(n: &[u64; 50]) -> Rates
+fn rates_of(n: &[u64; 51]) -> Rates
     ensures { λ r. ⌜ r ≡ ratesOf (now (n .entry)) ⌝ }
 {
     Rates {
@@ -125,7 +126,7 @@ fn rates_of(n: &[u64; 50]) -> Rates
 // ---- into words
 
 // The state's words with the model's put in.
-pub(crate) fn with_model(n: [u64; 50], model: NetworkModel) -> [u64; 50]
+pub(crate) fn with_model(n: [u64; 51], model: NetworkModel) -> [u64; 51]
     ensures { λ r. ⌜ r ≡ sets n 0 (modelWords model) ⌝ }
 {
     let rounds = model.rounds;
@@ -142,10 +143,10 @@ pub(crate) fn with_model(n: [u64; 50], model: NetworkModel) -> [u64; 50]
     let filtered = with_filters(with_rounds(n, rounds), most, least);
     let bounded = with_bounds(with_round(filtered, round), latest, lower, model.high);
     let grown = with_growth(with_gains(bounded, gains, model.cwndlimited), growth);
-    with_totals(with_rates(grown, rates), totals, moment)
+    with_totals(with_rates(grown, rates), totals, moment, model.begun)
 }
 
-fn with_rounds(n: [u64; 50], rounds: RoundTripCounter) -> [u64; 50]
+fn with_rounds(n: [u64; 51], rounds: RoundTripCounter) -> [u64; 51]
     ensures { λ r. ⌜ r ≡ sets n 0 (roundsWords rounds) ⌝ }
 {
     let end = rounds.end;
@@ -158,7 +159,7 @@ fn with_rounds(n: [u64; 50], rounds: RoundTripCounter) -> [u64; 50]
     next
 }
 
-fn with_filters(n: [u64; 50], most: MaxBandwidthFilter, least: MinRttFilter) -> [u64; 50]
+fn with_filters(n: [u64; 51], most: MaxBandwidthFilter, least: MinRttFilter) -> [u64; 51]
     ensures { λ r. ⌜ r ≡ sets n 4 (maxbwWords most ++ minrttWords least) ⌝ }
 {
     let mut next = n;
@@ -169,7 +170,7 @@ fn with_filters(n: [u64; 50], most: MaxBandwidthFilter, least: MinRttFilter) -> 
     next
 }
 
-fn with_round(n: [u64; 50], round: Round) -> [u64; 50]
+fn with_round(n: [u64; 51], round: Round) -> [u64; 51]
     ensures { λ r. ⌜ r ≡ sets n 8 (roundWords round) ⌝ }
 {
     let mut next = n;
@@ -181,7 +182,7 @@ fn with_round(n: [u64; 50], round: Round) -> [u64; 50]
     next
 }
 
-fn with_bounds(n: [u64; 50], latest: Latest, lower: Lower, high: u64) -> [u64; 50]
+fn with_bounds(n: [u64; 51], latest: Latest, lower: Lower, high: u64) -> [u64; 51]
     ensures { λ r. ⌜ r ≡ sets n 13 (latestWords latest ++ lowerWords lower ++ high ∷ []) ⌝ }
 {
     let bandwidth = lower.bandwidth;
@@ -196,7 +197,7 @@ fn with_bounds(n: [u64; 50], latest: Latest, lower: Lower, high: u64) -> [u64; 5
     next
 }
 
-fn with_gains(n: [u64; 50], gains: Gains, limited: bool) -> [u64; 50]
+fn with_gains(n: [u64; 51], gains: Gains, limited: bool) -> [u64; 51]
     ensures { λ r. ⌜ r ≡ sets n 19 (gainsWords gains ++ flagWord limited ∷ []) ⌝ }
 {
     let mut next = n;
@@ -206,7 +207,7 @@ fn with_gains(n: [u64; 50], gains: Gains, limited: bool) -> [u64; 50]
     next
 }
 
-fn with_growth(n: [u64; 50], growth: Growth) -> [u64; 50]
+fn with_growth(n: [u64; 51], growth: Growth) -> [u64; 51]
     ensures { λ r. ⌜ r ≡ sets n 22 (growthWords growth) ⌝ }
 {
     let mut next = n;
@@ -218,7 +219,7 @@ fn with_growth(n: [u64; 50], growth: Growth) -> [u64; 50]
     next
 }
 
-fn with_rates(n: [u64; 50], rates: Rates) -> [u64; 50]
+fn with_rates(n: [u64; 51], rates: Rates) -> [u64; 51]
     ensures { λ r. ⌜ r ≡ sets n 27 (ratesWords rates) ⌝ }
 {
     let send = rates.send;
@@ -233,12 +234,13 @@ fn with_rates(n: [u64; 50], rates: Rates) -> [u64; 50]
     next
 }
 
-fn with_totals(n: [u64; 50], totals: Totals, moment: Moment) -> [u64; 50]
-    ensures { λ r. ⌜ r ≡ sets n 31 (totalsWords totals ++ moment .0 ∷ []) ⌝ }
+fn with_totals(n: [u64; 51], totals: Totals, moment: Moment, begun: bool) -> [u64; 51]
+    ensures { λ r. ⌜ r ≡ sets n 31 (totalsWords totals ++ moment .0 ∷ flagWord begun ∷ []) ⌝ }
 {
     let mut next = n;
     next[31] = totals.acked;
     next[32] = totals.lost;
     next[33] = moment.0;
+    next[34] = flag_word(begun);
     next
 }

@@ -9,8 +9,8 @@ use state::Cycle;
 use state::NetworkModel;
 
 // All words of a state.
-pub fn state_words(model: NetworkModel, cycle: Cycle) -> [u64; 50]
+pub fn state_words(model: NetworkModel, cycle: Cycle) -> [u64; 51]
     ensures { λ r. ⌜ r ≡ modelWords model ++ cycleWords cycle ⌝ }
 {
-    with_cycle(with_model([0; 50], model), cycle)
+    with_cycle(with_model([0; 51], model), cycle)
 }

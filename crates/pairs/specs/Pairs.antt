@@ -12,7 +12,7 @@ use Rattle.units.specs.declared.maybe.MaybeNumber.the-variants as Number
 use Rattle.filters.specs.declared.windowed_filter.WindowedFilter.{WindowedFilter}
 use Rattle.filters.specs.Reason.{reasonNumber, windowedReason}
 use Rattle.filters.specs.WindowedFilter.{windowedNew, windowedNumber, windowedUpdate, bestOf, secondOf, thirdOf}
-use Rattle.state.specs.Refusals.{noRows, argument, earlier, lowest, orShort}
+use Rattle.state.specs.Refusals.{noRows, argument, earlier, firstOf, orShort}
 use Rattle.words.specs.Words.{wordAt}
 
 -- how many pairs there are: a pair has 16 bytes
@@ -54,4 +54,4 @@ unfoldable pub runRow : (window : ℕ) (src : List ℕ) (room : ℕ) → ℕ
 runRow window src room =
     let uneven = not (eqb (length src % 16) 0) in
     let refused = refuses (windowedNew window) src 0 (pairs src) in
-    orShort (lowest (argument uneven (earlier refused noRows))) (ltb room (32 * pairs src))
+    orShort (firstOf (argument uneven (earlier refused noRows))) (ltb room (32 * pairs src))

@@ -8,7 +8,7 @@ use Rattle.state.specs.declared.network_model.NetworkModel.{NetworkModel}
 use Rattle.state.specs.declared.params.Params.{Params}
 use Rattle.state.specs.declared.refusals.Rows.{Rows}
 use Rattle.state.specs.Bounds.{bytesOk, momentOk}
-use Rattle.state.specs.Refusals.{noRows, stored, argument, earlier, lowest}
+use Rattle.state.specs.Refusals.{noRows, stored, argument, earlier, firstOf}
 use Rattle.state.specs.NetworkModel.{modelOk, withMoment, restartNext, capNext, clearInflightNext, clearBandwidthNext, advanceNext}
 use Rattle.state.specs.Params.{paramsOk}
 use Rattle.state.specs.declared.cycle.Cycle.{Cycle}
@@ -29,7 +29,7 @@ entryRows m c params given now =
     noRows))
 
 unfoldable pub entryNumber : NetworkModel → Cycle → (params given : Bool) → Moment → ℕ
-entryNumber m c params given now = lowest (entryRows m c params given now)
+entryNumber m c params given now = firstOf (entryRows m c params given now)
 
 -- an entry that ends with restart_round_early; "sends, events and phase entries share" the last accepted moment
 unfoldable pub restartedAt : NetworkModel → Moment → NetworkModel
@@ -41,7 +41,7 @@ abbrev pub exitRows : NetworkModel → Cycle → Rows
 exitRows m c = stored (not (modelOk m && cycleOk c)) noRows
 
 unfoldable pub exitNumber : NetworkModel → Cycle → ℕ
-exitNumber m c = lowest (exitRows m c)
+exitNumber m c = firstOf (exitRows m c)
 
 unfoldable pub exitModel : NetworkModel → Cycle → NetworkModel
 exitModel m c = cond (c .advanced) m (advanceNext m)
@@ -77,7 +77,7 @@ abbrev pub slopeRows : Cycle → (window : ℕ) → Rows
 slopeRows c window = stored (not (cycleOk c)) (argument (not (bytesOk window)) noRows)
 
 unfoldable pub slopeNumber : Cycle → ℕ → ℕ
-slopeNumber c window = lowest (slopeRows c window)
+slopeNumber c window = firstOf (slopeRows c window)
 
 unfoldable pub slopeCycle : Cycle → ℕ → Cycle
 slopeCycle c window =

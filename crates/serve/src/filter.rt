@@ -12,7 +12,7 @@ use words::put_words;
 // Words 1 to 3 of the call are the operation and its two numbers, 4 to 11 the filter. The answer is the reply, the reason
 // (0 where it is no update), and the filter after it.
 pub fn answer(call: &[u8], out: &mut [u8])
-    requires { ⌜ (length (now call) ≡ 392) × (length (now out) ≡ 544) ⌝ }
+    requires { ⌜ (length (now call) ≡ 392) × (length (now out) ≡ 552) ⌝ }
 {
     let mut n = [0u64; 12];
     get_words(call, 0, &mut n);

@@ -11,11 +11,11 @@ use words::put_words;
 
 // Call 48: words 1 to 3 are the window, the bytes of pairs and the bytes lent; the pairs stand from word 4 on.
 pub fn filter_run(call: &[u8], answer: &mut [u8])
-    requires { ⌜ (length (now call) ≡ 392) × (length (now answer) ≡ 544) ⌝ }
+    requires { ⌜ (length (now call) ≡ 392) × (length (now answer) ≡ 552) ⌝ }
 {
     let window = get_word(call, 8);
     let pairs_end = 32 + at_most(get_word(call, 16), 272);
-    let lent_end = 16 + at_most(get_word(call, 24), 528);
+    let lent_end = 16 + at_most(get_word(call, 24), 536);
     mark(answer);
     let reply = guovssalu_filter_run(window, &call[32..pairs_end], &mut answer[16..lent_end]);
     put_words(answer, 0, &[reply, 0]);
@@ -23,11 +23,11 @@ pub fn filter_run(call: &[u8], answer: &mut [u8])
 
 // Call 49: words 1 to 3 are the rounds, the window and the bytes lent.
 pub fn slope(call: &[u8], answer: &mut [u8])
-    requires { ⌜ (length (now call) ≡ 392) × (length (now answer) ≡ 544) ⌝ }
+    requires { ⌜ (length (now call) ≡ 392) × (length (now answer) ≡ 552) ⌝ }
 {
     let rounds = get_word(call, 8);
     let window = get_word(call, 16);
-    let lent_end = 16 + at_most(get_word(call, 24), 528);
+    let lent_end = 16 + at_most(get_word(call, 24), 536);
     mark(answer);
     let reply = guovssalu_raise_inflight_high_slope(rounds, window, &mut answer[16..lent_end]);
     put_words(answer, 0, &[reply, 0]);
@@ -35,9 +35,9 @@ pub fn slope(call: &[u8], answer: &mut [u8])
 
 // Every byte of the memory is 165 before the call.
 fn mark(answer: &mut [u8])
-    requires { ⌜ length (now answer) ≡ 544 ⌝ }
+    requires { ⌜ length (now answer) ≡ 552 ⌝ }
 {
-    let marks = [165u8; 528];
+    let marks = [165u8; 536];
     copy(&marks, answer, 16);
 }
 

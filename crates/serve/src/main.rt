@@ -14,12 +14,12 @@ use libc::STDOUT_FILENO;
 use words::get_word;
 
 // Reads a frame and writes its answers, or where its first call asks for that, two sums of them; whether there was one.
-fn serve_frame(request: &mut [u8; 39_600], answers: &mut [u8; 54_400]) -> bool {
-    if io::read_full(STDIN_FILENO, request) < 39_600 {
+fn serve_frame(request: &mut [u8; 39_608], answers: &mut [u8; 55_200]) -> bool {
+    if io::read_full(STDIN_FILENO, request) < 39_608 {
         return false;
     }
     frame::answer(request, answers);
-    if get_word(request, 400) == 98 {
+    if get_word(request, 408) == 98 {
         return io::write_all(STDOUT_FILENO, &sums::sums(answers));
     }
     io::write_all(STDOUT_FILENO, answers)
@@ -27,8 +27,8 @@ fn serve_frame(request: &mut [u8; 39_600], answers: &mut [u8; 54_400]) -> bool {
 
 // A proved loop has to end, and nothing says that the input does: it stops after 2^40 frames, which no run reaches.
 fn main() {
-    let mut request = [0u8; 39_600];
-    let mut answers = [0u8; 54_400];
+    let mut request = [0u8; 39_608];
+    let mut answers = [0u8; 55_200];
     for _ in 0u64..1_099_511_627_776 {
         if !serve_frame(&mut request, &mut answers) {
             return;

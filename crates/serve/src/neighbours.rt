@@ -13,7 +13,7 @@ use words::put_words;
 
 // Words 1 to 3 of the call are the function, the first number and the other number. The answers are words 2 to 65.
 pub fn answer(call: &[u8], out: &mut [u8])
-    requires { ⌜ (length (now call) ≡ 392) × (length (now out) ≡ 544) ⌝ }
+    requires { ⌜ (length (now call) ≡ 392) × (length (now out) ≡ 552) ⌝ }
 {
     let function = get_word(call, 8);
     let first = get_word(call, 16);
@@ -21,8 +21,8 @@ pub fn answer(call: &[u8], out: &mut [u8])
     put_words(out, 0, &answers(function, first, other));
 }
 
-fn answers(function: u64, first: u64, other: u64) -> [u64; 68] {
-    let mut words = [0u64; 68];
+fn answers(function: u64, first: u64, other: u64) -> [u64; 69] {
+    let mut words = [0u64; 69];
     let mut next = first;
     for i in 2usize..66 {
         words[i] = value(function, next, other);

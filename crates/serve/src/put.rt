@@ -7,7 +7,7 @@ use words::put_word;
 
 // Word 1 of the call is how many words are put, at most 23; after it stand their indices and values by turns.
 pub fn put(state: &mut [u8], call: &[u8])
-    requires { ⌜ (length (now state) ≡ 400) × (length (now call) ≡ 392) ⌝ }
+    requires { ⌜ (length (now state) ≡ 408) × (length (now call) ≡ 392) ⌝ }
 {
     let count = at_most(get_word(call, 8), 23);
     let mut i: usize = 0;
@@ -20,9 +20,9 @@ pub fn put(state: &mut [u8], call: &[u8])
 
 // Puts a word into the state; an index past it is passed over.
 fn put_one(state: &mut [u8], index: u64, value: u64)
-    requires { ⌜ length (now state) ≡ 400 ⌝ }
+    requires { ⌜ length (now state) ≡ 408 ⌝ }
 {
-    if index < 50 {
+    if index < 51 {
         put_word(state, 8 * (index as usize), value);
     }
 }

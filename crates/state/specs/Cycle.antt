@@ -6,7 +6,7 @@ use lib.Dec.{leb}
 use Rattle.units.specs.declared.time.Moment.{Moment}
 use Rattle.state.specs.Answers.{settled, zeroMoment}
 use Rattle.state.specs.Bounds.{all, bytesOk, momentOk}
-use Rattle.state.specs.Refusals.{noRows, argument, lowest}
+use Rattle.state.specs.Refusals.{noRows, argument, firstOf}
 use Rattle.state.specs.declared.cycle.Cycle.{Cycle}
 use Rattle.state.specs.declared.cycle.CyclePhase.{CyclePhase}
 use Rattle.state.specs.declared.cycle.CyclePhase.the-variants.{NotStarted}
@@ -68,7 +68,7 @@ abbrev pub freshRows : Moment → Rows
 freshRows now = argument (not (momentOk now)) noRows
 
 unfoldable pub freshNumber : Moment → ℕ
-freshNumber now = lowest (freshRows now)
+freshNumber now = firstOf (freshRows now)
 
 unfoldable pub freshCycle : Moment → Cycle
 freshCycle now = settled (freshNumber now) (cycleNew now) (cycleNew zeroMoment)

@@ -19,7 +19,7 @@ use Rattle.state.specs.declared.parts.Round.{Round}
 use Rattle.units.specs.declared.maybe.MaybeBandwidth.the-variants.{Unset}
 use Rattle.state.specs.declared.refusals.Rows.{Rows}
 use Rattle.state.specs.Bounds.{bytesOrUnsetOk, momentOk, lengthOk, bandwidthOk, all}
-use Rattle.state.specs.Refusals.{noRows, stored, argument, full, lowest}
+use Rattle.state.specs.Refusals.{noRows, stored, argument, full, firstOf}
 use Rattle.state.specs.Params.{paramsOk}
 use Rattle.state.specs.Parts.{roundOk, latestOk, lowerOk, gainsOk, growthOk, ratesOk, totalsOk, roundNew, lowerCapped}
 use Rattle.filters.specs.declared.round_trip_counter.RoundTripCounter.{RoundTripCounter}
@@ -71,6 +71,7 @@ withRounds m x =
       rates = m .rates;
       totals = m .totals;
       moment = m .moment;
+      begun = m .begun;
     }
 
 unfoldable pub withMaxbw : NetworkModel → MaxBandwidthFilter → NetworkModel
@@ -89,6 +90,7 @@ withMaxbw m x =
       rates = m .rates;
       totals = m .totals;
       moment = m .moment;
+      begun = m .begun;
     }
 
 unfoldable pub withMinrtt : NetworkModel → MinRttFilter → NetworkModel
@@ -107,6 +109,7 @@ withMinrtt m x =
       rates = m .rates;
       totals = m .totals;
       moment = m .moment;
+      begun = m .begun;
     }
 
 unfoldable pub withRound : NetworkModel → Round → NetworkModel
@@ -125,6 +128,7 @@ withRound m x =
       rates = m .rates;
       totals = m .totals;
       moment = m .moment;
+      begun = m .begun;
     }
 
 unfoldable pub withLower : NetworkModel → Lower → NetworkModel
@@ -143,6 +147,7 @@ withLower m x =
       rates = m .rates;
       totals = m .totals;
       moment = m .moment;
+      begun = m .begun;
     }
 
 unfoldable pub withHigh : NetworkModel → ℕ → NetworkModel
@@ -161,6 +166,7 @@ withHigh m x =
       rates = m .rates;
       totals = m .totals;
       moment = m .moment;
+      begun = m .begun;
     }
 
 unfoldable pub withGains : NetworkModel → Gains → NetworkModel
@@ -179,6 +185,7 @@ withGains m x =
       rates = m .rates;
       totals = m .totals;
       moment = m .moment;
+      begun = m .begun;
     }
 
 unfoldable pub withGrowth : NetworkModel → Growth → NetworkModel
@@ -197,6 +204,7 @@ withGrowth m x =
       rates = m .rates;
       totals = m .totals;
       moment = m .moment;
+      begun = m .begun;
     }
 
 unfoldable pub withMoment : NetworkModel → Moment → NetworkModel
@@ -215,9 +223,29 @@ withMoment m x =
       rates = m .rates;
       totals = m .totals;
       moment = x;
+      begun = m .begun;
     }
 
--- ---- start: BBRv2NetworkModel::new
+unfoldable pub withBegun : NetworkModel → Bool → NetworkModel
+withBegun m x =
+    record {
+      rounds = m .rounds;
+      maxbw = m .maxbw;
+      minrtt = m .minrtt;
+      round = m .round;
+      latest = m .latest;
+      lower = m .lower;
+      high = m .high;
+      gains = m .gains;
+      cwndlimited = m .cwndlimited;
+      growth = m .growth;
+      rates = m .rates;
+      totals = m .totals;
+      moment = m .moment;
+      begun = x;
+    }
+
+-- ---- start: BBRv2NetworkModel::new. Nothing was sent yet
 unfoldable pub modelNew : Float → Float → Bool → Duration → Moment → NetworkModel
 modelNew cwnd pacing ignore rtt now =
     record {
@@ -234,13 +262,14 @@ modelNew cwnd pacing ignore rtt now =
       rates = record { send = Unset; ack = Unset };
       totals = record { acked = 0; lost = 0 };
       moment = now;
+      begun = false;
     }
 
 abbrev pub startRows : Params → Duration → Moment → Rows
 startRows p rtt now = stored (not (paramsOk p)) (argument (not (lengthOk rtt && momentOk now)) noRows)
 
 unfoldable pub startNumber : Params → Duration → Moment → ℕ
-startNumber p rtt now = lowest (startRows p rtt now)
+startNumber p rtt now = firstOf (startRows p rtt now)
 
 -- "it returns a fresh one at moment 0 with round trip 0, both gains 1 and the app-limited option off"
 abbrev pub one : Float
@@ -257,14 +286,14 @@ abbrev pub storedRows : NetworkModel → Rows
 storedRows m = stored (not (modelOk m)) noRows
 
 unfoldable pub storedNumber : NetworkModel → ℕ
-storedNumber m = lowest (storedRows m)
+storedNumber m = firstOf (storedRows m)
 
 -- one that is given something, of which `fine` says whether it is within its bounds
 abbrev pub givenRows : NetworkModel → (fine : Bool) → Rows
 givenRows m fine = stored (not (modelOk m)) (argument (not fine) noRows)
 
 unfoldable pub givenNumber : NetworkModel → Bool → ℕ
-givenNumber m fine = lowest (givenRows m fine)
+givenNumber m fine = firstOf (givenRows m fine)
 
 -- one that takes the parameters; `rises` says whether its rule adds 1 to a counter that is 2^64 - 1
 abbrev pub judgedRows : NetworkModel → Params → (fine rises : Bool) → Rows
@@ -272,7 +301,7 @@ judgedRows m p fine rises = stored (not (modelOk m && paramsOk p)) (argument (no
 
 -- inflight_hi_with_headroom, which takes the parameters alone
 unfoldable pub headroomNumber : NetworkModel → Params → ℕ
-headroomNumber m p = lowest (judgedRows m p true false)
+headroomNumber m p = firstOf (judgedRows m p true false)
 
 -- ---- restart_round_early: the round's sums begin anew, its end is the last sent number, rounds_with_queueing is 0
 unfoldable pub growthRestarted : Growth → Growth

@@ -1,5 +1,6 @@
--- document 01, "Replies and bounds": the table of refusals. A call says by name which of its rows hold (`Rows`,
--- src/refusals.rt), and the lowest of them is its reply's number.
+-- document 01, "Replies and bounds": the table of refusals, with the row that document 02 adds. A call says by name
+-- which of its rows hold (`Rows`, src/refusals.rt), and the first of them, in the order in which they are asked, is its
+-- reply's number.
 use Prim.Native.Nat.{ℕ, _-_, _^_}
 use mathlib.Core.Bool.{Bool, false, cond, _&&_}
 use lib.Dec.{eqb}
@@ -7,28 +8,69 @@ use Rattle.state.specs.declared.refusals.Rows.{Rows}
 
 -- a call has only some of the rows; the others never hold
 abbrev pub noRows : Rows
-noRows = record { stored = false; argument = false; earlier = false; lower = false; full = false }
+noRows = record { stored = false; argument = false; earlier = false; lower = false; unsent = false; full = false }
 
 -- row 1: "a stored number or a parameter is outside the bounds below"
 abbrev pub stored : Bool → Rows → Rows
 stored holds r =
-    record { stored = holds; argument = r .argument; earlier = r .earlier; lower = r .lower; full = r .full }
+    record {
+      stored = holds;
+      argument = r .argument;
+      earlier = r .earlier;
+      lower = r .lower;
+      unsent = r .unsent;
+      full = r .full;
+    }
 
 -- row 2: "an argument is outside its bounds, a byte list has a wrong length, or a postponed moment would exceed 2^62"
 abbrev pub argument : Bool → Rows → Rows
 argument holds r =
-    record { stored = r .stored; argument = holds; earlier = r .earlier; lower = r .lower; full = r .full }
+    record {
+      stored = r .stored;
+      argument = holds;
+      earlier = r .earlier;
+      lower = r .lower;
+      unsent = r .unsent;
+      full = r .full;
+    }
 
 -- row 3: "the moment given is earlier than the last accepted one; for the windowed filter, earlier than any of its
 -- three stored times"
 abbrev pub earlier : Bool → Rows → Rows
 earlier holds r =
-    record { stored = r .stored; argument = r .argument; earlier = holds; lower = r .lower; full = r .full }
+    record {
+      stored = r .stored;
+      argument = r .argument;
+      earlier = holds;
+      lower = r .lower;
+      unsent = r .unsent;
+      full = r .full;
+    }
 
 -- row 4: "the total acked or the total lost is lower than the one stored"
 abbrev pub lower : Bool → Rows → Rows
 lower holds r =
-    record { stored = r .stored; argument = r .argument; earlier = r .earlier; lower = holds; full = r .full }
+    record {
+      stored = r .stored;
+      argument = r .argument;
+      earlier = r .earlier;
+      lower = holds;
+      unsent = r .unsent;
+      full = r .full;
+    }
+
+-- row 10, document 02, request i: "An event whose acked list holds a number above the last sent one, or any number
+-- before the first send"
+abbrev pub unsent : Bool → Rows → Rows
+unsent holds r =
+    record {
+      stored = r .stored;
+      argument = r .argument;
+      earlier = r .earlier;
+      lower = r .lower;
+      unsent = holds;
+      full = r .full;
+    }
 
 -- row 5: "the call's rule adds 1 to a counter that is 2^64 - 1"
 abbrev pub isFullCounter : ℕ → Bool
@@ -36,7 +78,14 @@ isFullCounter n = eqb n (2 ^ 64 - 1)
 
 abbrev pub full : Bool → Rows → Rows
 full holds r =
-    record { stored = r .stored; argument = r .argument; earlier = r .earlier; lower = r .lower; full = holds }
+    record {
+      stored = r .stored;
+      argument = r .argument;
+      earlier = r .earlier;
+      lower = r .lower;
+      unsent = r .unsent;
+      full = holds;
+    }
 
 -- "If several refusals apply, the lowest number is given"; 0, done, where none does
 unfoldable pub rowOf : (stored argument earlier lower full : Bool) → ℕ
@@ -48,10 +97,16 @@ rowOf stored argument earlier lower full =
     (cond full 5
     0))))
 
-abbrev pub lowest : Rows → ℕ
-lowest r = rowOf (r .stored) (r .argument) (r .earlier) (r .lower) (r .full)
+-- "10, asked after 4 and before 5": where row 10 holds and none of the rows 1 to 4 does, it is 10, whether row 5 holds
+-- or not; otherwise it is the lowest
+abbrev pub askedOf : (stored argument earlier lower unsent full : Bool) → ℕ
+askedOf stored argument earlier lower unsent full =
+    cond (unsent && eqb (rowOf stored argument earlier lower false) 0) 10 (rowOf stored argument earlier lower full)
 
--- row 7, "the lent output is shorter than the answer", after the rows that `lowest` decides: "If several refusals
+abbrev pub firstOf : Rows → ℕ
+firstOf r = askedOf (r .stored) (r .argument) (r .earlier) (r .lower) (r .unsent) (r .full)
+
+-- row 7, "the lent output is shorter than the answer", after the rows that `firstOf` decides: "If several refusals
 -- apply, the lowest number is given"
 unfoldable pub orShort : ℕ → Bool → ℕ
 orShort row short = cond (eqb row 0 && short) 7 row

@@ -45,6 +45,8 @@ pub struct NetworkModel {
     pub totals: Totals,
     // The port's own: the last accepted moment.
     pub moment: Moment,
+    // The port's own: whether a packet was sent since the start.
+    pub begun: bool,
 }
 
 // A call's reply and the model after it.
@@ -143,6 +145,7 @@ impl NetworkModel {
             },
             totals: Totals { acked: 0, lost: 0 },
             moment: now,
+            begun: false,
         }
     }
 

@@ -1,7 +1,8 @@
-// Document 01's table of refusals: which rows of it hold for a call, and the reply that they give.
+// Document 01's table of refusals, with document 02's row 10: which rows of it hold for a call, and the reply that
+// they give.
 ghost use mathlib.Core.Path.{_≡_};
 ghost use Rattle.units.specs.Reply.{number};
-ghost use Rattle.state.specs.Refusals.{lowest, orShort, rowOf};
+ghost use Rattle.state.specs.Refusals.{askedOf, firstOf, orShort};
 use units::Reply;
 
 // For one call, which of the table's rows hold.
@@ -14,6 +15,8 @@ pub struct Rows {
     pub earlier: bool,
     // 4: "the total acked or the total lost is lower than the one stored".
     pub lower: bool,
+    // 10: "An event whose acked list holds a number above the last sent one, or any number before the first send".
+    pub unsent: bool,
     // 5: "the call's rule adds 1 to a counter that is 2^64 - 1".
     pub full: bool,
 }
@@ -25,26 +28,35 @@ impl Rows {
         argument: false,
         earlier: false,
         lower: false,
+        unsent: false,
         full: false,
     };
 }
 
-// The reply with the lowest number among the rows that hold, or `Done`.
+// The reply of the first row that holds, in the order in which they are asked, or `Done`.
 pub fn refusal(rows: Rows) -> Reply
-    ensures { λ r. ⌜ number r ≡ lowest rows ⌝ }
+    ensures { λ r. ⌜ number r ≡ firstOf rows ⌝ }
 {
     row_of(
         rows.stored,
         rows.argument,
         rows.earlier,
         rows.lower,
+        rows.unsent,
         rows.full,
     )
 }
 
 // The same of rows one by one, from which the compiler makes shorter code than from a record.
-fn row_of(stored: bool, argument: bool, earlier: bool, lower: bool, full: bool) -> Reply
-    ensures { λ r. ⌜ number r ≡ rowOf stored argument earlier lower full ⌝ }
+fn row_of(
+    stored: bool,
+    argument: bool,
+    earlier: bool,
+    lower: bool,
+    unsent: bool,
+    full: bool,
+) -> Reply
+    ensures { λ r. ⌜ number r ≡ askedOf stored argument earlier lower unsent full ⌝ }
 {
     if stored {
         return Reply::OutOfBounds;
@@ -57,6 +69,9 @@ fn row_of(stored: bool, argument: bool, earlier: bool, lower: bool, full: bool) 
     }
     if lower {
         return Reply::LowerTotal;
+    }
+    if unsent {
+        return Reply::NeverSent;
     }
     if full {
         return Reply::FullCounter;

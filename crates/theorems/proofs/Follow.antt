@@ -48,11 +48,11 @@ use Rattle.theorems.proofs.Reached.{Reached, Made, all-made, of-reached
 -- ---- the lower bounds in any bytes are those of the state that they encode
 inflight-in : (bytes : List ℕ) → inflightIn bytes ≡ inflightLow (stateFrom bytes)
 unfolding lowWord inflightLow stateFrom modelFrom
-inflight-in bytes = ap (λ (n : ℕ). cond (eqb n (2 ^ 64 - 1)) Number.Unset (Number.Set n)) (sym (getD-wordsAt bytes 0 50 17 (omega arith)))
+inflight-in bytes = ap (λ (n : ℕ). cond (eqb n (2 ^ 64 - 1)) Number.Unset (Number.Set n)) (sym (getD-wordsAt bytes 0 51 17 (omega arith)))
 
 bandwidth-in : (bytes : List ℕ) → bandwidthIn bytes ≡ bandwidthLow (stateFrom bytes)
 unfolding bandwidthIn bandwidthLow stateFrom modelFrom
-bandwidth-in bytes = λ i. lowOf (bandwidthOf (sym (getD-wordsAt bytes 0 50 15 (omega arith)) i) (sym (getD-wordsAt bytes 0 50 16 (omega arith)) i))
+bandwidth-in bytes = λ i. lowOf (bandwidthOf (sym (getD-wordsAt bytes 0 51 15 (omega arith)) i) (sym (getD-wordsAt bytes 0 51 16 (omega arith)) i))
 
 -- ---- what is known of an event's words is known of its call
 abbrev Small : Float → Params → CongestionEvent → CongestionEventSample → Type 0

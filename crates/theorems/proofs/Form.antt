@@ -244,18 +244,18 @@ module _ (w : List ℕ) (h : AllWords w) where
 
   read-cycle-free : FreeCycle (cycleFrom w)
   unfolding cycleFrom
-  read-cycle-free = (h 37, h 38)
+  read-cycle-free = (h 38, h 39)
 
   read-cycle-bound : BoundCycle (cycleFrom w)
   unfolding cycleFrom
   read-cycle-bound =
       record {
-        entered = h 36;
-        start = h 35;
-        length = either LengthForm (isUnset (getD w 39 0) (getD w 40 0)) Length.Unset (Length.Set (record { 0 = numberIn (getD w 39 0) (getD w 40 0) })) tt (number-word (getD w 39 0) (getD w 40 0) (h 40));
-        rounds = h 41;
-        bytes = either BytesForm (isUnset (getD w 42 0) (getD w 43 0)) Number.Unset (Number.Set (numberIn (getD w 42 0) (getD w 43 0))) tt (number-word (getD w 42 0) (getD w 43 0) (h 43));
-        acked = h 44;
+        entered = h 37;
+        start = h 36;
+        length = either LengthForm (isUnset (getD w 40 0) (getD w 41 0)) Length.Unset (Length.Set (record { 0 = numberIn (getD w 40 0) (getD w 41 0) })) tt (number-word (getD w 40 0) (getD w 41 0) (h 41));
+        rounds = h 42;
+        bytes = either BytesForm (isUnset (getD w 43 0) (getD w 44 0)) Number.Unset (Number.Set (numberIn (getD w 43 0) (getD w 44 0))) tt (number-word (getD w 43 0) (getD w 44 0) (h 44));
+        acked = h 45;
       }
 
   pub read-form : InForm (record { model = modelFrom w; cycle = cycleFrom w })
@@ -313,7 +313,7 @@ model-words m f b =
     (also (flag-word (m .round .hilimited)) (also (b .bandwidth) (also (b .inflight) (also (low .0) (also (low .1) (also (b .lowInflight)
     (also (b .high) (also (float-word _ (f .cwnd)) (also (float-word _ (f .pacing)) (also (flag-word (m .cwndlimited)) (also (flag-word (m .growth .reached)) (also (b .baseline)
     (also (f .flat) (also (f .queueing) (also (flag-word (m .growth .ignore)) (also (send .0) (also (send .1) (also (ack .0)
-    (also (ack .1) (also (b .ackedTotal) (also (b .lostTotal) (also (b .moment) none)))))))))))))))))))))))))))))))))
+    (also (ack .1) (also (b .ackedTotal) (also (b .lostTotal) (also (b .moment) (also (flag-word (m .begun)) none))))))))))))))))))))))))))))))))))
 
 cycle-words : (y : Cycle) → FreeCycle y → BoundCycle y → Words (cycleWords y)
 unfolding cycleWords

@@ -22,12 +22,13 @@ use Rattle.state.specs.Answers.{settled, zeroLength, zeroMoment}
 use Rattle.state.specs.Bounds.{bytesOrUnsetOk, gainOk, within}
 use Rattle.state.specs.Refusals.{rowOf}
 use Rattle.state.specs.Parts.{roundOk, roundNew, roundSent}
-use Rattle.state.specs.NetworkModel.{modelTests, modelOk, withMaxbw, withRounds, withRound, withLower, withMinrtt, withHigh, withGains, withGrowth, withMoment, growthRestarted, modelNew, one, startNumber, startModel, restartNext, capNext, clearInflightNext, clearBandwidthNext, advanceNext}
+use Rattle.state.specs.NetworkModel.{modelTests, modelOk, withMaxbw, withRounds, withRound, withLower, withMinrtt, withHigh, withGains, withGrowth, withMoment, withBegun, growthRestarted, modelNew, one, startNumber, startModel, restartNext, capNext, clearInflightNext, clearBandwidthNext, advanceNext}
 use Rattle.changes.specs.Changes.{sentNext, reachedNext, pacingNext, cwndNext, postponeNext}
 use Rattle.state.proofs.Rows.{none, or-right}
 use Rattle.state.specs.declared.congestion_event.CongestionEvent.{CongestionEvent}
 use Rattle.state.specs.declared.congestion_event.CongestionEventSample.{CongestionEventSample}
 use Rattle.events.specs.Event as E
+use Rattle.events.proofs.Room.{no-row}
 use Rattle.judge.specs.Judge as J
 use Rattle.state.specs.declared.cycle.Cycle.{Cycle}
 use Rattle.state.specs.Cycle.{cycleOk, stayFrom, cycleNew, freshNumber, freshCycle}
@@ -138,7 +139,7 @@ free-event : (m : NetworkModel) (p : Params) (e : CongestionEvent) (s : Congesti
 unfolding E.eventNumber E.isFull E.modelNext E.modelAfter E.eventNext E.eventAfter E.roundNext E.roundAfter
 free-event m p e s acked done f =
     let r = counted (m .rounds) acked (f .count, f .sent, f .end) in
-    let lost = losses (ltb 0 (E.bytesLost m s)) (or-right (roundsFull (m .rounds) acked) _ (none _ _ _ _ _ done .not-full)) in
+    let lost = losses (ltb 0 (E.bytesLost m s)) (or-right (roundsFull (m .rounds) acked) _ (no-row m p e s acked done .1 .not-full)) in
     record { count = r .0; sent = r .1; end = r .2; losses = lost; flat = f .flat; queueing = f .queueing; cwnd = f .cwnd; pacing = f .pacing }
   where
     losses : (t : Bool) → (t && eqb (m .round .losses) (2 ^ 64 - 1)) ≡ false → Word (cond t (m .round .losses + 1) (m .round .losses))
@@ -214,7 +215,7 @@ module _ (s : State) where
 
   module _ (f : FreeModel m₀) (g : FreeCycle y₀) where
     other-free : (c : Other) → OtherForm c → otherNumber c s ≡ 0 → Freed (otherNext c s)
-    unfolding otherNumber otherNext sentNext withMoment withRounds withRound roundsSent roundSent J.expireNext withMinrtt reachedNext withGrowth pacingNext cwndNext withGains withHigh advanceNext withMaxbw postponeNext restartedAt downCycle upCycle slopeCycle cycleIn stayFrom
+    unfolding otherNumber otherNext sentNext withMoment withBegun withRounds withRound roundsSent roundSent J.expireNext withMinrtt reachedNext withGrowth pacingNext cwndNext withGains withHigh advanceNext withMaxbw postponeNext restartedAt downCycle upCycle slopeCycle cycleIn stayFrom
     other-free (C.sent now inflight packet bytes) h d =
         (record { count = f .count; sent = h; end = f .end; losses = f .losses; flat = f .flat; queueing = f .queueing; cwnd = f .cwnd; pacing = f .pacing }, g)
     other-free (C.finish e) h d = (free-finish m₀ e f, g)

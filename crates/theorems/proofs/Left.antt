@@ -45,7 +45,7 @@ words-small l at (suc n) h (suc i) = words-small l (at + 8) n h i
 
 pub from-form : (bytes : List ℕ) → AreBytes bytes → InForm (stateFrom bytes)
 unfolding stateFrom
-from-form bytes h = read-form (stateIn bytes) (words-small bytes 0 50 h)
+from-form bytes h = read-form (stateIn bytes) (words-small bytes 0 51 h)
 
 -- ---- the calls, one after the other
 abbrev wordsOf : State → List ℕ
@@ -79,8 +79,8 @@ module _ (calls lists : List ℕ) (h : AreBytes calls) where
 written : (s : State) → InForm s → stateIn (allBytes (wordsOf s)) ≡ wordsOf s
 written s f =
     let w = wordsOf s in
-    let n : length w ≡ 50 = round-trip .stateLength (s .model) (s .cycle) in
-    subst (λ (l : List ℕ). wordsAt l 0 50 ≡ w) (append-nil (allBytes w)) (subst (λ (k : ℕ). wordsAt (allBytes w ++ []) 0 k ≡ w) n (words-of w [] (form-words s f)))
+    let n : length w ≡ 51 = round-trip .stateLength (s .model) (s .cycle) in
+    subst (λ (l : List ℕ). wordsAt l 0 51 ≡ w) (append-nil (allBytes w)) (subst (λ (k : ℕ). wordsAt (allBytes w ++ []) 0 k ≡ w) n (words-of w [] (form-words s f)))
 
 read-back : (s : State) → InForm s → stateFrom (allBytes (wordsOf s)) ≡ s
 unfolding stateFrom
@@ -96,12 +96,12 @@ unfolding sameWords
 same-words l at zero = refl
 same-words l at (suc n) = rw (eq-eqb (getD l at 0) (getD l at 0) refl) (same-words l (at + 1) n)
 
-taken-back : (s : State) → InForm s → (length (allBytes (wordsOf s)) ≡ 400) × (encodesNone (allBytes (wordsOf s)) ≡ false)
+taken-back : (s : State) → InForm s → (length (allBytes (wordsOf s)) ≡ 408) × (encodesNone (allBytes (wordsOf s)) ≡ false)
 unfolding encodesNone isState
 taken-back s f =
     let w = wordsOf s in
-    let l : length (allBytes w) ≡ 400 = length-allBytes w ∙ ap (λ (n : ℕ). 8 * n) (round-trip .stateLength (s .model) (s .cycle)) in
-    let e : isState (stateIn (allBytes w)) ≡ true = rw (written s f, round-trip .model (s .model) (s .cycle) (f .free .cwnd) (f .free .pacing), round-trip .cycle (s .model) (s .cycle)) (same-words w 0 50) in
+    let l : length (allBytes w) ≡ 408 = length-allBytes w ∙ ap (λ (n : ℕ). 8 * n) (round-trip .stateLength (s .model) (s .cycle)) in
+    let e : isState (stateIn (allBytes w)) ≡ true = rw (written s f, round-trip .model (s .model) (s .cycle) (f .free .cwnd) (f .free .pacing), round-trip .cycle (s .model) (s .cycle)) (same-words w 0 51) in
     (l, rw (l, e))
 
 -- ---- a run that is done
@@ -121,8 +121,8 @@ module _ (r : Run) (ran : Ran r) (done : r .reply ≡ 0) where
     pub left-back : stateFrom (r .left) ≡ before r (count r)
     left-back = ap stateFrom left-whole ∙ read-back _ (walk-form (r .calls) (r .lists) bytes (count r) _ form)
 
-    pub left-taken : (length (r .left) ≡ 400) × (encodesNone (r .left) ≡ false)
-    left-taken = subst (λ (l : List ℕ). (length l ≡ 400) × (encodesNone l ≡ false)) (sym left-whole) (taken-back _ (walk-form (r .calls) (r .lists) bytes (count r) _ form))
+    pub left-taken : (length (r .left) ≡ 408) × (encodesNone (r .left) ≡ false)
+    left-taken = subst (λ (l : List ℕ). (length l ≡ 408) × (encodesNone l ≡ false)) (sym left-whole) (taken-back _ (walk-form (r .calls) (r .lists) bytes (count r) _ form))
 
     within-back : Within (before r (count r)) → isWithin (r .left) ≡ true
     within-back h =

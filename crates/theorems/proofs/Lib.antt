@@ -4,6 +4,7 @@ pub mod Decoded
 pub mod Form
 pub mod Kept
 pub mod Below
+pub mod Note
 pub mod Numbers
 pub mod Rows
 pub mod Exported

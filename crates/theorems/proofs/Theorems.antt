@@ -9,6 +9,8 @@ use Rattle.state.specs.Bounds.{momentOk}
 use Rattle.state.proofs.Rows.{and-left, and-right}
 use Rattle.laws.proofs.Examples.{marked-examples, reason-examples, round-examples}
 use Rattle.filters.proofs.Greatest.{greatest-is}
+use Rattle.events.proofs.Examples.{unsent-events}
+use Rattle.events.proofs.NeverSent.{never-sent}
 use Rattle.events.proofs.OnlyGreatest as events
 use Rattle.dispatch.proofs.Alike as dispatch
 use Rattle.laws.proofs.Contracts.{every-call}
@@ -31,6 +33,7 @@ use Rattle.theorems.proofs.Estimates.{pair-shows}
 use Rattle.theorems.proofs.Exported as exported
 use Rattle.theorems.proofs.Follow as follow
 use Rattle.theorems.proofs.Left.{left-whole, from-form, left-within, started-within, left-taken}
+use Rattle.theorems.proofs.Note.{noted}
 use Rattle.theorems.proofs.Numbers.{every-number}
 use Rattle.theorems.proofs.Refused.{refused}
 use Rattle.theorems.proofs.Rows.{every-row}
@@ -91,6 +94,9 @@ theorems =
       round-examples = round-examples;
       only-greatest = events.only-greatest;
       only-greatest-call = dispatch.only-greatest;
+      never-sent = never-sent;
+      unsent-events = unsent-events;
+      note = noted;
       reasons = reasons;
       reason-examples = reason-examples;
       worth = every-run;

@@ -1,4 +1,4 @@
--- Runs worked out in bytes, at beta 0.3, from 400 bytes of zeros, in which every call but a start is refused: what the
+-- Runs worked out in bytes, at beta 0.3, from 408 bytes of zeros, in which every call but a start is refused: what the
 -- statements of Theorems.antt speak of is there. A run here is one that the definitions make. Their starts, sends and
 -- parameters are those of crates/guovssalu/specs/Examples.antt.
 use Prim.Native.Nat.{ℕ, _-_, _*_, _^_}
@@ -46,10 +46,11 @@ ran state calls lists n =
 abbrev after : (n lo : ℕ) → List ℕ
 after n lo =
     (n ∷ n ∷ 1 ∷ n ∷ 0 ∷ 1 ∷ 0 ∷ 0 ∷ n ∷ n ∷ 0 ∷ 0 ∷ 0 ∷ 1 ∷ 0 ∷ 1 ∷ 1 ∷ lo ∷ [])
-    ++ ((2 ^ 64 - 1) ∷ 0x3f80_0000 ∷ 0x3f80_0000 ∷ []) ++ zeros 5 ++ (1 ∷ []) ++ zeros 4 ++ (n ∷ n ∷ []) ++ zeros 17
+    ++ ((2 ^ 64 - 1) ∷ 0x3f80_0000 ∷ 0x3f80_0000 ∷ []) ++ zeros 5 ++ (1 ∷ []) ++ zeros 4
+    ++ (n ∷ n ∷ 0 ∷ 1 ∷ []) ++ zeros 16
 
 abbrev first : Run
-first = ran (zeros 400) (allBytes (startAt 0 0 ++ sends 0 1 ++ acks 1)) noLists 3
+first = ran (zeros 408) (allBytes (startAt 0 0 ++ sends 0 1 ++ acks 1)) noLists 3
 
 -- a question; a number that is no call's; a send at a moment that is out of bounds; a send and an event; the question
 abbrev second : Run
@@ -62,6 +63,10 @@ second =
 abbrev descending : Run
 descending =
     ran (allBytes (after 1 910)) (allBytes (sends 0 2 ++ acksOf 2 4 2 ++ acksOf 2 4 1)) (7 ∷ 2 ∷ 1 ∷ 1 ∷ 0 ∷ []) 3
+
+-- an event that acks packet 2, which was never sent
+abbrev unsent : Run
+unsent = ran (allBytes (after 1 910)) (allBytes (acks 2)) noLists 1
 
 -- a call that clears inflight_lo, of which a byte is missing
 abbrev third : Run
@@ -106,6 +111,15 @@ descendingExamples =
     (zeros 18
     ++ (2 ∷ 0 ∷ 0 ∷ 1300 ∷ zeros 14)
     ++ (zeros 3 ++ (1300 ∷ 0 ∷ 0 ∷ 1 ∷ 1 ∷ 1 ∷ 0 ∷ 1 ∷ 1 ∷ []) ++ zeros 6)))
+    ∷ []
+
+-- the event is answered 10, with the record as it was handed in, and changes nothing: the exact value stays too
+unfoldable pub unsentExamples : List Bool
+unsentExamples =
+    eqb (unsent .reply) 0
+    ∷ same (unsent .left) (allBytes (after 1 910))
+    ∷ same (unsent .written) (allBytes (10 ∷ 0 ∷ 0 ∷ 1300 ∷ zeros 14))
+    ∷ isOver 9 48 2 (exactAfter inflightEffect usualParts unsent (over 9 48 2))
     ∷ []
 
 -- the run that is refused leaves the bytes, and the exact value

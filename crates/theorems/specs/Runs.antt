@@ -175,12 +175,12 @@ pub record FirstRow (n one : ℕ) (isOne : Bool) (two : ℕ) (isTwo isShort : Bo
 abbrev pub count : Run → ℕ
 count r = callsIn (r .calls)
 
--- 1: "the state's 400 bytes encode no state"; 2: a state has 400 bytes, a call 392; 7: an answer has 144 bytes
+-- 1: "the state's 408 bytes encode no state"; 2: a state has 408 bytes, a call 392; 7: an answer has 144 bytes
 abbrev pub RunRow : Run → Type 0
 RunRow r =
     FirstRow (r .reply)
     1 (encodesNone (r .state))
-    2 (not (eqb (length (r .state)) 400) || not (eqb (length (r .calls) % 392) 0))
+    2 (not (eqb (length (r .state)) 408) || not (eqb (length (r .calls) % 392) 0))
     (ltb (length (r .answers)) (144 * count r))
 
 -- 2: a pair has 16 bytes; 3: "a pair that the update would refuse"; 7: three samples and the reason have 32 bytes

@@ -4,7 +4,7 @@
 -- whether a equals b and whether it is at most b, `||` is "or" of tests, and `cond t a b` is a where the test t
 -- holds, b elsewhere. `record { f = a; .. }` is the record with those fields.
 use Prim.Native.Nat.{ℕ, zero, suc, _+_}
-use mathlib.Core.Bool.{Bool, true, false, cond, _||_}
+use mathlib.Core.Bool.{Bool, true, false, cond, _&&_, _||_}
 use mathlib.Core.List.{List, [], _∷_}
 use mathlib.Core.Path.{_≡_}
 use lib.Dec.{leb, eqb}
@@ -123,6 +123,13 @@ exactWalk effect parts (c ∷ steps) s x = exactWalk effect parts steps (afterSt
 -- ---- a call's outcome (crates/dispatch/specs/Outcome.antt) leaves what its step leaves, and replies its number
 abbrev pub outcomeIn : List ℕ → State → Outcome
 outcomeIn w s = outcomeOf w (s .model) (s .cycle)
+
+-- document 02, request i, "a note of whether anything was sent", after a call: a start, done or refused, sets it to no,
+-- a send that is done to yes, and no other call touches it
+abbrev pub noteAfter : List ℕ → State → Bool
+noteAfter w s =
+    let n = word w 0 in
+    cond (eqb n 0) false (cond (eqb n 1 && eqb (outcomeIn w s .reply) 0) true (s .model .begun))
 
 abbrev pub stateLeft : Outcome → State
 stateLeft t = record { model = t .model; cycle = t .cycle }

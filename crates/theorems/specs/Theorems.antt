@@ -20,7 +20,7 @@
 --   Steps.antt    the 49 words of a call, with the lists, as the step that they ask for, and what it does to a state
 --   Rows.antt     by the number of a call in a run, which rows of document 01's table hold
 --   Casts.antt    that the casts of the definitions are those of the Rust Reference
--- and Examples.antt has four runs worked out in bytes, so that one sees what the statements speak of.
+-- and Examples.antt has five runs worked out in bytes, so that one sees what the statements speak of.
 -- Any other name stands in the crate that its `use` line names; what the lower bounds, exact values and `Follows` are
 -- is explained in crates/drift/specs/Drift.antt.
 use Prim.Native.Nat.{ℕ, _^_, _≤_, _<_}
@@ -35,6 +35,7 @@ use Rattle.numbers.specs.Scaling.{complement, partsOf}
 use Rattle.numbers.specs.Examples.{all}
 use Rattle.filters.specs.Examples.{reasonExamples, roundExamples}
 use Rattle.filters.specs.Greatest.{Greatest}
+use Rattle.events.specs.NeverSent.{NeverSent, unsentEvents}
 use Rattle.events.specs.OnlyGreatest.{OnlyGreatest}
 use Rattle.dispatch.specs.OnlyGreatest as Calls
 use Rattle.laws.specs.Examples.{markedExamples}
@@ -62,7 +63,7 @@ use Rattle.units.specs.declared.maybe.MaybeNumber.{MaybeNumber}
 use Rattle.drift.specs.Drift.{Follows, IsBeta, usualBeta, usualParts, Under}
 use Rattle.theorems.specs.Rows.{rowsOf}
 use Rattle.theorems.specs.Casts.{Casts}
-use Rattle.theorems.specs.Steps.{moment, Makes, Refused, Numbered, stepOf, outcomeIn}
+use Rattle.theorems.specs.Steps.{moment, Makes, Refused, Numbered, stepOf, outcomeIn, noteAfter}
 use Rattle.theorems.specs.Runs.{Unasked, Run, Ran, FilterRun, Filtered, SlopeRun, Raised, OneOutcome, Conversions, RunRow, FilterRow, SlopeRow, PairShows, AreBytes, isWithin, count, call, before, answer, answerWord, Accepted, Starts, Each, History, exactAfter, exactRuns, exactBefore, lowWord, inflightIn, bandwidthIn, HasBetaWord, HasSmallWords, OfEvents}
 
 -- What demand 3 says, of any runs, the last of which is r, that begin with a start (`History`), and in which every
@@ -108,9 +109,9 @@ pub record Theorems : Type 0 where
   -- premise `AreBytes` says that each byte is below 256: a list here may hold any numbers
   pub run-bounds : (r : Run) → Ran r → AreBytes (r .state) → AreBytes (r .calls) → r .reply ≡ 0 →
       (isWithin (r .state) ≡ true) ⊎ Starts r → isWithin (r .left) ≡ true
-  -- And it leaves 400 bytes that encode a state, so that the next run takes them
+  -- And it leaves 408 bytes that encode a state, so that the next run takes them
   pub run-again : (r : Run) → Ran r → AreBytes (r .state) → AreBytes (r .calls) → r .reply ≡ 0 →
-      (length (r .left) ≡ 400) × (encodesNone (r .left) ≡ false)
+      (length (r .left) ≡ 408) × (encodesNone (r .left) ≡ false)
   -- Those bytes are the words of the state that the calls left, one after the other (`before r (count r)`)
   pub run-left : (r : Run) → Ran r → r .reply ≡ 0 →
       let s = before r (count r) in r .left ≡ allBytes (stateWords (s .model) (s .cycle))
@@ -162,6 +163,13 @@ pub record Theorems : Type 0 where
   pub round-examples : all roundExamples ≡ true
   pub only-greatest : OnlyGreatest
   pub only-greatest-call : Calls.OnlyGreatest
+  -- Acks for packets never sent (document 02, request i): which lists are turned away with 10, and events worked out;
+  -- where 10 stands among the refusals say `calls` and `call-row` (`Exactly`, `is10`). And what a call of a run does to
+  -- the note of whether anything was sent: a start, done or refused, sets it to no, a send that is done to yes, and no
+  -- other call touches it
+  pub never-sent : NeverSent
+  pub unsent-events : all unsentEvents ≡ true
+  pub note : (w : List ℕ) (s : State) → outcomeIn w s .model .begun ≡ noteAfter w s
   -- Why a windowed filter's estimates moved (document 02, request f): "unchanged" exactly when the update left the
   -- filter as it was; the best moves with step 1 and step 3 alone; of step 2 and a later step the later is named; and
   -- only four such pairs can meet, each worked out
@@ -198,6 +206,6 @@ pub record Theorems : Type 0 where
 -- which are only read, share bytes. The page docs/LAYOUT.md. And the definitions that this page is made of, written
 -- from documents 01 and 02, the original and docs/LAYOUT.md: all files of specs/ to which `use` lines lead from here,
 -- with their remarks. A script of the gate counts their lines (tests/contracts.py):
---   numbers 257, units 92, filters 442, words 129, state 657, worth 274, layout 215, events 389, phases 208, changes
---   61, judge 199, arguments 222, reads 18, pairs 57, calls 204, laws 520, drift 379, dispatch 234, guovssalu 155,
---   theorems 790: together 5502
+--   numbers 257, units 93, filters 442, words 129, state 741, worth 274, layout 216, events 462, phases 208, changes
+--   62, judge 199, arguments 222, reads 18, pairs 57, calls 204, laws 526, drift 379, dispatch 234, guovssalu 155,
+--   theorems 805: together 5683

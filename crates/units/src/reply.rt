@@ -1,4 +1,4 @@
-// What a call replies: document 01's table, 0 to 7.
+// What a call replies: document 01's table, 0 to 7, and document 02's 10.
 ghost use mathlib.Core.Path.{_≡_};
 ghost use lib.Dec.{eqb};
 ghost use Rattle.units.specs.Reply.{number};
@@ -12,10 +12,11 @@ pub enum Reply {
     FullCounter,
     BadText,
     ShortOutput,
+    NeverSent,
 }
 
 impl Reply {
-    // The reply's row in document 01's table, 0 where the call was done.
+    // The reply's row in the documents' table, 0 where the call was done.
     pub fn row(self) -> u64
         ensures { λ r. ⌜ r ≡ number self ⌝ }
     {
@@ -28,6 +29,7 @@ impl Reply {
             Reply::FullCounter => 5,
             Reply::BadText => 6,
             Reply::ShortOutput => 7,
+            Reply::NeverSent => 10,
         }
     }
 

@@ -124,7 +124,7 @@ impl Rounds {
 }
 
 /// What `inflight_lo` of a fresh model becomes, in a window of `window` bytes,
-/// by an event that ends the first round with one byte lost.
+/// by an event that ends the first round, of packet 0, with one byte lost.
 pub fn first_reduction(window: usize, beta: f32) -> usize {
     let params = Params {
         beta,
@@ -138,6 +138,7 @@ pub fn first_reduction(window: usize, beta: f32) -> usize {
         time_sent: now,
     };
 
+    model.on_packet_sent(now, 0, acked.pkt_num, DEFAULT_MSS, true);
     let mut answer = super::super::bbr::Answer::default();
     answer.totals.lost = 1;
     model.bandwidth_sampler.hand_in(answer);
@@ -210,8 +211,8 @@ impl BBRv2NetworkModel {
         });
     }
 
-    /// The model's part of the state, in its order, but for the last accepted
-    /// moment.
+    /// The model's part of the state, in its order, as far as the original keeps
+    /// it: the last accepted moment stands after it.
     pub(super) fn fields(&self, base: Instant) -> [u64; state::LAST_ACCEPTED_MOMENT] {
         // Used by the other modes only.
         assert!(self.prior_bandwidth_lo.is_none());

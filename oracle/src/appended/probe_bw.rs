@@ -24,8 +24,10 @@ pub struct Host {
     params: Params,
     probe: ProbeBW,
     event: BBRv2CongestionEvent,
-    /// The last accepted moment, which the original doesn't keep.
+    /// The last accepted moment, and whether anything was sent since the start:
+    /// the original keeps neither.
     last: u64,
+    anything_sent: bool,
 }
 
 impl Host {
@@ -72,6 +74,7 @@ impl Host {
             params,
             event: BBRv2CongestionEvent::new(base, 0, 0, false),
             last: start.moment,
+            anything_sent: false,
         }
     }
 
@@ -105,11 +108,13 @@ impl Host {
         };
         self.event = event_of(&Record::of(&state[STATE_WORDS..]), self.base);
         self.last = state[state::LAST_ACCEPTED_MOMENT];
+        self.anything_sent = state[state::ANYTHING_SENT] == 1;
     }
 
     /// A packet is sent.
     pub fn sent(&mut self, moment: u64, in_flight: u64, number: u64, bytes: u64) {
         self.last = moment.max(self.last);
+        self.anything_sent = true;
         let now = self.base + Duration::from_nanos(moment);
         let model = &mut self.probe.model;
         model.on_packet_sent(now, in_flight as usize, number, bytes as usize, true)
@@ -194,6 +199,7 @@ impl Host {
             probe,
             event,
             last,
+            ..
         } = self;
         let base = *base;
         let model = &mut probe.model;
@@ -265,6 +271,7 @@ impl Host {
 
         state[..state::LAST_ACCEPTED_MOMENT].copy_from_slice(&probe.model.fields(*base));
         state[state::LAST_ACCEPTED_MOMENT] = self.last;
+        state[state::ANYTHING_SENT] = self.anything_sent as u64;
 
         let [wait_set, wait] = option(cycle.probe_wait_time.map(whole_nanos));
         let [up_bytes_set, up_bytes] = option(cycle.probe_up_bytes.map(|bytes| bytes as u64));

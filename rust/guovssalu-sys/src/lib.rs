@@ -13,6 +13,13 @@
 //! every lent byte as it was. Where several apply, the lowest is given. The calls inside a run have
 //! answers of their own: [`guovssalu_run`] and [`guovssalu_run_lists`].
 //!
+//! # Packet numbers
+//!
+//! An event, [`table::call::ON_CONGESTION_EVENT_START`], that acks a packet which was never sent is
+//! refused with [`table::reply::NEVER_SENT`]. So a model's packets are numbered in one rising row, in the
+//! order in which they are sent, those of QUIC's three packet number spaces too, each of which begins at
+//! 0. The header, include/guovssalu.h, has an example.
+//!
 //! # Safety
 //!
 //! A call on numbers is always safe. A call on lent ranges needs ranges that may be read, and written
@@ -87,9 +94,10 @@ extern "C" {
     /// [`table::call::START`], on a state of zeros. Bytes of answers past the last keep what they held.
     ///
     /// The first word of a call's answer, [`table::REPLY_IN_ANSWER`], is 0 where the call was done, and the
-    /// refusal's number, 1 to 5, where it was refused; the run goes on. The run's own reply of 0 says
-    /// nothing of its calls: look at each answer. A refused call changes nothing, but for a start, which
-    /// then replaces the state by a fresh one at moment 0: look at its answer before going on.
+    /// refusal's number, 1 to 5 or 10, where it was refused; the run goes on. Where several apply, the
+    /// first of 1, 2, 3, 4, 10 and 5 is given. The run's own reply of 0 says nothing of its calls: look at
+    /// each answer. A refused call changes nothing, but for a start, which then replaces the state by a
+    /// fresh one at moment 0: look at its answer before going on.
     ///
     /// A call's words are tested. A flag that is neither 0 nor 1, an f32 with bits above the 32nd, two
     /// words of a number that may be unset that are neither 1 and the number nor 0 and 0, and a count of
@@ -97,7 +105,8 @@ extern "C" {
     /// flag is written as (flag ? 1 : 0). A number that is no call's is refused with 2, or with 1 where
     /// the stored model is out of bounds.
     ///
-    /// An event's acked numbers may stand in any order: the greatest counts. More than 3 of them go by
+    /// An event's acked numbers may stand in any order: the greatest counts. An event with a number above
+    /// the last sent one, or with any before the first send, is refused with 10. More than 3 of them go by
     /// [`guovssalu_run_lists`].
     ///
     /// The run itself replies 1 for bytes that encode no state, 2 for a state of another length or a part

@@ -7,13 +7,13 @@ pub const UNSET: u64 = 18_446_744_073_709_551_615;
 pub const WORD_BYTES: usize = 8;
 
 /// Words of a state: the model, then the cycle.
-pub const STATE_WORDS: usize = 50;
+pub const STATE_WORDS: usize = 51;
 /// Bytes of a state: the model, then the cycle.
-pub const STATE_BYTES: usize = 400;
+pub const STATE_BYTES: usize = 408;
 /// Words of a state's model.
-pub const MODEL_WORDS: usize = 34;
+pub const MODEL_WORDS: usize = 35;
 /// Bytes of a state's model.
-pub const MODEL_BYTES: usize = 272;
+pub const MODEL_BYTES: usize = 280;
 /// Words of a state's cycle.
 pub const CYCLE_WORDS: usize = 16;
 /// Bytes of a state's cycle.
@@ -67,7 +67,7 @@ pub const VALUE_IN_ANSWER: usize = 1;
 /// The first word of the event's record in an answer.
 pub const EVENT_IN_ANSWER: usize = 2;
 /// The first word of the cycle in a state.
-pub const CYCLE_IN_STATE: usize = 34;
+pub const CYCLE_IN_STATE: usize = 35;
 
 /// The numbers of the calls: a call's first word.
 pub mod call {
@@ -724,56 +724,59 @@ pub mod state {
     /// Word 33: moment.
     pub const LAST_ACCEPTED_MOMENT: usize = 33;
 
-    /// Word 34: phase.
-    pub const PHASE: usize = 34;
+    /// Word 34: flag.
+    pub const ANYTHING_SENT: usize = 34;
 
-    /// Word 35: moment.
-    pub const START_TIME: usize = 35;
+    /// Word 35: phase.
+    pub const PHASE: usize = 35;
 
     /// Word 36: moment.
-    pub const PHASE_START_TIME: usize = 36;
+    pub const START_TIME: usize = 36;
 
-    /// Word 37: number.
-    pub const ROUNDS_IN_PHASE: usize = 37;
+    /// Word 37: moment.
+    pub const PHASE_START_TIME: usize = 37;
 
     /// Word 38: number.
-    pub const ROUNDS_SINCE_PROBE: usize = 38;
+    pub const ROUNDS_IN_PHASE: usize = 38;
 
-    /// Word 39: flag.
-    pub const PROBE_WAIT_TIME_SET: usize = 39;
+    /// Word 39: number.
+    pub const ROUNDS_SINCE_PROBE: usize = 39;
 
-    /// Word 40: length.
-    pub const PROBE_WAIT_TIME: usize = 40;
+    /// Word 40: flag.
+    pub const PROBE_WAIT_TIME_SET: usize = 40;
 
-    /// Word 41: number.
-    pub const PROBE_UP_ROUNDS: usize = 41;
+    /// Word 41: length.
+    pub const PROBE_WAIT_TIME: usize = 41;
 
-    /// Word 42: flag.
-    pub const PROBE_UP_BYTES_SET: usize = 42;
+    /// Word 42: number.
+    pub const PROBE_UP_ROUNDS: usize = 42;
 
-    /// Word 43: bytes.
-    pub const PROBE_UP_BYTES: usize = 43;
+    /// Word 43: flag.
+    pub const PROBE_UP_BYTES_SET: usize = 43;
 
     /// Word 44: bytes.
-    pub const PROBE_UP_ACKED: usize = 44;
+    pub const PROBE_UP_BYTES: usize = 44;
 
-    /// Word 45: flag.
-    pub const PROBE_UP_APP_LIMITED_SINCE_INFLIGHT_HI_LIMITED: usize = 45;
+    /// Word 45: bytes.
+    pub const PROBE_UP_ACKED: usize = 45;
 
     /// Word 46: flag.
-    pub const HAS_ADVANCED_MAX_BW: usize = 46;
+    pub const PROBE_UP_APP_LIMITED_SINCE_INFLIGHT_HI_LIMITED: usize = 46;
 
     /// Word 47: flag.
-    pub const IS_SAMPLE_FROM_PROBING: usize = 47;
+    pub const HAS_ADVANCED_MAX_BW: usize = 47;
 
     /// Word 48: flag.
-    pub const LAST_CYCLE_PROBED_TOO_HIGH: usize = 48;
+    pub const IS_SAMPLE_FROM_PROBING: usize = 48;
 
     /// Word 49: flag.
-    pub const LAST_CYCLE_STOPPED_RISKY_PROBE: usize = 49;
+    pub const LAST_CYCLE_PROBED_TOO_HIGH: usize = 49;
+
+    /// Word 50: flag.
+    pub const LAST_CYCLE_STOPPED_RISKY_PROBE: usize = 50;
 
     /// The names of its words, in order.
-    pub const NAMES: [&str; 50] = [
+    pub const NAMES: [&str; 51] = [
         "round_trip_count",
         "last_sent_packet",
         "end_of_round_trip set",
@@ -808,6 +811,7 @@ pub mod state {
         "total_bytes_acked",
         "total_bytes_lost",
         "last_accepted_moment",
+        "anything_sent",
         "phase",
         "start_time",
         "phase_start_time",
@@ -885,6 +889,9 @@ pub mod reply {
 
     /// Reply 7.
     pub const SHORT_OUTPUT: u64 = 7;
+
+    /// Reply 10.
+    pub const NEVER_SENT: u64 = 10;
 }
 
 /// What the state's word `state::PHASE` is.

@@ -201,7 +201,8 @@ impl Answer {
 /// # Errors
 ///
 /// `OutOfBounds` for bytes that encode no state; `BadArgument` for a state of another length or calls
-/// not in whole records; `ShortOutput` for answers without room. Then no byte is changed.
+/// not in whole records; `ShortOutput` for answers without room. Then no byte is changed. A state that
+/// a version before 0.5.0 kept has another length, 400: docs/LAYOUT.md says how it is carried over.
 ///
 /// `Ok` says nothing of the calls: whether one was refused, and why, is in its [`Answer`].
 ///

@@ -46,6 +46,32 @@
 //! assert_eq!(model.last_sent_packet(), 1);
 //! # Ok::<(), Refusal>(())
 //! ```
+//!
+//! # Packet numbers
+//!
+//! An event that acks a packet which was never sent is refused with [`Refusal::NeverSent`], and nothing
+//! of it counts: where one of its numbers is above that of the last send, and where it has a number and
+//! nothing was sent since the model was made. The last send's number counts, and not the greatest.
+//!
+//! So a model's packets are numbered in one rising row, in the order in which they are sent. QUIC has
+//! three packet number spaces, each from 0: whoever feeds several of them into one model numbers the
+//! packets of all of them in that one row. Otherwise honest acks are refused:
+//!
+//! ```
+//! # use guovssalu::{CongestionEvent, Duration, Moment, NetworkModel, Params, Refusal, Sample};
+//! # let (params, now) = (Params::default(), Moment::from_nanos(0));
+//! let ack_of_3 = |sent: [u64; 2]| {
+//!     let mut model = NetworkModel::new(&params, Duration::from_millis(100), now)?;
+//!     for packet in sent {
+//!         model.on_packet_sent(now, 0, packet, 1300)?;
+//!     }
+//!     let mut event = CongestionEvent::new(now, 2600, 2600, false);
+//!     model.on_congestion_event_start(&[3], &mut event, &Sample::default(), &params)
+//! };
+//! // Packet 3 (Initial) is sent, then packet 0 (Handshake): by their own numbers, and in one row.
+//! assert_eq!(ack_of_3([3, 0]), Err(Refusal::NeverSent));
+//! assert_eq!(ack_of_3([3, 4]), Ok(()));
+//! ```
 
 #![deny(unsafe_code)]
 #![deny(missing_docs)]

@@ -61,6 +61,28 @@ impl NetworkModel {
     ///
     /// `BadArgument` for another length, `OutOfBounds` for bytes that encode no state. Bytes that
     /// encode a state with a number outside its bounds are taken, and refused by the calls.
+    ///
+    /// # Bytes of layout 1
+    ///
+    /// Versions before 0.5.0 kept a model in 272 bytes, without its last word, which says whether
+    /// anything was sent. They are refused with `BadArgument`, and are carried over with that word put in
+    /// at their end (docs/LAYOUT.md, "Carrying a kept state over"). A kept cycle is as it was.
+    ///
+    /// ```
+    /// # use guovssalu::{Duration, Moment, NetworkModel, Params, Refusal};
+    /// # let params = Params::default();
+    /// # let mut kept = NetworkModel::new(&params, Duration::from_millis(100), Moment::from_nanos(0))?;
+    /// # kept.on_packet_sent(Moment::from_nanos(1), 0, 7, 1300)?;
+    /// # let old = &kept.as_bytes()[..272];
+    /// assert_eq!(NetworkModel::from_bytes(old), Err(Refusal::BadArgument));
+    ///
+    /// let sent = true;
+    /// let bytes = [old, &u64::from(sent).to_le_bytes()].concat();
+    /// let model = NetworkModel::from_bytes(&bytes)?;
+    /// assert!(model.anything_sent());
+    /// # assert_eq!(model, kept);
+    /// # Ok::<(), Refusal>(())
+    /// ```
     pub fn from_bytes(bytes: &[u8]) -> Result<Self, Refusal> {
         let bytes = bytes.try_into().map_err(|_| Refusal::BadArgument)?;
         let model = NetworkModel { bytes };
@@ -110,7 +132,9 @@ impl NetworkModel {
 
 /// Sends and events.
 impl NetworkModel {
-    /// A packet of so many bytes is sent while `bytes_in_flight` were in flight.
+    /// A packet of so many bytes is sent while `bytes_in_flight` were in flight. Its number is to be above
+    /// the one sent before: an event that acks a number above the last sent one is refused with
+    /// `NeverSent` ([Packet numbers](crate#packet-numbers)).
     pub fn on_packet_sent(
         &mut self,
         sent_time: Moment,
@@ -129,8 +153,10 @@ impl NetworkModel {
     /// An event: the numbers of the packets acked, what is known of the event, and what the sampler
     /// says to it. Fills in the event. The numbers may come in any order, and be as many as there are:
     /// the greatest counts, where in the original the last does. It ends the round where it is past the
-    /// round's end; with no numbers no round ends. Only the greatest is handed on (proved to be enough:
-    /// `only-greatest` in crates/theorems/specs/Theorems.antt).
+    /// round's end; with no numbers no round ends. Where it is above the number of the last send, and
+    /// where there is one and nothing was sent yet, the event is refused with `NeverSent`. Only the
+    /// greatest is handed on (proved to be enough: `only-greatest` in
+    /// crates/theorems/specs/Theorems.antt).
     pub fn on_congestion_event_start(
         &mut self,
         acked_packets: &[u64],
@@ -391,7 +417,7 @@ impl NetworkModel {
         self.word(state::ROUND_TRIP_COUNT)
     }
 
-    /// The number of the packet sent last.
+    /// The number of the packet sent last; 0 before the first.
     pub fn last_sent_packet(&self) -> u64 {
         self.word(state::LAST_SENT_PACKET)
     }
@@ -467,6 +493,11 @@ impl NetworkModel {
     /// The last accepted moment, which the original doesn't keep.
     pub fn last_accepted_moment(&self) -> Moment {
         Moment::from_nanos(self.word(state::LAST_ACCEPTED_MOMENT))
+    }
+
+    /// Whether a packet was sent since the model was made, which the original doesn't keep.
+    pub fn anything_sent(&self) -> bool {
+        words::get_flag(&self.bytes, state::ANYTHING_SENT)
     }
 }
 

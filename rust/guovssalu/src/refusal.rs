@@ -3,9 +3,9 @@ use std::fmt;
 
 use crate::table::reply;
 
-/// Why a call was refused: rows 1 to 7 of the table of refusals. Where several rows apply, the lowest
-/// is given. A refused call has changed nothing, but for a start (call 0) in a [`run`](crate::run),
-/// which has then replaced the state by a fresh one at moment 0.
+/// Why a call was refused: rows 1 to 7 and 10 of the table of refusals. Where several rows apply, the
+/// first of 1, 2, 3, 4, 10, 5, 7 is given. A refused call has changed nothing, but for a start (call 0)
+/// in a [`run`](crate::run), which has then replaced the state by a fresh one at moment 0.
 ///
 /// Malformed words (docs/LAYOUT.md) can only be in calls that were not written by this package, or by
 /// [`Call::new`](crate::Call::new) with other arguments than the call has, and in an event with a list
@@ -29,10 +29,13 @@ pub enum Refusal {
     BadText = reply::BAD_TEXT as isize,
     /// 7: the output is shorter than the answer.
     ShortOutput = reply::SHORT_OUTPUT as isize,
+    /// 10: an acked number is above the last sent one, or any number is acked before the first send.
+    /// Asked after 4 and before 5. See [Packet numbers](crate#packet-numbers).
+    NeverSent = reply::NEVER_SENT as isize,
 }
 
 impl Refusal {
-    /// The refusal's row in the table, 1 to 7.
+    /// The refusal's row in the table, 1 to 7 or 10.
     pub const fn number(self) -> u64 {
         self as u64
     }
@@ -48,6 +51,7 @@ impl Refusal {
             reply::FULL_COUNTER => Refusal::FullCounter,
             reply::BAD_TEXT => Refusal::BadText,
             reply::SHORT_OUTPUT => Refusal::ShortOutput,
+            reply::NEVER_SENT => Refusal::NeverSent,
             _ => panic!("{} is no reply", number),
         })
     }
@@ -63,6 +67,7 @@ impl fmt::Display for Refusal {
             Refusal::FullCounter => "a counter is full",
             Refusal::BadText => "the text doesn't follow its layout",
             Refusal::ShortOutput => "the output is shorter than the answer",
+            Refusal::NeverSent => "a packet that was never sent is acked",
         })
     }
 }

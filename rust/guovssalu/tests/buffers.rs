@@ -102,8 +102,8 @@ fn a_run_stays_within_its_bytes() {
     }
 }
 
-/// The lists of a run stand between numbers that are past every end: what is read around them ends a
-/// round.
+/// The lists of a run stand between numbers that are past every end and were never sent: an event that
+/// reads around them is refused.
 #[test]
 fn a_run_with_lists_stays_within_its_bytes() {
     // Packet 9 is the round's end, and no number of the lists is past it.
@@ -352,8 +352,8 @@ fn a_refused_event_gives_its_record_back() {
         ),
         (2, with(&[(EVENT + event::PRIOR_CWND, most)])),
         (2, with(&all)),
-        // A malformed argument beside a good record, numbers in lists that there are none of, and an
-        // earlier moment.
+        // A malformed argument beside a good record, numbers in lists that there are none of, an
+        // earlier moment, and a number that was never sent.
         (2, with(&[(sample::SAMPLE_IS_APP_LIMITED, 2)])),
         (2, with(&[(sample::ACKED_COUNT, 4)])),
         (
@@ -362,6 +362,16 @@ fn a_refused_event_gives_its_record_back() {
                 (EVENT + event::EVENT_TIME, 5),
                 (EVENT + event::LAST_PACKET_SEND_STATE_IS_VALID, 1),
                 (EVENT + event::LAST_PACKET_SEND_STATE_IS_APP_LIMITED, 1),
+            ]),
+        ),
+        (
+            10,
+            with(&[
+                (sample::ACKED_PACKETS, 10),
+                (EVENT + event::BYTES_ACKED, 7),
+                (EVENT + event::END_OF_ROUND_TRIP, 1),
+                (EVENT + event::SAMPLE_MIN_RTT_SET, 1),
+                (EVENT + event::SAMPLE_MIN_RTT, 5),
             ]),
         ),
     ] {

@@ -1,5 +1,6 @@
-//! Lists of acked numbers: the greatest ends the round, wherever it stands, by the model's method, in an
-//! event itself and in the lists of a run; and what an event takes from the lists.
+//! Lists of acked numbers: the greatest ends the round, wherever it stands, or refuses the event where it
+//! was never sent, by the model's method, in an event itself and in the lists of a run; and what an event
+//! takes from the lists.
 
 use std::ops::RangeInclusive;
 
@@ -32,23 +33,28 @@ fn word(bytes: &[u8], at: usize) -> u64 {
     u64::from_le_bytes(word)
 }
 
-/// A state in which acks past `end` end the round, or any where there is none, and `sent` is the packet
-/// sent last.
-fn begun(end: Option<u64>, sent: u64) -> [u8; STATE_BYTES] {
-    let send = |packet: u64| Call::new(call::ON_PACKET_SENT, &[10, 0, packet, 1200]);
+/// The state that a start and these calls leave; each has to be done.
+fn started(calls: &[Call]) -> [u8; STATE_BYTES] {
     let start = Call::new(call::START, &[10, 100_000_000]).with_params(&Params::default());
-    let mut calls = vec![start];
-    if let Some(end) = end {
-        calls.push(send(end));
-        calls.push(Call::new(call::RESTART_ROUND_EARLY, &[]));
-    }
-    calls.push(send(sent));
+    let calls = [&[start][..], calls].concat();
     let bytes: Vec<u8> = calls.iter().flat_map(|call| *call.as_bytes()).collect();
     let mut state = [0; STATE_BYTES];
     let mut answers = vec![0; calls.len() * Answer::BYTES];
     assert_eq!(run(&mut state, &bytes, &mut answers), Ok(()));
     let done = |answer: &[u8]| word(answer, REPLY) == 0;
     assert!(answers.chunks(Answer::BYTES).all(done));
+    state
+}
+
+/// A state in which acks past `end` end the round, or any where there is none, and `sent` is the packet
+/// sent last.
+fn begun(end: Option<u64>, sent: u64) -> [u8; STATE_BYTES] {
+    let send = |packet: u64| Call::new(call::ON_PACKET_SENT, &[10, 0, packet, 1200]);
+    let restart = Call::new(call::RESTART_ROUND_EARLY, &[]);
+    let state = match end {
+        Some(end) => started(&[send(end), restart, send(sent)]),
+        None => started(&[send(sent)]),
+    };
     let set = (end.is_some() as u64, end.unwrap_or(0));
     assert_eq!(word(&state, state::END_OF_ROUND_TRIP_SET), set.0);
     assert_eq!(word(&state, state::END_OF_ROUND_TRIP), set.1);
@@ -80,40 +86,45 @@ struct Left {
     model: Vec<u8>,
 }
 
-fn by_method(state: &[u8; STATE_BYTES], acked: &[u64]) -> Left {
+/// The event by the method; where it is refused model and record have to stay.
+fn by_method(state: &[u8; STATE_BYTES], acked: &[u64]) -> Result<Left, Refusal> {
     let mut model = NetworkModel::from_bytes(&state[..MODEL_BYTES]).unwrap();
     let mut event = record();
     let made = model.on_congestion_event_start(acked, &mut event, &losses(), &Params::default());
-    assert_eq!(made, Ok(()));
-    Left {
+    let stays = model.as_bytes()[..] == state[..MODEL_BYTES] && event == record();
+    assert_eq!(made.is_err(), stays, "{:?}", acked);
+    made.map(|()| Left {
         event,
         model: model.as_bytes().to_vec(),
-    }
+    })
 }
 
-/// The event by a run; the lists have to stay.
-fn by_run(state: &[u8; STATE_BYTES], call: &Call, lists: &[u64]) -> Left {
-    let (mut state, before) = (*state, lists.to_vec());
+/// The event by a run; the lists have to stay, and where it is refused the state.
+fn by_run(state: &[u8; STATE_BYTES], call: &Call, lists: &[u64]) -> Result<Left, Refusal> {
+    let (mut after, before) = (*state, lists.to_vec());
     let mut answer = [0x77; Answer::BYTES];
-    let made = run_lists(&mut state, call.as_bytes(), lists, &mut answer);
+    let made = run_lists(&mut after, call.as_bytes(), lists, &mut answer);
     assert_eq!(made, Ok(()));
     assert!(lists == before, "a run changed the lists");
-    Left {
-        event: Answer::from_bytes(&answer).event().unwrap(),
-        model: state[..MODEL_BYTES].to_vec(),
-    }
+    let event = Answer::from_bytes(&answer).event();
+    assert_eq!(event.is_err(), after == *state);
+    event.map(|event| Left {
+        event,
+        model: after[..MODEL_BYTES].to_vec(),
+    })
 }
 
 /// The numbers as they are, in lists with greater ones around them.
-fn by_lists(state: &[u8; STATE_BYTES], acked: &[u64]) -> Left {
+fn by_lists(state: &[u8; STATE_BYTES], acked: &[u64]) -> Result<Left, Refusal> {
     let lists = [&JUNK[..], acked, &JUNK].concat();
     let numbers = JUNK.len()..JUNK.len() + acked.len();
     by_run(state, &event(&[]).with_list(&lists, numbers), &lists)
 }
 
-/// What an event with these numbers left, the same in every way: by the model's method, in an event of a
-/// run, and in lists; a short list there so often that it is not in the event itself.
-fn left(state: &[u8; STATE_BYTES], acked: &[u64]) -> Left {
+/// What an event with these numbers left, or why it was refused, the same in every way: by the model's
+/// method, in an event of a run, and in lists; a short list there so often that it is not in the event
+/// itself.
+fn left(state: &[u8; STATE_BYTES], acked: &[u64]) -> Result<Left, Refusal> {
     let left = by_method(state, acked);
     assert_eq!(by_run(state, &event(acked), &[]), left, "{:?}", acked);
     assert_eq!(by_lists(state, acked), left, "{:?}", acked);
@@ -123,18 +134,26 @@ fn left(state: &[u8; STATE_BYTES], acked: &[u64]) -> Left {
     left
 }
 
-/// Whether an event with these numbers ends the round, where `end` is its end.
+/// Whether an event with these numbers ends the round, where `end` is its end and the greatest of them,
+/// or 7, was sent last.
 fn ends(end: Option<u64>, acked: &[u64]) -> bool {
-    let before = begun(end, 7);
-    let left = left(&before, acked);
+    let sent = acked.iter().copied().fold(7, u64::max);
+    let before = begun(end, sent);
+    let left = left(&before, acked).unwrap();
     let ended = left.event.end_of_round_trip;
     // The count rises and the end is the packet sent last, or both stay.
     let rounds = word(&before, state::ROUND_TRIP_COUNT) + ended as u64;
     assert_eq!(word(&left.model, state::ROUND_TRIP_COUNT), rounds);
-    let due = if ended { Some(7) } else { end };
+    let due = if ended { Some(sent) } else { end };
     let stands = NetworkModel::from_bytes(&left.model).unwrap();
     assert_eq!(stands.end_of_round_trip(), due);
     ended
+}
+
+/// Whether an event ended the round, or why it was refused.
+fn ended_by(left: &Result<Left, Refusal>) -> Result<bool, Refusal> {
+    let ended = left.as_ref().map(|left| left.event.end_of_round_trip);
+    ended.map_err(|refusal| *refusal)
 }
 
 /// All lists of so many of these numbers.
@@ -197,10 +216,14 @@ fn a_thousand_numbers_with_the_greatest_in_the_middle() {
     for (end, ended) in [(999, true), (1000, false)] {
         let state = begun(Some(end), 1007);
         let expected = left(&state, &sorted);
-        assert_eq!(expected.event.end_of_round_trip, ended);
+        assert_eq!(ended_by(&expected), Ok(ended));
         assert_eq!(left(&state, &middle), expected);
         assert_eq!(left(&state, &mixed), expected);
         assert_eq!(left(&state, &[1000]), expected);
+    }
+    let state = begun(Some(5), 999);
+    for acked in [&sorted, &middle, &mixed] {
+        assert_eq!(left(&state, acked), Err(Refusal::NeverSent));
     }
 }
 
@@ -208,12 +231,34 @@ fn a_thousand_numbers_with_the_greatest_in_the_middle() {
 fn the_greatest_is_found_wherever_it_stands() {
     let state = begun(Some(5), 7);
     let mut acked = vec![5; 1000];
-    assert!(!left(&state, &acked).event.end_of_round_trip);
+    assert_eq!(ended_by(&left(&state, &acked)), Ok(false));
     for place in 0..acked.len() {
-        acked[place] = 6;
-        assert!(by_method(&state, &acked).event.end_of_round_trip);
-        assert!(by_lists(&state, &acked).event.end_of_round_trip);
+        for (greatest, due) in [
+            (6, Ok(true)),
+            (7, Ok(true)),
+            (8, Err(Refusal::NeverSent)),
+            (u64::MAX, Err(Refusal::NeverSent)),
+        ] {
+            acked[place] = greatest;
+            assert_eq!(ended_by(&by_method(&state, &acked)), due);
+            assert_eq!(ended_by(&by_lists(&state, &acked)), due);
+        }
         acked[place] = 5;
+    }
+}
+
+/// A short list with a number above the last sent one, wherever it stands, and any before the first send.
+#[test]
+fn short_lists_with_a_number_that_was_never_sent() {
+    let never = Some(Refusal::NeverSent);
+    for length in 0..=3 {
+        for acked in lists_of(length, &[0, 6, 7, 8, u64::MAX]) {
+            let above = acked.iter().any(|number| *number > 7);
+            let due = never.filter(|_| above);
+            assert_eq!(left(&begun(Some(5), 7), &acked).err(), due, "{:?}", acked);
+            let due = never.filter(|_| length > 0);
+            assert_eq!(left(&started(&[]), &acked).err(), due, "{:?}", acked);
+        }
     }
 }
 
@@ -232,7 +277,7 @@ fn an_event_takes_what_it_names() {
                 let named = place..place + count;
                 let past = lists[named.clone()].iter().any(|number| *number > end);
                 let left = by_run(&state, &event(&[]).with_list(&lists, named), &lists);
-                assert_eq!(left.event.end_of_round_trip, past);
+                assert_eq!(ended_by(&left), Ok(past));
             }
         }
     }
@@ -250,8 +295,8 @@ fn events_may_name_the_same_numbers() {
         }
         call
     };
-    // The first ends the round, whose next end is then the packet sent last, 10: the others end none.
-    let mut state = begun(Some(11), 10);
+    // The first ends the round, whose next end is then the packet sent last, 12: the others end none.
+    let mut state = begun(Some(11), 12);
     let calls = [named(0, 5), named(2, 4), named(3, 4), named(2, 4)].concat();
     let mut answers = [0x77; 4 * Answer::BYTES];
     let made = run_lists(&mut state, &calls, &lists, &mut answers);
@@ -273,16 +318,24 @@ fn events_may_name_the_same_numbers() {
     assert!(refused == &calls[2 * Call::BYTES..][record..][..bytes]);
 }
 
-/// With up to three numbers the lists are not looked at; with more the two words after the place.
+/// With up to three numbers the lists are not looked at; with more the two words after the place. Nor
+/// does what is not looked at refuse the event, where it was never sent.
 #[test]
 fn what_an_event_does_not_use_is_not_looked_at() {
-    let state = begun(Some(5), 7);
+    for (sent, most_acked) in [(u64::MAX, Ok(true)), (7, Err(Refusal::NeverSent))] {
+        looked_at(&begun(Some(5), sent), most_acked);
+    }
+}
+
+/// Events in a state whose round ends past 5, of which some ack the greatest number there is: what is due
+/// of these.
+fn looked_at(state: &[u8; STATE_BYTES], most_acked: Result<bool, Refusal>) {
     let with = |words: [u64; 4], lists: &[u64]| {
         let mut call = *event(&[]).as_bytes();
         for (at, word) in (sample::ACKED_COUNT..).zip(words) {
             call[WORD * at..][..WORD].copy_from_slice(&word.to_le_bytes());
         }
-        let (mut state, mut answer) = (state, [0x77; Answer::BYTES]);
+        let (mut state, mut answer) = (*state, [0x77; Answer::BYTES]);
         assert_eq!(run_lists(&mut state, &call, lists, &mut answer), Ok(()));
         let event = Answer::from_bytes(&answer).event();
         event.map(|event| event.end_of_round_trip)
@@ -294,12 +347,12 @@ fn what_an_event_does_not_use_is_not_looked_at() {
         assert_eq!(with([1, 0, most, most], lists), Ok(false));
         assert_eq!(with([2, 4, 5, most], lists), Ok(false));
         assert_eq!(with([3, 3, 2, 1], lists), Ok(false));
-        assert_eq!(with([1, most, 0, 0], lists), Ok(true));
-        assert_eq!(with([3, 0, 0, most], lists), Ok(true));
+        assert_eq!(with([1, most, 0, 0], lists), most_acked);
+        assert_eq!(with([3, 0, 0, most], lists), most_acked);
     }
     for after in [0, 1, 7, most] {
         assert_eq!(with([4, 0, after, after], &few), Ok(false));
-        assert_eq!(with([4, 0, after, after], &JUNK), Ok(true));
+        assert_eq!(with([4, 0, after, after], &JUNK), most_acked);
     }
 }
 

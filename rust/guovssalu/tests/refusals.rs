@@ -48,9 +48,18 @@ fn fresh() -> NetworkModel {
     NetworkModel::new(&Params::default(), round_trip, moment(10)).unwrap()
 }
 
-/// A fresh model with one word of its state changed.
-fn with(at: usize, word: u64) -> NetworkModel {
-    NetworkModel::from_bytes(&changed(fresh().as_bytes(), at, word)).unwrap()
+/// A fresh model that has sent these packets, one after the other.
+fn having_sent(packets: &[u64]) -> NetworkModel {
+    let mut model = fresh();
+    for packet in packets {
+        model.on_packet_sent(moment(11), 0, *packet, 1300).unwrap();
+    }
+    model
+}
+
+/// The model with one word of its state changed.
+fn with(model: NetworkModel, at: usize, word: u64) -> NetworkModel {
+    NetworkModel::from_bytes(&changed(model.as_bytes(), at, word)).unwrap()
 }
 
 fn changed(bytes: &[u8], at: usize, word: u64) -> Vec<u8> {
@@ -142,7 +151,8 @@ fn arguments_at_their_bounds() {
 
     let high = |bytes: u64| move |model: &mut NetworkModel| model.set_inflight_hi(bytes);
     done(fresh(), high(MOST_BYTES));
-    done(with(state::INFLIGHT_HI, 7), high(NetworkModel::UNSET));
+    let limited = with(fresh(), state::INFLIGHT_HI, 7);
+    done(limited, high(NetworkModel::UNSET));
     refused(fresh(), bad, high(MOST_BYTES + 1));
     refused(fresh(), bad, high(NetworkModel::UNSET - 1));
 
@@ -156,14 +166,15 @@ fn arguments_at_their_bounds() {
     };
     done(fresh(), later(MOST_LENGTH));
     refused(fresh(), bad, later(MOST_LENGTH + 1));
-    let old = || with(state::MIN_RTT_TIMESTAMP, MOST_MOMENT - 1);
+    let old = || with(fresh(), state::MIN_RTT_TIMESTAMP, MOST_MOMENT - 1);
     done(old(), later(1));
     refused(old(), bad, later(2));
 }
 
 #[test]
 fn a_stored_number_out_of_bounds_is_refused_by_every_call() {
-    let model = || with(state::MAX_BANDWIDTH_0, MOST_BANDWIDTH + 1);
+    let slot = |bits: u64| with(fresh(), state::MAX_BANDWIDTH_0, bits);
+    let model = || slot(MOST_BANDWIDTH + 1);
     let row = Refusal::OutOfBounds;
     refused(model(), row, |model| {
         model.on_packet_sent(moment(0), 0, 1, 1)
@@ -173,7 +184,7 @@ fn a_stored_number_out_of_bounds_is_refused_by_every_call() {
     assert_eq!(model().queueing_threshold_extra_bytes(), Err(row));
     // The lowest row is given: the argument is bad, too.
     refused(model(), row, |model| model.set_pacing_gain(f32::NAN));
-    done(with(state::MAX_BANDWIDTH_0, MOST_BANDWIDTH), |model| {
+    done(slot(MOST_BANDWIDTH), |model| {
         model.on_packet_sent(moment(10), 0, 1, 1)
     });
 }
@@ -214,7 +225,7 @@ fn event(model: &mut NetworkModel, acked: &[u64], totals: (u64, u64)) -> Result<
 #[test]
 fn totals_may_not_fall() {
     let model = || {
-        let mut model = fresh();
+        let mut model = having_sent(&[1, 2]);
         event(&mut model, &[1], (1000, 500)).unwrap();
         model
     };
@@ -230,7 +241,7 @@ fn totals_may_not_fall() {
 #[test]
 fn counters_may_be_full() {
     // An event that ends a round is refused, one that ends none is not.
-    let rounds = |count: u64| with(state::ROUND_TRIP_COUNT, count);
+    let rounds = |count: u64| with(having_sent(&[9]), state::ROUND_TRIP_COUNT, count);
     refused(rounds(u64::MAX), Refusal::FullCounter, |model| {
         event(model, &[1], (1000, 0))
     });
@@ -239,9 +250,8 @@ fn counters_may_be_full() {
 
     // Where the end is 7, by the greatest number.
     let full = || {
-        let bytes = changed(fresh().as_bytes(), state::ROUND_TRIP_COUNT, u64::MAX);
-        let bytes = changed(&bytes, state::END_OF_ROUND_TRIP_SET, 1);
-        NetworkModel::from_bytes(&changed(&bytes, state::END_OF_ROUND_TRIP, 7)).unwrap()
+        let set = with(rounds(u64::MAX), state::END_OF_ROUND_TRIP_SET, 1);
+        with(set, state::END_OF_ROUND_TRIP, 7)
     };
     for acked in [&[8][..], &[8, 1], &[1, 8, 2, 3, 4]] {
         refused(full(), Refusal::FullCounter, |model| {
@@ -251,6 +261,77 @@ fn counters_may_be_full() {
     for acked in [&[][..], &[7], &[7, 1], &[1, 7, 2, 3, 4]] {
         done(full(), |model| event(model, acked, (1000, 0)));
     }
+}
+
+/// An event that acks these packets and raises the total acked.
+fn acks(acked: &[u64]) -> impl Fn(&mut NetworkModel) -> Result<(), Refusal> + '_ {
+    move |model| event(model, acked, (1000, 0))
+}
+
+/// Numbers acked go up to the last one sent, and there is none before the first send.
+#[test]
+fn acked_numbers_were_sent() {
+    let never = Refusal::NeverSent;
+    let most = u64::MAX;
+    for acked in [&[0][..], &[1], &[most], &[0, 0, 0, 0]] {
+        refused(fresh(), never, acks(acked));
+    }
+    done(fresh(), acks(&[]));
+    for last in [0, 1, 9, most - 1] {
+        for acked in [&[][..], &[0], &[last], &[last, 0], &[0, 0, last, 0, 0]] {
+            done(having_sent(&[last]), acks(acked));
+        }
+        let next = last + 1;
+        for acked in [&[next][..], &[most], &[next, last], &[0, 0, next, 0, 0]] {
+            refused(having_sent(&[last]), never, acks(acked));
+        }
+    }
+    done(having_sent(&[most]), acks(&[most]));
+}
+
+/// The number of the last send counts, also where a greater one was sent before it.
+#[test]
+fn the_last_sent_number_counts_and_not_the_greatest() {
+    let fallen = || having_sent(&[5, 3]);
+    assert_eq!(fallen().last_sent_packet(), 3);
+    done(fallen(), acks(&[3]));
+    refused(fallen(), Refusal::NeverSent, acks(&[4]));
+    refused(fallen(), Refusal::NeverSent, acks(&[5]));
+    done(having_sent(&[5, 3, 6]), acks(&[5]));
+}
+
+/// In restored words the note can be missing where a packet was sent: then no number is acked until a
+/// send is done. Or it stands with a last number of 0, as after a send of packet 0.
+#[test]
+fn the_note_counts_and_not_the_last_number_alone() {
+    let noted = |model: NetworkModel, note: u64| with(model, state::ANYTHING_SENT, note);
+    let never = Refusal::NeverSent;
+    let missing = || noted(having_sent(&[5]), 0);
+    for acked in [&[0][..], &[5], &[6]] {
+        refused(missing(), never, acks(acked));
+    }
+    done(missing(), acks(&[]));
+    let mut model = missing();
+    let early = model.on_packet_sent(moment(9), 0, 5, 1300);
+    assert_eq!(early, Err(Refusal::EarlierMoment));
+    assert!(!model.anything_sent());
+    model.on_packet_sent(moment(11), 0, 5, 1300).unwrap();
+    assert!(model.anything_sent() && model == having_sent(&[5]));
+
+    done(noted(fresh(), 1), acks(&[0]));
+    refused(noted(fresh(), 1), never, acks(&[1]));
+}
+
+/// A restart of the round before the first send sets its end to 0, and is no send.
+#[test]
+fn a_restart_before_a_send() {
+    let mut model = fresh();
+    assert_eq!(model.end_of_round_trip(), None);
+    model.restart_round_early().unwrap();
+    assert_eq!(model.end_of_round_trip(), Some(0));
+    assert!(!model.anything_sent());
+    refused(model.clone(), Refusal::NeverSent, acks(&[0]));
+    done(model, acks(&[]));
 }
 
 #[test]
@@ -293,6 +374,10 @@ fn only_bytes_of_a_state_are_taken() {
     // A flag that is neither 0 nor 1.
     assert_eq!(taken(state::INFLIGHT_HI_LIMITED_IN_ROUND, 1), Ok(()));
     assert_eq!(taken(state::INFLIGHT_HI_LIMITED_IN_ROUND, 2), none);
+    assert_eq!(taken(state::ANYTHING_SENT, 1), Ok(()));
+    assert_eq!(taken(state::ANYTHING_SENT, 2), none);
+    // A number that was sent last, and a note that nothing was: a flag has no bounds.
+    assert_eq!(taken(state::LAST_SENT_PACKET, 5), Ok(()));
     // An unset thing with a number.
     assert_eq!(taken(state::END_OF_ROUND_TRIP, 1), none);
     assert_eq!(taken(state::BANDWIDTH_LO, 1), none);
@@ -327,9 +412,9 @@ fn only_bytes_of_a_state_are_taken() {
 #[test]
 fn of_many_packets_acked_the_greatest_counts() {
     let after = |acked: &[u64]| {
-        let mut model = fresh();
-        model.on_packet_sent(moment(11), 0, 7, 1300).unwrap();
+        let mut model = having_sent(&[7]);
         event(&mut model, &[1], (1, 0)).unwrap();
+        model.on_packet_sent(moment(20), 0, 8, 1300).unwrap();
         event(&mut model, acked, (2, 0)).unwrap();
         model.round_trip_count()
     };
@@ -342,12 +427,25 @@ fn of_many_packets_acked_the_greatest_counts() {
     assert_eq!(after(&[7, 6, 5, 4, 3]), 1);
 }
 
-/// A state with a model and a cycle at moment 10.
+/// A state with a model and a cycle at moment 10, in which nothing was sent.
 fn started() -> [u8; STATE_BYTES] {
     let mut state = [0; STATE_BYTES];
     let start = Call::new(call::START, &[10, 100_000_000]).with_params(&Params::default());
     assert_eq!(reply(&mut state, start.as_bytes()), 0);
     state
+}
+
+/// The same after packet 5 was sent.
+fn sent() -> [u8; STATE_BYTES] {
+    let mut state = started();
+    let send = Call::new(call::ON_PACKET_SENT, &[10, 0, 5, 1200]);
+    assert_eq!(reply(&mut state, send.as_bytes()), 0);
+    state
+}
+
+/// A state with one word changed.
+fn stored(state: [u8; STATE_BYTES], at: usize, word: u64) -> [u8; STATE_BYTES] {
+    changed(&state, at, word).try_into().unwrap()
 }
 
 /// The reply to one call in a state. By a run with no lists it is the same, and so is the state.
@@ -402,7 +500,7 @@ fn reply_with(number: u64, words: &[(usize, u64)]) -> u64 {
     for &(at, word) in words {
         call = changed(&call, at, word);
     }
-    reply(&mut started(), &call)
+    reply(&mut sent(), &call)
 }
 
 const NOT_FLAGS: [u64; 5] = [2, 3, 255, 1 << 32, u64::MAX];
@@ -495,7 +593,7 @@ fn named(place: u64, count: u64) -> Vec<u8> {
 fn counts_above_3_are_within_the_lists() {
     let lists = [1; 10];
     let reply = |place: u64, count: u64, length: usize| {
-        reply_in(&mut started(), &named(place, count), &lists[..length])
+        reply_in(&mut sent(), &named(place, count), &lists[..length])
     };
     for (place, count, length) in [
         (0, 4, 4),
@@ -538,11 +636,15 @@ fn counts_above_3_are_within_the_lists() {
     }
 }
 
-/// A place outside of the lists beside other refusals: 1 comes before it, 3 to 5 after it.
+/// A place outside of the lists beside other refusals: 1 comes before it, the others after it.
 #[test]
 fn a_place_beside_other_refusals() {
     let lists = [1; 10];
     let (inside, outside) = (named(6, 4), named(7, 4));
+    for (numbers, row) in [(lists, 0), ([6; 10], 10)] {
+        assert_eq!(reply_in(&mut sent(), &inside, &numbers), row);
+        assert_eq!(reply_in(&mut sent(), &outside, &numbers), 2);
+    }
     let time = EVENT + event::EVENT_TIME;
     for (at, bad, row) in [
         (PARAMS + params::BETA, 0, 1),
@@ -555,23 +657,112 @@ fn a_place_beside_other_refusals() {
         (EVENT + event::PRIOR_CWND, MOST_BYTES + 1, 2),
         (time, 9, 3),
     ] {
-        let reply = |call: &[u8]| reply_in(&mut started(), &changed(call, at, bad), &lists);
+        let reply = |call: &[u8]| reply_in(&mut sent(), &changed(call, at, bad), &lists);
         assert_eq!(reply(&inside), row);
         assert_eq!(reply(&outside), row.min(2));
     }
     // Totals lower than the stored ones, a stored number out of bounds, a full counter.
-    for (at, stored, row) in [
+    for (at, number, row) in [
         (state::TOTAL_BYTES_ACKED, 1, 4),
         (state::MAX_BANDWIDTH_0, MOST_BANDWIDTH + 1, 1),
         (state::ROUND_TRIP_COUNT, u64::MAX, 5),
     ] {
-        let reply = |call: &[u8]| {
-            let mut state = [0; STATE_BYTES];
-            state.copy_from_slice(&changed(&started(), at, stored));
-            reply_in(&mut state, call, &lists)
-        };
+        let reply = |call: &[u8]| reply_in(&mut stored(sent(), at, number), call, &lists);
         assert_eq!(reply(&inside), row);
         assert_eq!(reply(&outside), row.min(2));
+    }
+}
+
+/// An event that acks this packet.
+fn acking(packet: u64) -> Vec<u8> {
+    changed(good(EVENT_START).as_bytes(), sample::ACKED_PACKETS, packet)
+}
+
+/// A number that was never sent beside other refusals: 1 to 4 come before it, 5 after it. In the one state
+/// it is above the last sent one, in the other nothing was sent.
+#[test]
+fn a_number_never_sent_beside_other_refusals() {
+    for (before, unsent) in [(sent(), acking(6)), (started(), acking(0))] {
+        assert_eq!(reply(&mut { before }, &unsent), 10);
+        for (at, bad, row) in [
+            (PARAMS + params::BETA, 0, 1),
+            (sample::SAMPLE_IS_APP_LIMITED, 2, 2),
+            (EVENT + event::PRIOR_CWND, MOST_BYTES + 1, 2),
+            (EVENT + event::EVENT_TIME, 9, 3),
+        ] {
+            assert_eq!(reply(&mut { before }, &changed(&unsent, at, bad)), row);
+        }
+        for (at, number, row) in [
+            (state::MAX_BANDWIDTH_0, MOST_BANDWIDTH + 1, 1),
+            (state::LAST_ACCEPTED_MOMENT, 21, 3),
+            (state::TOTAL_BYTES_ACKED, 1, 4),
+            (state::TOTAL_BYTES_LOST, 1, 4),
+            (state::ROUND_TRIP_COUNT, u64::MAX, 10),
+        ] {
+            assert_eq!(reply(&mut stored(before, at, number), &unsent), row);
+        }
+    }
+    // The same count of rounds, and a packet that was sent.
+    let mut full = stored(sent(), state::ROUND_TRIP_COUNT, u64::MAX);
+    assert_eq!(reply(&mut full, &acking(5)), 5);
+    // The count of loss events, with an event that ends no round: it loses bytes, or none.
+    let losses = stored(sent(), state::LOSS_EVENTS_IN_ROUND, u64::MAX);
+    let losses = stored(losses, state::END_OF_ROUND_TRIP_SET, 1);
+    let losses = stored(losses, state::END_OF_ROUND_TRIP, 7);
+    for (packet, lost, row) in [(6, 1, 10), (5, 1, 5), (6, 0, 10), (5, 0, 0)] {
+        let event = changed(&acking(packet), sample::TOTAL_BYTES_LOST, lost);
+        assert_eq!(reply(&mut { losses }, &event), row);
+    }
+}
+
+/// A start forgets what was sent, also a refused one; a send that is done notes it, a refused one doesn't;
+/// every other call leaves the note.
+#[test]
+fn what_a_call_does_to_the_note() {
+    let (start, send) = (good(call::START), good(call::ON_PACKET_SENT));
+    let bad_start = changed(start.as_bytes(), PARAMS + params::BETA, 0);
+    let bad_send = changed(send.as_bytes(), argument::on_packet_sent::SENT_TIME, 6);
+    for before in [started(), sent(), lived()] {
+        let stays = word(&before, state::ANYTHING_SENT);
+        let after = |call: &[u8], row: u64| {
+            let mut state = before;
+            assert_eq!(reply(&mut state, call), row);
+            word(&state, state::ANYTHING_SENT)
+        };
+        assert_eq!(after(start.as_bytes(), 0), 0);
+        assert_eq!(after(&bad_start, 1), 0);
+        assert_eq!(after(send.as_bytes(), 0), 1);
+        assert_eq!(after(&bad_send, 3), stays);
+        let is_other = |number: &u64| ![call::START, call::ON_PACKET_SENT].contains(number);
+        for number in call::ALL.into_iter().filter(is_other) {
+            let never = number == EVENT_START && stays == 0;
+            let row = if never { 10 } else { 0 };
+            assert_eq!(
+                after(good(number).as_bytes(), row),
+                stays,
+                "call {}",
+                number
+            );
+        }
+    }
+}
+
+/// After another start, done or refused, no number is acked until a send is done; none need be.
+#[test]
+fn a_start_forgets_what_was_sent() {
+    let start = good(call::START);
+    let bad = changed(start.as_bytes(), PARAMS + params::BETA, 0);
+    for (start, row) in [(&start.as_bytes()[..], 0), (&bad, 1)] {
+        let mut state = sent();
+        assert_eq!(reply(&mut { state }, &acking(5)), 0);
+        assert_eq!(reply(&mut state, start), row);
+        let none = changed(&acking(0), sample::ACKED_COUNT, 0);
+        assert_eq!(reply(&mut state, &none), 0);
+        for packet in [0, 5] {
+            assert_eq!(reply(&mut state, &acking(packet)), 10);
+        }
+        assert_eq!(reply(&mut state, good(call::ON_PACKET_SENT).as_bytes()), 0);
+        assert_eq!(reply(&mut state, &acking(5)), 0);
     }
 }
 
@@ -699,6 +890,7 @@ fn full() -> [u8; STATE_BYTES] {
         state::IS_SAMPLE_FROM_PROBING,
         state::LAST_CYCLE_PROBED_TOO_HIGH,
         state::LAST_CYCLE_STOPPED_RISKY_PROBE,
+        state::ANYTHING_SENT,
     ] {
         words[flag] = 1;
     }
@@ -713,7 +905,7 @@ fn full() -> [u8; STATE_BYTES] {
 }
 
 /// A refused start replaces the state by a fresh one: moment 0, round trip 0, both gains 1, the
-/// app-limited option off, all else as in every fresh model and cycle.
+/// app-limited option off, nothing sent, all else as in every fresh model and cycle.
 #[test]
 fn a_refused_start_leaves_a_fresh_state() {
     let mut fresh = [0; table::STATE_WORDS];
@@ -728,7 +920,7 @@ fn a_refused_start_leaves_a_fresh_state() {
     fresh[state::PACING_GAIN] = fresh[state::CWND_GAIN];
 
     let option = PARAMS + params::IGNORE_APP_LIMITED_FOR_NO_BANDWIDTH_GROWTH;
-    for before in [started(), lived(), full()] {
+    for before in [started(), sent(), lived(), full()] {
         // The state is one that calls are done in.
         assert_eq!(
             reply(&mut { before }, good(call::ENTER_PROBE_UP).as_bytes()),
@@ -754,7 +946,7 @@ fn a_refused_start_leaves_a_fresh_state() {
     assert!((0..table::STATE_WORDS).all(|at| word(&full, at) != fresh[at]));
 }
 
-/// Of several refusals the lowest is given.
+/// Of several refusals the lowest is given, but for 10: it is asked after 4.
 #[test]
 fn malformed_words_beside_other_refusals() {
     let limited = sample::SAMPLE_IS_APP_LIMITED;
@@ -777,11 +969,7 @@ fn malformed_words_beside_other_refusals() {
     );
     // In a state out of bounds it is 1, for a number of no call, too; the cycle counts where it is
     // given.
-    let in_state = |at: usize, word: u64, call: &[u8]| {
-        let mut state = [0; STATE_BYTES];
-        state.copy_from_slice(&changed(&started(), at, word));
-        reply(&mut state, call)
-    };
+    let in_state = |at: usize, word: u64, call: &[u8]| reply(&mut stored(sent(), at, word), call);
     let (slot, rounds) = (state::MAX_BANDWIDTH_0, state::PROBE_UP_ROUNDS);
     let event = changed(good(EVENT_START).as_bytes(), sample::ACKED_COUNT, 4);
     assert_eq!(in_state(slot, MOST_BANDWIDTH, &event), 2);

@@ -26,10 +26,10 @@ use guovssalu::SendTimeState;
 
 /// Words of a state, of its model, of a call and of an answer with the state after it, and the calls
 /// of a frame (oracle/README.md, "The frames").
-const STATE: usize = 50;
-const MODEL: usize = 34;
+const STATE: usize = 51;
+const MODEL: usize = 35;
 const CALL: usize = 49;
-const ANSWER: usize = 68;
+const ANSWER: usize = 69;
 const CALLS: usize = 100;
 
 /// Calls that are not the model's.
@@ -50,7 +50,7 @@ struct Case {
 /// Every call is made, and then held to expectations that are wrong in one number.
 #[test]
 fn kept_frames() {
-    let mut seen = BTreeSet::new();
+    let (mut seen, mut replies) = (BTreeSet::new(), BTreeSet::new());
     for (at, case) in cases().iter().enumerate() {
         let number = case.call[0];
         let ways: &[Way] = match number {
@@ -60,6 +60,7 @@ fn kept_frames() {
             _ => &[by_methods, by_bytes, by_lists],
         };
         seen.insert(number);
+        replies.insert(case.answer[0]);
         for way in ways {
             assert_eq!(way(case), Ok(()), "case {}, call {}", at, number);
             for wrong in case.changed() {
@@ -69,6 +70,7 @@ fn kept_frames() {
     }
     // The model's and the cycle's 44, and the two exported ones with an output.
     assert_eq!(seen.len(), 46);
+    assert!(replies.into_iter().eq([0, 1, 2, 3, 4, 5, 7, 10]));
 }
 
 /// The package's own parameters are those of the first start, which has the original's.
@@ -132,7 +134,7 @@ impl Case {
             _ => vec![0, 1],
         };
         if number < FILTER && !(number == 0 && reply > 0) {
-            places.push(18 + if number < 39 { 1 } else { 37 });
+            places.push(18 + if number < 39 { 1 } else { 38 });
         }
         let change = |place: usize| {
             let mut case = self.clone();
@@ -264,29 +266,30 @@ fn looked_up(model: &NetworkModel, cycle: &Cycle) -> Vec<(usize, u64)> {
             model.ignore_app_limited_for_no_bandwidth_growth() as u64,
         ),
         (33, model.last_accepted_moment().as_nanos()),
-        (34, cycle.phase() as u64),
-        (35, cycle.start_time().as_nanos()),
-        (36, cycle.phase_start_time().as_nanos()),
-        (37, cycle.rounds_in_phase()),
-        (38, cycle.rounds_since_probe()),
-        (41, cycle.probe_up_rounds()),
-        (44, cycle.probe_up_acked()),
+        (34, model.anything_sent() as u64),
+        (35, cycle.phase() as u64),
+        (36, cycle.start_time().as_nanos()),
+        (37, cycle.phase_start_time().as_nanos()),
+        (38, cycle.rounds_in_phase()),
+        (39, cycle.rounds_since_probe()),
+        (42, cycle.probe_up_rounds()),
+        (45, cycle.probe_up_acked()),
         (
-            45,
+            46,
             cycle.probe_up_app_limited_since_inflight_hi_limited() as u64,
         ),
-        (46, cycle.has_advanced_max_bw() as u64),
-        (47, cycle.is_sample_from_probing() as u64),
-        (48, cycle.last_cycle_probed_too_high() as u64),
-        (49, cycle.last_cycle_stopped_risky_probe() as u64),
+        (47, cycle.has_advanced_max_bw() as u64),
+        (48, cycle.is_sample_from_probing() as u64),
+        (49, cycle.last_cycle_probed_too_high() as u64),
+        (50, cycle.last_cycle_stopped_risky_probe() as u64),
     ];
     for (at, number) in [
         (2, model.end_of_round_trip()),
         (15, model.bandwidth_lo().map(bits)),
         (27, model.latest_send_rate().map(bits)),
         (29, model.latest_ack_rate().map(bits)),
-        (39, cycle.probe_wait_time().map(Duration::as_nanos)),
-        (42, cycle.probe_up_bytes()),
+        (40, cycle.probe_wait_time().map(Duration::as_nanos)),
+        (43, cycle.probe_up_bytes()),
     ] {
         all.push((at, number.is_some() as u64));
         all.push((at + 1, number.unwrap_or(0)));

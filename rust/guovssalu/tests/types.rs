@@ -64,15 +64,16 @@ fn bandwidths() {
 #[test]
 fn refusals_have_the_numbers_of_the_table() {
     let all = [
-        Refusal::OutOfBounds,
-        Refusal::BadArgument,
-        Refusal::EarlierMoment,
-        Refusal::LowerTotal,
-        Refusal::FullCounter,
-        Refusal::BadText,
-        Refusal::ShortOutput,
+        (Refusal::OutOfBounds, 1),
+        (Refusal::BadArgument, 2),
+        (Refusal::EarlierMoment, 3),
+        (Refusal::LowerTotal, 4),
+        (Refusal::FullCounter, 5),
+        (Refusal::BadText, 6),
+        (Refusal::ShortOutput, 7),
+        (Refusal::NeverSent, 10),
     ];
-    for (number, refusal) in (1..).zip(all) {
+    for (refusal, number) in all {
         assert_eq!(refusal.number(), number);
         assert!(!refusal.to_string().is_empty());
     }

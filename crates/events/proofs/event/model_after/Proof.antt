@@ -18,7 +18,7 @@ use Rattle.events.proofs.event.model_after.Tie as tie
 
 abbrev made : NetworkModel → CongestionEvent → CongestionEventSample → RoundTripCounter → MaxBandwidthFilter → MinRttFilter → Round → Latest → Lower → Bool → NetworkModel
 made m after s counter most least round latest lower limited =
-    record { rounds = counter; maxbw = most; minrtt = least; round = round; latest = latest; lower = lower; high = m .high; gains = m .gains; cwndlimited = limited; growth = m .growth; rates = record { send = s .send; ack = s .ack }; totals = s .totals; moment = after .time }
+    record { rounds = counter; maxbw = most; minrtt = least; round = round; latest = latest; lower = lower; high = m .high; gains = m .gains; cwndlimited = limited; growth = m .growth; rates = record { send = s .send; ack = s .ack }; totals = s .totals; moment = after .time; begun = m .begun }
 
 returns : tie.Need-returns
 unfolding modelAfter

@@ -8,7 +8,7 @@ use Rattle.serve.proofs.frame.answer.Statement.{statement}
 use Rattle.serve.proofs.frame.answer.Tie as tie
 
 abbrev Inv-loop : tie.InvT-loop
-Inv-loop request answers₀ state₀ i₀ answers state i = (length answers ≡ 54400) × (i ≤ 100)
+Inv-loop request answers₀ state₀ i₀ answers state i = (length answers ≡ 55200) × (i ≤ 100)
 
 abbrev μ-loop : tie.MeasureT-loop
 μ-loop request answers₀ state₀ i₀ answers state i = 100 - i

@@ -7,7 +7,7 @@ use Rattle.serve.proofs.neighbours.answers.Statement.{statement}
 use Rattle.serve.proofs.neighbours.answers.Tie as tie
 
 abbrev Inv-loop : tie.InvT-loop
-Inv-loop function first other words₀ next₀ i₀ words next i = (length words ≡ 68) × (i ≤ 66)
+Inv-loop function first other words₀ next₀ i₀ words next i = (length words ≡ 69) × (i ≤ 66)
 
 abbrev μ-loop : tie.MeasureT-loop
 μ-loop function first other words₀ next₀ i₀ words next i = 66 - i

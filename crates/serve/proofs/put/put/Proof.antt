@@ -7,7 +7,7 @@ use Rattle.serve.proofs.put.put.Statement.{statement}
 use Rattle.serve.proofs.put.put.Tie as tie
 
 abbrev Inv-loop : tie.InvT-loop
-Inv-loop state₀ call count i₀ state i = (length state ≡ 400) × (count ≤ 23) × (i ≤ count)
+Inv-loop state₀ call count i₀ state i = (length state ≡ 408) × (count ≤ 23) × (i ≤ count)
 
 abbrev μ-loop : tie.MeasureT-loop
 μ-loop state₀ call count i₀ state i = count - i

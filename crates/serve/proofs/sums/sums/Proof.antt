@@ -7,10 +7,10 @@ use Rattle.serve.proofs.sums.sums.Statement.{statement}
 use Rattle.serve.proofs.sums.sums.Tie as tie
 
 abbrev Inv-loop : tie.InvT-loop
-Inv-loop answers sum₀ total₀ i₀ sum total i = i ≤ 6800
+Inv-loop answers sum₀ total₀ i₀ sum total i = i ≤ 6900
 
 abbrev μ-loop : tie.MeasureT-loop
-μ-loop answers sum₀ total₀ i₀ sum total i = 6800 - i
+μ-loop answers sum₀ total₀ i₀ sum total i = 6900 - i
 
 pub sums-spec : {M : Type 1} → statement M
 sums-spec =
