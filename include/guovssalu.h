@@ -403,7 +403,8 @@ enum {
  * An event, GUOVSSALU_CALL_ON_CONGESTION_EVENT_START, that acks a packet which was never sent is refused
  * with GUOVSSALU_NEVER_SENT, and nothing of it counts: where one of its numbers is above the last sent
  * one, and where it has a number and nothing was sent since the start. The last sent one is the number
- * of the last send, and not the greatest that was sent.
+ * of the last send, and not the greatest that was sent; a number up to it is taken, whether it was
+ * sent or not.
  *
  * So a model's packets are numbered in one rising row, in the order in which they are sent. QUIC has
  * three packet number spaces, each from 0: whoever feeds several of them into one model numbers the

@@ -780,7 +780,7 @@ pub fn around_end(state: &State) -> (u64, u64) {
 
 /// A number that was never sent, if there is one: above the last sent one, or any
 /// before the first send.
-pub fn never_sent(random: &mut Random, state: &State) -> Option<u64> {
+pub fn unsent_number(random: &mut Random, state: &State) -> Option<u64> {
     let sent = state[LAST_SENT];
     if state[ANYTHING_SENT] == 0 {
         let any = random.of_length(64);

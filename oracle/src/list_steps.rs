@@ -199,7 +199,7 @@ impl Lists {
         let mut numbers = self.sent_numbers(length, state);
         let random = &mut self.random;
         if length > 0 && random.one_in(10) {
-            let unsent = calls::never_sent(random, state);
+            let unsent = calls::unsent_number(random, state);
             numbers[place(random, length)] = unsent.unwrap_or(u64::MAX);
         }
         numbers

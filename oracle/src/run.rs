@@ -43,7 +43,7 @@ impl<'a> Run<'a> {
     }
 
     /// Makes a call to which the port replies this number; its answer. The
-    /// reply is read a second time from the table of document 01.
+    /// reply is read a second time from the documents' table.
     pub fn expect(&mut self, reply: u64, call: Call) -> u64 {
         if let Some(held) = self.held.take() {
             self.put(vec![held]);

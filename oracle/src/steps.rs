@@ -213,7 +213,7 @@ impl Steps {
     /// Puts a number that was never sent among the acked ones; whether there is
     /// one.
     fn ack_unsent(&mut self, sample: &mut Sample, state: &State) -> bool {
-        let Some(number) = calls::never_sent(&mut self.random, state) else {
+        let Some(number) = calls::unsent_number(&mut self.random, state) else {
             return false;
         };
         if sample.acked_length == 0 {

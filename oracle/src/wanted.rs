@@ -9,11 +9,9 @@ impl Wanted {
         Wanted(all.iter().map(|&what| (what, 0)).collect())
     }
 
-    /// Counts `what` if it holds.
+    /// Counts `what` if it holds; stops if it is none of them.
     pub fn mark(&mut self, what: &'static str, holds: bool) {
-        if holds {
-            *self.0.get_mut(what).expect(what) += 1;
-        }
+        *self.0.get_mut(what).expect(what) += u64::from(holds);
     }
 
     /// Prints the counts, after such a word.

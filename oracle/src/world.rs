@@ -1,5 +1,5 @@
 //! The original with its state, and its answers in the words of a frame. What
-//! the table of document 01 refuses isn't asked of it.
+//! the table of refusals turns away isn't asked of it.
 
 use guovssalu_sys::table::reason;
 use guovssalu_sys::table::reply;

@@ -7,7 +7,7 @@ use Rattle.filters.specs.MaxBandwidthFilter.{maxGet, maxUpdate}
 use Rattle.filters.specs.RoundTripCounter.{endsRound, roundsFull, roundsEnded, roundsAcked}
 use Rattle.state.specs.Answers.{settled}
 use Rattle.state.specs.Bounds.{within}
-use Rattle.state.specs.Refusals.{rowOf}
+use Rattle.state.specs.Refusals.{rowOf, upToFour}
 use Rattle.state.specs.Params.{paramsOk}
 use Rattle.state.specs.Parts.{roundOk}
 use Rattle.state.specs.NetworkModel.{modelTests, storedNumber, givenNumber}
@@ -27,5 +27,5 @@ use Rattle.dispatch.specs.Outcome.{eventOutcome, finishOutcome, enterOut
 use Rattle.dispatch.specs.Examples.{outcomeExamples}
 
 pub outcome-examples : all outcomeExamples ≡ true
-unfolding all outcomeExamples Ieee.ofBits Ieee.le maxGet maxUpdate endsRound roundsFull roundsEnded roundsAcked settled within paramsOk roundOk modelTests rowOf storedNumber givenNumber H.eventTests H.sampleTests E.stateAfter E.isUnsent E.isFull E.eventNumber E.eventAfter E.eventNext E.roundNext E.roundAfter E.deliveredBy finishNumber cycleTests entryNumber modelFrom cycleFrom paramsFrom eventFits eventFromWord wordsFrom eventWords ackedFits sampleFits sampleFrom ackedOf changeOf changeMore enterOf eventOutcome finishOutcome enterOutcome changeOutcome outcomeOf
+unfolding all outcomeExamples Ieee.ofBits Ieee.le maxGet maxUpdate endsRound roundsFull roundsEnded roundsAcked settled within paramsOk roundOk modelTests rowOf upToFour storedNumber givenNumber H.eventTests H.sampleTests E.stateAfter E.isUnsent E.isFull E.eventNumber E.eventAfter E.eventNext E.roundNext E.roundAfter E.deliveredBy finishNumber cycleTests entryNumber modelFrom cycleFrom paramsFrom eventFits eventFromWord wordsFrom eventWords ackedFits sampleFits sampleFrom ackedOf changeOf changeMore enterOf eventOutcome finishOutcome enterOutcome changeOutcome outcomeOf
 outcome-examples = refl

@@ -99,9 +99,9 @@ outcomeExamples =
     -- packets that were never sent, 10 in the call, 9 in the lists where 8 is the last sent: the record comes back as
     -- it was. 9 is taken where it is the last sent
     ∷ shows (with (with (with (call 3) 18 1) 19 10) 23 5) sound 10 (with (zeros 16) 1 5)
-    ∷ shows (with (with (with (call 3) 18 1) 19 9) 28 1) sound 0 (with (zeros 16) 6 1)
+    ∷ shows (with (with (call 3) 18 1) 19 9) sound 0 (with (zeros 16) 6 1)
     ∷ shows (with (with (call 3) 18 4) 23 5 ++ (1 ∷ 9 ∷ 2 ∷ 3 ∷ [])) (with sound 1 8) 10 (with (zeros 16) 1 5)
-    -- nothing was sent yet, whatever word 1 is: 0 is refused, and no number at all is taken
+    -- nothing was sent yet, whatever word 1 is: 0 is refused, and an event without numbers is taken
     ∷ shows (with (call 3) 18 1) (with sound 34 0) 10 (zeros 16)
     ∷ shows (call 3) (with sound 34 0) 0 (zeros 16)
     ∷ []

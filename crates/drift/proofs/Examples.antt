@@ -11,7 +11,7 @@ use Rattle.filters.specs.MaxBandwidthFilter.{maxGet, maxUpdate}
 use Rattle.filters.specs.RoundTripCounter.{roundsSent, endsRound, roundsFull, roundsEnded, roundsAcked}
 use Rattle.state.specs.Answers.{settled}
 use Rattle.state.specs.Bounds.{all, within}
-use Rattle.state.specs.Refusals.{rowOf}
+use Rattle.state.specs.Refusals.{rowOf, upToFour}
 use Rattle.state.specs.Params.{paramsOk}
 use Rattle.state.specs.Parts.{roundOk, roundSent, lowerCapped}
 use Rattle.state.specs.NetworkModel.{modelTests, withRounds, withRound, withLower, withMoment, withBegun, modelNew, startNumber, startModel, storedNumber, givenNumber, capNext, clearInflightNext, clearBandwidthNext, withGrowth, growthRestarted, restartNext}
@@ -26,7 +26,7 @@ use Rattle.drift.specs.Drift.{inflightLow, bandwidthLow, Nearer}
 use Rattle.drift.specs.Examples.{driftExamples, EpisodeFollows}
 
 pub drift-examples : all driftExamples ≡ true
-unfolding driftExamples scaled scaledF64 roundAway timesF32 Ieee.round Ieee.ofBits Ieee.sub Ieee.mul Ieee.ofInt Ieee.toUnsigned Ieee.eq Ieee.le maxGet maxUpdate roundsSent endsRound roundsFull roundsEnded roundsAcked settled within paramsOk roundOk modelTests rowOf withRounds withRound withLower withMoment withBegun modelNew startNumber startModel storedNumber givenNumber sentNumber sentNext capNext clearInflightNext clearBandwidthNext withGrowth growthRestarted restartNext lowerCapped roundSent eventTests sampleTests stateAfter deliveredBy roundAfter latestRaised lowerReduced lowerAfter latestAfter eventAfter eventNext maxbwNext roundNext adaptLowerBounds modelAfter modelNext isUnsent isFull eventNumber finishNumber finishNext cycleNew stayFrom freshNumber freshCycle cycleTests entryNumber restartedAt exitModel leftModel leftCycle cycleIn cruiseModel cruiseCycle refillModel refilled refillCycle otherNumber numberOf otherNext nextOf after run started isReduced inflightEffect bandwidthEffect exactly exactRun inflightLow bandwidthLow
+unfolding driftExamples scaled scaledF64 roundAway timesF32 Ieee.round Ieee.ofBits Ieee.sub Ieee.mul Ieee.ofInt Ieee.toUnsigned Ieee.eq Ieee.le maxGet maxUpdate roundsSent endsRound roundsFull roundsEnded roundsAcked settled within paramsOk roundOk modelTests rowOf upToFour withRounds withRound withLower withMoment withBegun modelNew startNumber startModel storedNumber givenNumber sentNumber sentNext capNext clearInflightNext clearBandwidthNext withGrowth growthRestarted restartNext lowerCapped roundSent eventTests sampleTests stateAfter deliveredBy roundAfter latestRaised lowerReduced lowerAfter latestAfter eventAfter eventNext maxbwNext roundNext adaptLowerBounds modelAfter modelNext isUnsent isFull eventNumber finishNumber finishNext cycleNew stayFrom freshNumber freshCycle cycleTests entryNumber restartedAt exitModel leftModel leftCycle cycleIn cruiseModel cruiseCycle refillModel refilled refillCycle otherNumber numberOf otherNext nextOf after run started isReduced inflightEffect bandwidthEffect exactly exactRun inflightLow bandwidthLow
 drift-examples = refl
 
 -- the loss episode: both bounds on each of its three numbers, computed

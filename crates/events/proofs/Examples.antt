@@ -12,7 +12,7 @@ use Rattle.filters.specs.RoundTripCounter.{roundsSent, endsRound, roundsFull, r
 use Rattle.state.specs.Answers.{settled}
 use Rattle.state.specs.Bounds.{within}
 use Rattle.state.specs.Bounds as Bounds
-use Rattle.state.specs.Refusals.{rowOf}
+use Rattle.state.specs.Refusals.{rowOf, upToFour}
 use Rattle.state.specs.Params.{paramsOk}
 use Rattle.state.specs.Parts.{roundOk}
 use Rattle.state.specs.NetworkModel.{modelTests, withRounds, withRound, withBegun, modelNew, startNumber, startModel}
@@ -21,9 +21,9 @@ use Rattle.events.specs.Event.{cwndlimitedAfter, stateAfter, deliveredBy
 use Rattle.events.specs.NeverSent.{unsentEvents}
 
 pub worked-events : Bounds.all workedEvents ≡ true
-unfolding workedEvents scaled scaledF64 roundAway timesF32 Ieee.round Ieee.ofBits Ieee.sub Ieee.mul Ieee.ofInt Ieee.toUnsigned Ieee.eq Ieee.le maxGet maxUpdate minUpdate roundsSent endsRound roundsFull roundsEnded roundsAcked settled within paramsOk roundOk modelTests rowOf withRounds withRound withBegun modelNew startNumber startModel eventTests sampleTests cwndlimitedAfter stateAfter deliveredBy roundAfter latestRaised lowerReduced lowerAfter latestAfter eventAfter eventNext maxbwNext roundNext adaptLowerBounds modelAfter modelNext isUnsent isFull eventNumber finishNext
+unfolding workedEvents scaled scaledF64 roundAway timesF32 Ieee.round Ieee.ofBits Ieee.sub Ieee.mul Ieee.ofInt Ieee.toUnsigned Ieee.eq Ieee.le maxGet maxUpdate minUpdate roundsSent endsRound roundsFull roundsEnded roundsAcked settled within paramsOk roundOk modelTests rowOf upToFour withRounds withRound withBegun modelNew startNumber startModel eventTests sampleTests cwndlimitedAfter stateAfter deliveredBy roundAfter latestRaised lowerReduced lowerAfter latestAfter eventAfter eventNext maxbwNext roundNext adaptLowerBounds modelAfter modelNext isUnsent isFull eventNumber finishNext
 worked-events = refl
 
 pub unsent-events : all unsentEvents ≡ true
-unfolding all unsentEvents scaled scaledF64 roundAway timesF32 Ieee.round Ieee.ofBits Ieee.sub Ieee.mul Ieee.ofInt Ieee.toUnsigned Ieee.eq Ieee.le maxGet maxUpdate minUpdate roundsSent endsRound roundsFull roundsEnded roundsAcked settled within paramsOk roundOk modelTests rowOf withRounds withRound withBegun modelNew startNumber startModel eventTests sampleTests cwndlimitedAfter stateAfter deliveredBy roundAfter latestRaised lowerReduced lowerAfter latestAfter eventAfter eventNext maxbwNext roundNext adaptLowerBounds modelAfter modelNext isUnsent isFull eventNumber finishNext
+unfolding all unsentEvents scaled scaledF64 roundAway timesF32 Ieee.round Ieee.ofBits Ieee.sub Ieee.mul Ieee.ofInt Ieee.toUnsigned Ieee.eq Ieee.le maxGet maxUpdate minUpdate roundsSent endsRound roundsFull roundsEnded roundsAcked settled within paramsOk roundOk modelTests rowOf upToFour withRounds withRound withBegun modelNew startNumber startModel eventTests sampleTests cwndlimitedAfter stateAfter deliveredBy roundAfter latestRaised lowerReduced lowerAfter latestAfter eventAfter eventNext maxbwNext roundNext adaptLowerBounds modelAfter modelNext isUnsent isFull eventNumber finishNext
 unsent-events = refl

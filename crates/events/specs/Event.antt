@@ -1,6 +1,7 @@
 -- One event, in order: document 01, "One event, in order"; network_model.rs, on_congestion_event_start and
--- adapt_lower_bounds in BwLoMode::Default. m is the model before the event, e the event as handed in, s what the
--- sampler says to it, and `acked` the packet numbers acked.
+-- adapt_lower_bounds in BwLoMode::Default. Document 02, request i: the Rust decides over events that pass row 10. m is
+-- the model before the event, e the event as handed in, s what the sampler says to it, and `acked` the packet numbers
+-- acked.
 --
 -- The way of an event. Check: the table's rows (`eventRows`). Round: whether one ends (`roundsEnded`, `roundsAcked`).
 -- Sample: the event itself, the filters and the round's sums (`eventAfter`, `maxbwNext`, `minrttAfter`, `roundNext`).

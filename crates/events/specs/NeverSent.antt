@@ -13,15 +13,16 @@ use Rattle.state.specs.NetworkModel.{withRounds}
 use Rattle.events.specs.Event.{isUnsent, eventNumber, usual, fresh, sends, told, heard, roundModel}
 
 pub record NeverSent : Type 0 where
-  -- an empty list is never turned away, before the first send neither
+  -- an empty list is never turned away, not even before the first send
   pub empty : (m : NetworkModel) → isUnsent m [] ≡ false
-  -- any other passes exactly where something was sent and none of its numbers is above the last sent one
+  -- any other passes exactly where something was sent and none of its numbers is above the last sent one (`A ↔ B` is
+  -- "A exactly when B")
   pub passes : (m : NetworkModel) (n : ℕ) (l : List ℕ) →
       isUnsent m (n ∷ l) ≡ false ↔ (m .begun ≡ true) × NoneAbove (n ∷ l) (m .rounds .sent)
   -- so the last sent number itself passes, and the next does not
   pub last : (m : NetworkModel) → m .begun ≡ true → isUnsent m (m .rounds .sent ∷ []) ≡ false
   pub next : (m : NetworkModel) → isUnsent m ((m .rounds .sent + 1) ∷ []) ≡ true
-  -- before the first send no number does, 0 neither
+  -- before the first send no number does, not even 0
   pub before : (m : NetworkModel) (n : ℕ) (l : List ℕ) → m .begun ≡ false → isUnsent m (n ∷ l) ≡ true
   -- the greatest number decides, wherever in the list it stands
   pub decides : (m : NetworkModel) (l : List ℕ) → isUnsent m l ≡ isUnsent m (listed (greatest l))
@@ -30,7 +31,7 @@ pub record NeverSent : Type 0 where
 abbrev acking : (n : ℕ) → NetworkModel → List ℕ → ℕ
 acking n m acked = eventNumber m usual (told n) (heard n) acked
 
--- the count of rounds is full, and no end is set: any number would end a round
+-- the count of rounds is full; of a fresh model no end is set, so that any number would end a round
 abbrev counted : NetworkModel → NetworkModel
 counted m = withRounds m (record { count = 2 ^ 64 - 1; sent = m .rounds .sent; end = m .rounds .end })
 

@@ -35,7 +35,7 @@ falling = allBytes (0 ∷ 5 ∷ 2 ∷ 1 ∷ 1 ∷ 1 ∷ [])
 abbrev pub refused : List ℕ
 refused = allBytes (3 ∷ 5 ∷ 2 ∷ 5 ∷ [])
 
--- a state of zeros, in which every call is refused, with one word put anew
+-- a state of zeros, in which every call on the model but a start is refused, with one word put anew
 abbrev pub states : ℕ → ℕ → List ℕ
 states i x = allBytes (with (zeros 51) i x)
 

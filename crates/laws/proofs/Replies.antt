@@ -12,7 +12,7 @@ use Rattle.filters.specs.Reason.{windowedReason}
 use Rattle.filters.specs.WindowedFilter.{isAfter, windowedNumber, windowedUpdate}
 use Rattle.state.specs.Answers.{settled}
 use Rattle.state.specs.declared.refusals.Rows.{Rows}
-use Rattle.state.specs.Refusals.{isFullCounter, rowOf, askedOf, firstOf}
+use Rattle.state.specs.Refusals.{isFullCounter, rowOf, upToFour, askedOf, firstOf}
 use Rattle.state.specs.NetworkModel.{startNumber, startModel, storedNumber, givenNumber, headroomNumber}
 use Rattle.changes.specs.Changes.{sentNumber, postponeNumber}
 use Rattle.state.proofs.Rows.{None}
@@ -35,7 +35,7 @@ Row (suc (suc (suc (suc (suc zero))))) s a e l u f = (s ≡ false) × (a ≡ fal
 Row (suc (suc (suc (suc (suc (suc n)))))) s a e l u f = (n ≡ 4) × (s ≡ false) × (a ≡ false) × (e ≡ false) × (l ≡ false) × (u ≡ true)
 
 row-holds : (s a e l u f : Bool) → Row (askedOf s a e l u f) s a e l u f
-unfolding rowOf
+unfolding rowOf upToFour
 row-holds true a e l true f = refl
 row-holds true a e l false f = refl
 row-holds false true e l true f = (refl, refl)
@@ -49,7 +49,7 @@ row-holds false false false false false true = (refl, refl, refl, refl, refl, re
 row-holds false false false false false false = (refl, record { stored-fine = refl; argument-fine = refl; in-order = refl; no-lower = refl; not-full = refl })
 
 row-only : (n : ℕ) (s a e l u f : Bool) → Row n s a e l u f → askedOf s a e l u f ≡ n
-unfolding rowOf
+unfolding rowOf upToFour
 row-only zero s a e l u f h = simp (h .0, h .1 .stored-fine, h .1 .argument-fine, h .1 .in-order, h .1 .no-lower, h .1 .not-full)
 row-only (suc zero) s a e l true f h = simp h
 row-only (suc zero) s a e l false f h = simp h

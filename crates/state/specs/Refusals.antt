@@ -97,11 +97,19 @@ rowOf stored argument earlier lower full =
     (cond full 5
     0))))
 
--- "10, asked after 4 and before 5": where row 10 holds and none of the rows 1 to 4 does, it is 10, whether row 5 holds
--- or not; otherwise it is the lowest
+-- "10, asked after 4 and before 5": where row 10 holds, it is 10 unless one of the rows 1 to 4 holds, and row 5 is not
+-- asked; where it does not hold, it is the lowest
+unfoldable pub upToFour : (stored argument earlier lower : Bool) → ℕ → ℕ
+upToFour stored argument earlier lower next =
+    cond stored 1
+    (cond argument 2
+    (cond earlier 3
+    (cond lower 4
+    next)))
+
 abbrev pub askedOf : (stored argument earlier lower unsent full : Bool) → ℕ
 askedOf stored argument earlier lower unsent full =
-    cond (unsent && eqb (rowOf stored argument earlier lower false) 0) 10 (rowOf stored argument earlier lower full)
+    cond unsent (upToFour stored argument earlier lower 10) (rowOf stored argument earlier lower full)
 
 abbrev pub firstOf : Rows → ℕ
 firstOf r = askedOf (r .stored) (r .argument) (r .earlier) (r .lower) (r .unsent) (r .full)

@@ -14,7 +14,7 @@ use Rattle.calls.specs.Change.{Change, changeOf, changeMore}
 use Rattle.calls.specs.Question.{Judged, judgeOf}
 use Rattle.calls.specs.Enter.{Entry, enterOf}
 use Rattle.drift.specs.Calls.{State, otherNumber, numberOf, otherNext, nextOf, after}
-use Rattle.theorems.specs.Steps.{Step, Replies, afterStep, begun, Makes, judgeStep, enterStep, changeStep, stepOf}
+use Rattle.theorems.specs.Steps.{Step, Replies, afterStep, afterStart, Makes, judgeStep, enterStep, changeStep, stepOf}
 use Rattle.theorems.proofs.Choice.{both}
 
 abbrev pub state : NetworkModel → Cycle → State
@@ -106,7 +106,7 @@ module _ (w : List ℕ) (m : NetworkModel) (y : Cycle) where
 
   -- ---- all of them
   outcome : R (outcomeOf w m y) (stepOf w)
-  unfolding outcomeOf stepOf startOutcome sendOutcome eventOutcome finishOutcome askOutcome afterStep begun after numberOf otherNumber nextOf otherNext
+  unfolding outcomeOf stepOf startOutcome sendOutcome eventOutcome finishOutcome askOutcome afterStep afterStart after numberOf otherNumber nextOf otherNext
   outcome =
       let n = word w 0 in
       both R (eqb n 1) _ _ _ _ (settled-model _ m _ y, refl)

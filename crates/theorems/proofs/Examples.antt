@@ -9,7 +9,7 @@ use Rattle.filters.specs.MaxBandwidthFilter.{maxGet, maxUpdate}
 use Rattle.filters.specs.RoundTripCounter.{roundsSent, endsRound, roundsFull, roundsEnded, roundsAcked}
 use Rattle.state.specs.Answers.{settled}
 use Rattle.state.specs.Bounds.{all, within}
-use Rattle.state.specs.Refusals.{rowOf, orShort}
+use Rattle.state.specs.Refusals.{rowOf, upToFour, orShort}
 use Rattle.state.specs.Params.{paramsOk}
 use Rattle.state.specs.Parts.{roundOk, roundSent, lowerCapped}
 use Rattle.state.specs.NetworkModel.{modelTests, withRounds, withRound, withLower, withMoment, withBegun, modelNew, startNumber, startModel, storedNumber, givenNumber}
@@ -32,26 +32,26 @@ use Rattle.dispatch.specs.OneCall.{answerWords}
 use Rattle.guovssalu.specs.Reply.{answered}
 use Rattle.drift.specs.Calls.{otherNumber, numberOf, otherNext, nextOf, after}
 use Rattle.drift.specs.Exact.{isReduced, inflightEffect, exactly}
-use Rattle.theorems.specs.Steps.{judgeStep, enterStep, changeStep, stepOf, begun, afterStep, stepsFrom, walk, exactStep, exactWalk}
+use Rattle.theorems.specs.Steps.{judgeStep, enterStep, changeStep, stepOf, afterStart, afterStep, stepsFrom, walk, exactStep, exactWalk}
 use Rattle.theorems.specs.Runs.{stateFrom, exactAfter, exactRuns, lowWord}
 use Rattle.theorems.specs.Examples.{firstExamples, secondExamples, descendingExamples, unsentExamples, thirdExamples}
 
 pub first-examples : all firstExamples ≡ true
-unfolding firstExamples scaled scaledF64 roundAway timesF32 Ieee.round Ieee.ofBits Ieee.toBits Ieee.sub Ieee.mul Ieee.ofInt Ieee.toUnsigned Ieee.eq Ieee.le maxGet maxUpdate roundsSent endsRound roundsFull roundsEnded roundsAcked settled within paramsOk roundOk modelTests rowOf withRounds withRound withLower withMoment withBegun modelNew startNumber startModel storedNumber givenNumber sentNumber sentNext lowerCapped roundSent eventTests sampleTests stateAfter deliveredBy roundAfter latestRaised lowerReduced lowerAfter latestAfter eventAfter eventNext maxbwNext roundNext adaptLowerBounds modelAfter modelNext isUnsent isFull eventNumber cwndlimitedAfter cycleNew stayFrom freshNumber freshCycle cycleTests numberAt lowBytes wordsAt allBytes N.modelFrom N.modelWords cycleFrom cycleWords paramsFrom eventFits eventFromWord wordsFrom eventWords ackedFits sampleFits sampleFrom ackedOf askOf readOf readMore enterOf startOutcome sendOutcome eventOutcome finishOutcome judgeOutcome askOutcome enterOutcome changeOutcome outcomeOf sameWords isState encodesNone outcomeAt answerWords answersTo leftBy answersFrom wordsLeft modelRow answersOut stateOut orShort answered otherNumber numberOf otherNext nextOf after isReduced inflightEffect exactly judgeStep enterStep changeStep stepOf begun afterStep stateFrom stepsFrom walk exactStep exactWalk exactAfter exactRuns lowWord
+unfolding firstExamples scaled scaledF64 roundAway timesF32 Ieee.round Ieee.ofBits Ieee.toBits Ieee.sub Ieee.mul Ieee.ofInt Ieee.toUnsigned Ieee.eq Ieee.le maxGet maxUpdate roundsSent endsRound roundsFull roundsEnded roundsAcked settled within paramsOk roundOk modelTests rowOf upToFour withRounds withRound withLower withMoment withBegun modelNew startNumber startModel storedNumber givenNumber sentNumber sentNext lowerCapped roundSent eventTests sampleTests stateAfter deliveredBy roundAfter latestRaised lowerReduced lowerAfter latestAfter eventAfter eventNext maxbwNext roundNext adaptLowerBounds modelAfter modelNext isUnsent isFull eventNumber cwndlimitedAfter cycleNew stayFrom freshNumber freshCycle cycleTests numberAt lowBytes wordsAt allBytes N.modelFrom N.modelWords cycleFrom cycleWords paramsFrom eventFits eventFromWord wordsFrom eventWords ackedFits sampleFits sampleFrom ackedOf askOf readOf readMore enterOf startOutcome sendOutcome eventOutcome finishOutcome judgeOutcome askOutcome enterOutcome changeOutcome outcomeOf sameWords isState encodesNone outcomeAt answerWords answersTo leftBy answersFrom wordsLeft modelRow answersOut stateOut orShort answered otherNumber numberOf otherNext nextOf after isReduced inflightEffect exactly judgeStep enterStep changeStep stepOf afterStart afterStep stateFrom stepsFrom walk exactStep exactWalk exactAfter exactRuns lowWord
 first-examples = refl
 
 pub second-examples : all secondExamples ≡ true
-unfolding secondExamples scaled scaledF64 roundAway timesF32 Ieee.round Ieee.ofBits Ieee.toBits Ieee.sub Ieee.mul Ieee.ofInt Ieee.toUnsigned Ieee.eq Ieee.le maxGet maxUpdate roundsSent endsRound roundsFull roundsEnded roundsAcked settled within paramsOk roundOk modelTests rowOf withRounds withRound withLower withMoment withBegun modelNew startNumber startModel storedNumber givenNumber sentNumber sentNext lowerCapped roundSent eventTests sampleTests stateAfter deliveredBy roundAfter latestRaised lowerReduced lowerAfter latestAfter eventAfter eventNext maxbwNext roundNext adaptLowerBounds modelAfter modelNext isUnsent isFull eventNumber cwndlimitedAfter cycleNew stayFrom freshNumber freshCycle cycleTests numberAt lowBytes wordsAt allBytes N.modelFrom N.modelWords cycleFrom cycleWords paramsFrom eventFits eventFromWord wordsFrom eventWords ackedFits sampleFits sampleFrom ackedOf askOf readOf readMore enterOf startOutcome sendOutcome eventOutcome finishOutcome judgeOutcome askOutcome enterOutcome changeOutcome outcomeOf sameWords isState encodesNone outcomeAt answerWords answersTo leftBy answersFrom wordsLeft modelRow answersOut stateOut orShort answered otherNumber numberOf otherNext nextOf after isReduced inflightEffect exactly judgeStep enterStep changeStep stepOf begun afterStep stateFrom stepsFrom walk exactStep exactWalk exactAfter exactRuns lowWord
+unfolding secondExamples scaled scaledF64 roundAway timesF32 Ieee.round Ieee.ofBits Ieee.toBits Ieee.sub Ieee.mul Ieee.ofInt Ieee.toUnsigned Ieee.eq Ieee.le maxGet maxUpdate roundsSent endsRound roundsFull roundsEnded roundsAcked settled within paramsOk roundOk modelTests rowOf upToFour withRounds withRound withLower withMoment withBegun modelNew startNumber startModel storedNumber givenNumber sentNumber sentNext lowerCapped roundSent eventTests sampleTests stateAfter deliveredBy roundAfter latestRaised lowerReduced lowerAfter latestAfter eventAfter eventNext maxbwNext roundNext adaptLowerBounds modelAfter modelNext isUnsent isFull eventNumber cwndlimitedAfter cycleNew stayFrom freshNumber freshCycle cycleTests numberAt lowBytes wordsAt allBytes N.modelFrom N.modelWords cycleFrom cycleWords paramsFrom eventFits eventFromWord wordsFrom eventWords ackedFits sampleFits sampleFrom ackedOf askOf readOf readMore enterOf startOutcome sendOutcome eventOutcome finishOutcome judgeOutcome askOutcome enterOutcome changeOutcome outcomeOf sameWords isState encodesNone outcomeAt answerWords answersTo leftBy answersFrom wordsLeft modelRow answersOut stateOut orShort answered otherNumber numberOf otherNext nextOf after isReduced inflightEffect exactly judgeStep enterStep changeStep stepOf afterStart afterStep stateFrom stepsFrom walk exactStep exactWalk exactAfter exactRuns lowWord
 second-examples = refl
 
 pub descending-examples : all descendingExamples ≡ true
-unfolding descendingExamples scaled scaledF64 roundAway timesF32 Ieee.round Ieee.ofBits Ieee.toBits Ieee.sub Ieee.mul Ieee.ofInt Ieee.toUnsigned Ieee.eq Ieee.le maxGet maxUpdate roundsSent endsRound roundsFull roundsEnded roundsAcked settled within paramsOk roundOk modelTests rowOf withRounds withRound withLower withMoment withBegun modelNew startNumber startModel storedNumber givenNumber sentNumber sentNext lowerCapped roundSent eventTests sampleTests stateAfter deliveredBy roundAfter latestRaised lowerReduced lowerAfter latestAfter eventAfter eventNext maxbwNext roundNext adaptLowerBounds modelAfter modelNext isUnsent isFull eventNumber cwndlimitedAfter cycleNew stayFrom freshNumber freshCycle cycleTests numberAt lowBytes wordsAt allBytes N.modelFrom N.modelWords cycleFrom cycleWords paramsFrom eventFits eventFromWord wordsFrom eventWords ackedFits sampleFits sampleFrom ackedOf askOf readOf readMore enterOf startOutcome sendOutcome eventOutcome finishOutcome judgeOutcome askOutcome enterOutcome changeOutcome outcomeOf sameWords isState encodesNone outcomeAt answerWords answersTo leftBy answersFrom wordsLeft modelRow answersOut stateOut orShort answered otherNumber numberOf otherNext nextOf after isReduced inflightEffect exactly judgeStep enterStep changeStep stepOf begun afterStep stateFrom stepsFrom walk exactStep exactWalk exactAfter exactRuns lowWord
+unfolding descendingExamples scaled scaledF64 roundAway timesF32 Ieee.round Ieee.ofBits Ieee.toBits Ieee.sub Ieee.mul Ieee.ofInt Ieee.toUnsigned Ieee.eq Ieee.le maxGet maxUpdate roundsSent endsRound roundsFull roundsEnded roundsAcked settled within paramsOk roundOk modelTests rowOf upToFour withRounds withRound withLower withMoment withBegun modelNew startNumber startModel storedNumber givenNumber sentNumber sentNext lowerCapped roundSent eventTests sampleTests stateAfter deliveredBy roundAfter latestRaised lowerReduced lowerAfter latestAfter eventAfter eventNext maxbwNext roundNext adaptLowerBounds modelAfter modelNext isUnsent isFull eventNumber cwndlimitedAfter cycleNew stayFrom freshNumber freshCycle cycleTests numberAt lowBytes wordsAt allBytes N.modelFrom N.modelWords cycleFrom cycleWords paramsFrom eventFits eventFromWord wordsFrom eventWords ackedFits sampleFits sampleFrom ackedOf askOf readOf readMore enterOf startOutcome sendOutcome eventOutcome finishOutcome judgeOutcome askOutcome enterOutcome changeOutcome outcomeOf sameWords isState encodesNone outcomeAt answerWords answersTo leftBy answersFrom wordsLeft modelRow answersOut stateOut orShort answered otherNumber numberOf otherNext nextOf after isReduced inflightEffect exactly judgeStep enterStep changeStep stepOf afterStart afterStep stateFrom stepsFrom walk exactStep exactWalk exactAfter exactRuns lowWord
 descending-examples = refl
 
 pub unsent-examples : all unsentExamples ≡ true
-unfolding unsentExamples scaled scaledF64 roundAway timesF32 Ieee.round Ieee.ofBits Ieee.toBits Ieee.sub Ieee.mul Ieee.ofInt Ieee.toUnsigned Ieee.eq Ieee.le maxGet maxUpdate roundsSent endsRound roundsFull roundsEnded roundsAcked settled within paramsOk roundOk modelTests rowOf withRounds withRound withLower withMoment withBegun modelNew startNumber startModel storedNumber givenNumber sentNumber sentNext lowerCapped roundSent eventTests sampleTests stateAfter deliveredBy roundAfter latestRaised lowerReduced lowerAfter latestAfter eventAfter eventNext maxbwNext roundNext adaptLowerBounds modelAfter modelNext isUnsent isFull eventNumber cwndlimitedAfter cycleNew stayFrom freshNumber freshCycle cycleTests numberAt lowBytes wordsAt allBytes N.modelFrom N.modelWords cycleFrom cycleWords paramsFrom eventFits eventFromWord wordsFrom eventWords ackedFits sampleFits sampleFrom ackedOf askOf readOf readMore enterOf startOutcome sendOutcome eventOutcome finishOutcome judgeOutcome askOutcome enterOutcome changeOutcome outcomeOf sameWords isState encodesNone outcomeAt answerWords answersTo leftBy answersFrom wordsLeft modelRow answersOut stateOut orShort answered otherNumber numberOf otherNext nextOf after isReduced inflightEffect exactly judgeStep enterStep changeStep stepOf begun afterStep stateFrom stepsFrom walk exactStep exactWalk exactAfter exactRuns lowWord
+unfolding unsentExamples scaled scaledF64 roundAway timesF32 Ieee.round Ieee.ofBits Ieee.toBits Ieee.sub Ieee.mul Ieee.ofInt Ieee.toUnsigned Ieee.eq Ieee.le maxGet maxUpdate roundsSent endsRound roundsFull roundsEnded roundsAcked settled within paramsOk roundOk modelTests rowOf upToFour withRounds withRound withLower withMoment withBegun modelNew startNumber startModel storedNumber givenNumber sentNumber sentNext lowerCapped roundSent eventTests sampleTests stateAfter deliveredBy roundAfter latestRaised lowerReduced lowerAfter latestAfter eventAfter eventNext maxbwNext roundNext adaptLowerBounds modelAfter modelNext isUnsent isFull eventNumber cwndlimitedAfter cycleNew stayFrom freshNumber freshCycle cycleTests numberAt lowBytes wordsAt allBytes N.modelFrom N.modelWords cycleFrom cycleWords paramsFrom eventFits eventFromWord wordsFrom eventWords ackedFits sampleFits sampleFrom ackedOf askOf readOf readMore enterOf startOutcome sendOutcome eventOutcome finishOutcome judgeOutcome askOutcome enterOutcome changeOutcome outcomeOf sameWords isState encodesNone outcomeAt answerWords answersTo leftBy answersFrom wordsLeft modelRow answersOut stateOut orShort answered otherNumber numberOf otherNext nextOf after isReduced inflightEffect exactly judgeStep enterStep changeStep stepOf afterStart afterStep stateFrom stepsFrom walk exactStep exactWalk exactAfter exactRuns lowWord
 unsent-examples = refl
 
 pub third-examples : all thirdExamples ≡ true
-unfolding thirdExamples scaled scaledF64 roundAway timesF32 Ieee.round Ieee.ofBits Ieee.toBits Ieee.sub Ieee.mul Ieee.ofInt Ieee.toUnsigned Ieee.eq Ieee.le maxGet maxUpdate roundsSent endsRound roundsFull roundsEnded roundsAcked settled within paramsOk roundOk modelTests rowOf withRounds withRound withLower withMoment withBegun modelNew startNumber startModel storedNumber givenNumber sentNumber sentNext lowerCapped roundSent eventTests sampleTests stateAfter deliveredBy roundAfter latestRaised lowerReduced lowerAfter latestAfter eventAfter eventNext maxbwNext roundNext adaptLowerBounds modelAfter modelNext isUnsent isFull eventNumber cwndlimitedAfter cycleNew stayFrom freshNumber freshCycle cycleTests numberAt lowBytes wordsAt allBytes N.modelFrom N.modelWords cycleFrom cycleWords paramsFrom eventFits eventFromWord wordsFrom eventWords ackedFits sampleFits sampleFrom ackedOf askOf readOf readMore enterOf startOutcome sendOutcome eventOutcome finishOutcome judgeOutcome askOutcome enterOutcome changeOutcome outcomeOf sameWords isState encodesNone outcomeAt answerWords answersTo leftBy answersFrom wordsLeft modelRow answersOut stateOut orShort answered otherNumber numberOf otherNext nextOf after isReduced inflightEffect exactly judgeStep enterStep changeStep stepOf begun afterStep stateFrom stepsFrom walk exactStep exactWalk exactAfter exactRuns lowWord
+unfolding thirdExamples scaled scaledF64 roundAway timesF32 Ieee.round Ieee.ofBits Ieee.toBits Ieee.sub Ieee.mul Ieee.ofInt Ieee.toUnsigned Ieee.eq Ieee.le maxGet maxUpdate roundsSent endsRound roundsFull roundsEnded roundsAcked settled within paramsOk roundOk modelTests rowOf upToFour withRounds withRound withLower withMoment withBegun modelNew startNumber startModel storedNumber givenNumber sentNumber sentNext lowerCapped roundSent eventTests sampleTests stateAfter deliveredBy roundAfter latestRaised lowerReduced lowerAfter latestAfter eventAfter eventNext maxbwNext roundNext adaptLowerBounds modelAfter modelNext isUnsent isFull eventNumber cwndlimitedAfter cycleNew stayFrom freshNumber freshCycle cycleTests numberAt lowBytes wordsAt allBytes N.modelFrom N.modelWords cycleFrom cycleWords paramsFrom eventFits eventFromWord wordsFrom eventWords ackedFits sampleFits sampleFrom ackedOf askOf readOf readMore enterOf startOutcome sendOutcome eventOutcome finishOutcome judgeOutcome askOutcome enterOutcome changeOutcome outcomeOf sameWords isState encodesNone outcomeAt answerWords answersTo leftBy answersFrom wordsLeft modelRow answersOut stateOut orShort answered otherNumber numberOf otherNext nextOf after isReduced inflightEffect exactly judgeStep enterStep changeStep stepOf afterStart afterStep stateFrom stepsFrom walk exactStep exactWalk exactAfter exactRuns lowWord
 third-examples = refl

@@ -43,7 +43,7 @@ use lib.ListN.{getD}
 use Rattle.arguments.specs.Params.{paramsFrom}
 use Rattle.words.proofs.Back.{float-fits}
 use Rattle.dispatch.specs.Outcome.{isJudged, isAsked}
-use Rattle.theorems.specs.Steps.{Step, begins, makes, keeps, judgeStep, enterStep, changeStep, stepOf, begun, afterStep}
+use Rattle.theorems.specs.Steps.{Step, begins, makes, keeps, judgeStep, enterStep, changeStep, stepOf, afterStart, afterStep}
 use Rattle.theorems.proofs.Choice.{arms, either}
 use Rattle.theorems.proofs.Decoded.{state}
 use Rattle.theorems.proofs.Form.{Word, Single, EndForm, FreeModel, Bound, FreeCycle, BoundCycle, InForm, bound-ok, bound-cycle-ok}
@@ -315,9 +315,9 @@ new-cycle-bound now t = record { entered = t; start = t; length = tt; rounds = o
 one-single : Single one
 one-single = ofBits-fits binary32 0x3f80_0000
 
-begun-form : (p : Params) (rtt : Duration) (now : Moment) → StepForm (begins p rtt now) → InForm (begun p rtt now)
-unfolding begun startModel freshCycle settled
-begun-form p rtt now g =
+start-form : (p : Params) (rtt : Duration) (now : Moment) → StepForm (begins p rtt now) → InForm (afterStart p rtt now)
+unfolding afterStart startModel freshCycle settled
+start-form p rtt now g =
     let n = startNumber p rtt now in
     let fresh = cond (eqb n 0) now zeroMoment in
     let t : Word (fresh .0) = either (λ (x : Moment). Word (x .0)) (eqb n 0) now zeroMoment (g .1) (omega arith) in
@@ -332,7 +332,7 @@ begun-form p rtt now g =
 
 pub step-kept : (c : Step) (s : State) → StepForm c → InForm s → InForm (afterStep c s)
 unfolding afterStep
-step-kept (begins p rtt now) s g f = begun-form p rtt now g
+step-kept (begins p rtt now) s g f = start-form p rtt now g
 step-kept (makes c) s g f = after-kept InForm c s (λ d. next-form c s g d f) f
 step-kept keeps s g f = f
 
@@ -345,9 +345,9 @@ fresh-within : (t : Moment) → cycleOk (freshCycle t) ≡ true
 unfolding freshCycle freshNumber settled rowOf
 fresh-within t = arms (λ y. cycleOk y ≡ true) (eqb (freshNumber t) 0) (cycleNew t) (cycleNew zeroMoment) (λ e. P.fresh-kept t (eqb-true (freshNumber t) 0 e)) (λ e. P.fresh-kept zeroMoment refl)
 
-pub begun-within : (p : Params) (rtt : Duration) (now : Moment) → Within (begun p rtt now)
-unfolding begun startModel settled
-begun-within p rtt now =
+pub start-within : (p : Params) (rtt : Duration) (now : Moment) → Within (afterStart p rtt now)
+unfolding afterStart startModel settled
+start-within p rtt now =
     let n = startNumber p rtt now in (
       arms (λ m. modelOk m ≡ true) (eqb n 0) (modelNew (p .cwnd) (p .pacing) (p .ignore) rtt now) (modelNew one one false zeroLength zeroMoment)
           (λ e. M.start-kept p rtt now (eqb-true n 0 e))
@@ -357,7 +357,7 @@ begun-within p rtt now =
 
 pub step-within : (c : Step) (s : State) → StepForm c → Within s → Within (afterStep c s)
 unfolding afterStep
-step-within (begins p rtt now) s g h = begun-within p rtt now
+step-within (begins p rtt now) s g h = start-within p rtt now
 step-within (makes c) s g h = after-kept Within c s (λ d. next-within c s g d h) h
 step-within keeps s g h = h
 

@@ -29,7 +29,7 @@ use Rattle.theorems.specs.Runs.{Run, Ran, AreBytes, stateFrom, isWithin,
 use Rattle.theorems.proofs.Decoded.{state, every-outcome}
 use Rattle.theorems.proofs.Exported.{run-is}
 use Rattle.theorems.proofs.Form.{InForm, read-form, form-words}
-use Rattle.theorems.proofs.Kept.{OwnWords, Within, step-form, step-kept, step-within, begun-within}
+use Rattle.theorems.proofs.Kept.{OwnWords, Within, step-form, step-kept, step-within, start-within}
 
 -- ---- words of bytes are numbers of 64 bits
 pub number-small : (n : ℕ) (l : List ℕ) (at : ℕ) → AreBytes l → numberAt n l at < 256 ^ n
@@ -144,4 +144,4 @@ module _ (r : Run) (ran : Ran r) (done : r .reply ≡ 0) where
         go zero l = absurd (omega (arith, l))
         go (suc n) l =
             walk-within (r .calls) (r .lists) bytes 392 n _
-            (rw (h .first) (begun-within (paramsFrom (call r 0)) (duration (getD (call r 0) 2 0)) (moment (getD (call r 0) 1 0))))
+            (rw (h .first) (start-within (paramsFrom (call r 0)) (duration (getD (call r 0) 2 0)) (moment (getD (call r 0) 1 0))))

@@ -1,14 +1,17 @@
--- What a call of a run does to the note of whether anything was sent (specs/Steps.antt, `noteAfter`), step by step. Assumes nothing.
-use Prim.Native.Nat.{ℕ, zero, suc}
-use mathlib.Core.Bool.{Bool, true, false, cond, _&&_, _||_, true≢false}
+-- What a call of a run does to the note of whether anything was sent, and to the last sent number (specs/Steps.antt, `noteAfter`, `lastAfter`). Assumes nothing.
+use Prim.Native.Nat.{ℕ, zero, suc, _+_}
+use mathlib.Core.Bool.{Bool, true, false, cond, _&&_, true≢false}
 use mathlib.Core.List.{List}
 use mathlib.Core.Path.{_≡_, refl, sym, ap, _∙_}
 use native.Mathlib.Omega.{arith}
 use lib.Dec.{eqb}
 use lib.ListN.{getD}
-use borrow.Author.Tests.{ne-eqb}
+use borrow.Author.Tests.{ne-eqb, eqb-true}
 use Rattle.units.specs.declared.time.Duration.{Duration}
 use Rattle.units.specs.declared.time.Moment.{Moment}
+use Rattle.filters.specs.declared.round_trip_counter.RoundTripCounter.{RoundTripCounter}
+use Rattle.units.specs.declared.maybe.MaybeNumber.the-variants as Number
+use Rattle.filters.specs.RoundTripCounter.{roundsSent, roundsRestart, roundsEnded, roundsAcked}
 use Rattle.state.specs.declared.network_model.NetworkModel.{NetworkModel}
 use Rattle.state.specs.declared.params.Params.{Params}
 use Rattle.state.specs.declared.cycle.Cycle.{Cycle}
@@ -19,101 +22,134 @@ use Rattle.changes.specs.Changes.{sentNext, reachedNext, pacingNext, cwndNext, 
 use Rattle.events.specs.Event.{finishNext, modelNext, modelAfter}
 use Rattle.judge.specs.Judge.{expireNext, growthNext, queueNext}
 use Rattle.phases.specs.Phases.{restartedAt, exitModel, isDown, leftModel, cruiseModel, refillModel}
+use Rattle.dispatch.specs.Outcome.{sendNumber, sendOutcome, outcomeOf}
 use Rattle.drift.specs.Calls as C
-use Rattle.drift.specs.Calls.{Other, Call, State, otherNext, numberOf, nextOf, after}
-use Rattle.theorems.specs.Steps.{Step, begins, makes, keeps, begun, afterStep, Replies, Numbered, stepOf, outcomeIn, stateLeft, noteAfter}
+use Rattle.drift.specs.Calls.{Other, Call, State, otherNext, nextOf, after}
+use Rattle.theorems.specs.Steps.{Step, begins, makes, keeps, afterStart, afterStep, Numbered, stepOf, outcomeIn, noteAfter, lastAfter}
 use Rattle.theorems.proofs.Decoded.{every-outcome}
 use Rattle.theorems.proofs.Numbers.{every-number}
 
-abbrev note : State → Bool
-note s = s .model .begun
+-- both at once
+abbrev sentIn : NetworkModel → Bool × ℕ
+sentIn m = (m .begun, m .rounds .sent)
 
--- ---- what a call leaves, done or refused
-settles : (k : ℕ) (next s : State) (t : Bool) → note next ≡ t → note (settled k next s) ≡ cond (eqb k 0) t (note s)
+-- ---- a send: of a model, done or refused
+settles : (k : ℕ) (next m : NetworkModel) (t : Bool × ℕ) → sentIn next ≡ t → sentIn (settled k next m) ≡ cond (eqb k 0) t (sentIn m)
 unfolding settled
-settles k next s t h = go (eqb k 0)
+settles k next m t h = go (eqb k 0)
   where
-    go : (b : Bool) → note (cond b next s) ≡ cond b t (note s)
+    go : (b : Bool) → sentIn (cond b next m) ≡ cond b t (sentIn m)
     go true = h
     go false = refl
 
-stays : (k : ℕ) (next s : State) → note next ≡ note s → note (settled k next s) ≡ note s
+module _ (w : List ℕ) (s : State) where
+  send : getD w 0 0 ≡ 1 → sentIn (outcomeIn w s .model) ≡ cond (eqb (outcomeIn w s .reply) 0) (true, getD w 3 0) (sentIn (s .model))
+  unfolding outcomeOf sendOutcome sentNext withMoment withBegun withRounds withRound roundsSent
+  send e = rw e (settles (sendNumber w (s .model)) _ (s .model) (true, getD w 3 0) refl)
+
+-- ---- any other call: of a state, done or refused
+stays : (k : ℕ) (next s : State) → sentIn (next .model) ≡ sentIn (s .model) → sentIn (settled k next s .model) ≡ sentIn (s .model)
 unfolding settled
 stays k next s h = go (eqb k 0)
   where
-    go : (b : Bool) → note (cond b next s) ≡ note s
+    go : (b : Bool) → sentIn (cond b next s .model) ≡ sentIn (s .model)
     go true = h
     go false = refl
 
--- ---- leaving Down
-exit-kept : (m : NetworkModel) (c : Cycle) → exitModel m c .begun ≡ m .begun
+-- leaving Down
+exit-kept : (m : NetworkModel) (c : Cycle) → sentIn (exitModel m c) ≡ sentIn m
 unfolding exitModel advanceNext withMaxbw
 exit-kept m c = go (c .advanced)
   where
-    go : (t : Bool) → cond t m (advanceNext m) .begun ≡ m .begun
+    go : (t : Bool) → sentIn (cond t m (advanceNext m)) ≡ sentIn m
     go true = refl
     go false = refl
 
-left-kept : (m : NetworkModel) (c : Cycle) → leftModel m c .begun ≡ m .begun
+left-kept : (m : NetworkModel) (c : Cycle) → sentIn (leftModel m c) ≡ sentIn m
 unfolding leftModel
 left-kept m c = go (isDown (c .stay .phase))
   where
-    go : (t : Bool) → cond t (exitModel m c) m .begun ≡ m .begun
+    go : (t : Bool) → sentIn (cond t (exitModel m c) m) ≡ sentIn m
     go true = exit-kept m c
     go false = refl
 
--- ---- the steps
-abbrev Noted : Step → Type 0
-Noted c = (n r : ℕ) (s : State) → Numbered c n → Replies c s r → note (afterStep c s) ≡ cond (eqb n 0) false (cond (eqb n 1 && eqb r 0) true (note s))
-
-other-noted : (c : Other) → Noted (makes (C.other c))
-unfolding afterStep after numberOf nextOf C.otherNumber otherNext sentNext withMoment withBegun withRounds withRound finishNext expireNext withMinrtt growthNext withGrowth queueNext restartNext reachedNext pacingNext withGains cwndNext withHigh advanceNext withMaxbw postponeNext restartedAt
-other-noted (C.sent now inflight packet bytes) n r s h p = rw (h, p) (settles _ _ s true refl)
-other-noted (C.finish e) n r s h p = rw h (stays _ _ s (go (e .ended)))
+-- an ack moves the count and the end
+acked-kept : (c : RoundTripCounter) (acked : List ℕ) → roundsAcked c acked .sent ≡ c .sent
+unfolding roundsAcked
+acked-kept c acked = go (roundsEnded c acked)
   where
-    go : (t : Bool) → cond t (withRound (s .model) roundNew) (s .model) .begun ≡ s .model .begun
+    go : (t : Bool) → cond t (record { count = c .count + 1; sent = c .sent; end = Number.Set (c .sent) }) c .sent ≡ c .sent
     go true = refl
     go false = refl
-other-noted (C.expire q e) n r s h p = rw h (stays _ _ s refl)
-other-noted (C.growth q e) n r s h p = rw h (stays _ _ s refl)
-other-noted (C.queue q gain) n r s h p = rw h (stays _ _ s refl)
-other-noted C.restart n r s h p = rw h (stays _ _ s refl)
-other-noted C.reached n r s h p = rw h (stays _ _ s refl)
-other-noted (C.pacing gain) n r s h p = rw h (stays _ _ s refl)
-other-noted (C.cwnd gain) n r s h p = rw h (stays _ _ s refl)
-other-noted (C.high bytes) n r s h p = rw h (stays _ _ s refl)
-other-noted C.advance n r s h p = rw h (stays _ _ s refl)
-other-noted (C.postpone d) n r s h p = rw h (stays _ _ s refl)
-other-noted (C.down q hi risky now) n r s h p = rw h (stays _ _ s refl)
-other-noted (C.up now window) n r s h p = rw h (stays _ _ s refl)
-other-noted C.exit n r s h p = rw h (stays _ _ s (exit-kept (s .model) (s .cycle)))
-other-noted (C.slope window) n r s h p = rw h (stays _ _ s refl)
 
-call-noted : (c : Call) → Noted (makes c)
-unfolding afterStep after nextOf modelNext modelAfter capNext clearInflightNext clearBandwidthNext withLower cruiseModel refillModel restartedAt restartNext withMoment withGrowth withRounds withRound
-call-noted (C.event q e x acked) n r s h p = rw h (stays _ _ s refl)
-call-noted (C.cap bytes) n r s h p = rw h (stays _ _ s refl)
-call-noted C.clearInflight n r s h p = rw h (stays _ _ s refl)
-call-noted C.clearBandwidth n r s h p = rw h (stays _ _ s refl)
-call-noted (C.cruise now) n r s h p = rw h (stays _ _ s (left-kept (s .model) (s .cycle)))
-call-noted (C.refill rounds now) n r s h p = rw h (stays _ _ s (left-kept (s .model) (s .cycle)))
-call-noted (C.other c) n r s h p = other-noted c n r s h p
+abbrev Kept : Step → Type 0
+Kept c = (n : ℕ) (s : State) → Numbered c n → eqb n 1 ≡ false → sentIn (afterStep c s .model) ≡ cond (eqb n 0) (false, 0) (sentIn (s .model))
 
-new-noted : (q : Params) (rtt : Duration) (now : Moment) → startModel q rtt now .begun ≡ false
+other-kept : (c : Other) → Kept (makes (C.other c))
+unfolding afterStep after nextOf otherNext finishNext withRound expireNext withMinrtt growthNext withGrowth queueNext restartNext withRounds roundsRestart reachedNext pacingNext withGains cwndNext withHigh advanceNext withMaxbw postponeNext restartedAt withMoment
+other-kept (C.sent now inflight packet bytes) n s h not-send = absurd (true≢false (rw h at not-send))
+other-kept (C.finish e) n s h not-send = rw h (stays _ _ s (go (e .ended)))
+  where
+    go : (t : Bool) → sentIn (cond t (withRound (s .model) roundNew) (s .model)) ≡ sentIn (s .model)
+    go true = refl
+    go false = refl
+other-kept (C.expire q e) n s h not-send = rw h (stays _ _ s refl)
+other-kept (C.growth q e) n s h not-send = rw h (stays _ _ s refl)
+other-kept (C.queue q gain) n s h not-send = rw h (stays _ _ s refl)
+other-kept C.restart n s h not-send = rw h (stays _ _ s refl)
+other-kept C.reached n s h not-send = rw h (stays _ _ s refl)
+other-kept (C.pacing gain) n s h not-send = rw h (stays _ _ s refl)
+other-kept (C.cwnd gain) n s h not-send = rw h (stays _ _ s refl)
+other-kept (C.high bytes) n s h not-send = rw h (stays _ _ s refl)
+other-kept C.advance n s h not-send = rw h (stays _ _ s refl)
+other-kept (C.postpone d) n s h not-send = rw h (stays _ _ s refl)
+other-kept (C.down q hi risky now) n s h not-send = rw h (stays _ _ s refl)
+other-kept (C.up now window) n s h not-send = rw h (stays _ _ s refl)
+other-kept C.exit n s h not-send = rw h (stays _ _ s (exit-kept (s .model) (s .cycle)))
+other-kept (C.slope window) n s h not-send = rw h (stays _ _ s refl)
+
+call-kept : (c : Call) → Kept (makes c)
+unfolding afterStep after nextOf modelNext modelAfter capNext clearInflightNext clearBandwidthNext withLower cruiseModel refillModel restartedAt restartNext withMoment withGrowth withRounds roundsRestart withRound
+call-kept (C.event q e x acked) n s h not-send = rw h (stays _ _ s (ap (λ (k : ℕ). (s .model .begun, k)) (acked-kept (s .model .rounds) acked)))
+call-kept (C.cap bytes) n s h not-send = rw h (stays _ _ s refl)
+call-kept C.clearInflight n s h not-send = rw h (stays _ _ s refl)
+call-kept C.clearBandwidth n s h not-send = rw h (stays _ _ s refl)
+call-kept (C.cruise now) n s h not-send = rw h (stays _ _ s (left-kept (s .model) (s .cycle)))
+call-kept (C.refill rounds now) n s h not-send = rw h (stays _ _ s (left-kept (s .model) (s .cycle)))
+call-kept (C.other c) n s h not-send = other-kept c n s h not-send
+
+new-kept : (q : Params) (rtt : Duration) (now : Moment) → sentIn (startModel q rtt now) ≡ (false, 0)
 unfolding startModel settled modelNew
-new-noted q rtt now = go (eqb (startNumber q rtt now) 0)
+new-kept q rtt now = go (eqb (startNumber q rtt now) 0)
   where
-    go : (t : Bool) → cond t (modelNew (q .cwnd) (q .pacing) (q .ignore) rtt now) (modelNew one one false zeroLength zeroMoment) .begun ≡ false
+    go : (t : Bool) → sentIn (cond t (modelNew (q .cwnd) (q .pacing) (q .ignore) rtt now) (modelNew one one false zeroLength zeroMoment)) ≡ (false, 0)
     go true = refl
     go false = refl
 
-step-noted : (c : Step) → Noted c
-unfolding afterStep begun
-step-noted (begins q rtt now) n r s h p = rw h (new-noted q rtt now)
-step-noted (makes c) n r s h p = call-noted c n r s h p
-step-noted keeps zero r s h p = absurd (true≢false (sym h))
-step-noted keeps (suc zero) r s h p = absurd (true≢false (sym h))
-step-noted keeps (suc (suc n)) r s h p = rw (ne-eqb (suc (suc n)) 0 (λ e. omega arith), ne-eqb (suc (suc n)) 1 (λ e. omega arith))
+step-kept : (c : Step) → Kept c
+unfolding afterStep afterStart
+step-kept (begins q rtt now) n s h not-send = rw h (new-kept q rtt now)
+step-kept (makes c) n s h not-send = call-kept c n s h not-send
+step-kept keeps zero s h not-send = absurd (true≢false (sym h))
+step-kept keeps (suc n) s h not-send = rw (ne-eqb (suc n) 0 (λ e. omega arith))
 
-pub noted : (w : List ℕ) (s : State) → outcomeIn w s .model .begun ≡ noteAfter w s
-noted w s = let made = every-outcome w s in ap note (made .leaves) ∙ step-noted (stepOf w) (getD w 0 0) (outcomeIn w s .reply) s (every-number w) (made .replies)
+-- ---- every call
+module _ (w : List ℕ) (s : State) where
+  both : sentIn (outcomeIn w s .model) ≡ cond (eqb (getD w 0 0) 0) (false, 0) (cond (eqb (getD w 0 0) 1 && eqb (outcomeIn w s .reply) 0) (true, getD w 3 0) (sentIn (s .model)))
+  both = go (eqb (getD w 0 0) 1) refl
+    where
+      go : (t : Bool) → eqb (getD w 0 0) 1 ≡ t → sentIn (outcomeIn w s .model) ≡ cond (eqb (getD w 0 0) 0) (false, 0) (cond (t && eqb (outcomeIn w s .reply) 0) (true, getD w 3 0) (sentIn (s .model)))
+      go true e = let is = eqb-true (getD w 0 0) 1 e in send w s is ∙ rw (ne-eqb (getD w 0 0) 0 (λ z. omega (arith, is, z)))
+      go false e = ap (λ (x : State). sentIn (x .model)) (every-outcome w s .leaves) ∙ step-kept (stepOf w) (getD w 0 0) s (every-number w) e
+
+  -- either of the two
+  of-both : {A : Type 0} (f : Bool × ℕ → A) (a b : Bool) (x y z : Bool × ℕ) → f (cond a x (cond b y z)) ≡ cond a (f x) (cond b (f y) (f z))
+  of-both f true b x y z = refl
+  of-both f false true x y z = refl
+  of-both f false false x y z = refl
+
+  pub noted : outcomeIn w s .model .begun ≡ noteAfter w s
+  noted = ap (λ (p : Bool × ℕ). p .0) both ∙ of-both (λ p. p .0) (eqb (getD w 0 0) 0) (eqb (getD w 0 0) 1 && eqb (outcomeIn w s .reply) 0) (false, 0) (true, getD w 3 0) (sentIn (s .model))
+
+  pub last-noted : outcomeIn w s .model .rounds .sent ≡ lastAfter w s
+  last-noted = ap (λ (p : Bool × ℕ). p .1) both ∙ of-both (λ p. p .1) (eqb (getD w 0 0) 0) (eqb (getD w 0 0) 1 && eqb (outcomeIn w s .reply) 0) (false, 0) (true, getD w 3 0) (sentIn (s .model))

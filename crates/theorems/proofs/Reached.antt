@@ -19,7 +19,7 @@ use Rattle.arguments.specs.Params.{paramsFrom}
 use Rattle.drift.specs.Calls.{Call, State, numberOf, after, run, started}
 use Rattle.drift.specs.Exact.{Effect, stays, Exact, unset, exactly, exactRun}
 use Rattle.drift.specs.Drift.{Along}
-use Rattle.theorems.specs.Steps.{Step, begins, makes, keeps, moment, duration, stepOf, begun, afterStep, stepsFrom, walk, exactStep, exactWalk}
+use Rattle.theorems.specs.Steps.{Step, begins, makes, keeps, moment, duration, stepOf, afterStart, afterStep, stepsFrom, walk, exactStep, exactWalk}
 use Rattle.theorems.specs.Runs.{Run, Ran, AreBytes, stateFrom, count, call, before, Starts, Each, Chained, InOrder, exactAfter, exactRuns, exactBefore}
 use Rattle.theorems.proofs.Exported.{run-keeps}
 use Rattle.theorems.proofs.Left.{from-form, left-back}
@@ -68,8 +68,8 @@ module _ (effect : Call → State → Effect) (parts : ℕ) (P : Call → Type 0
     pub exact : x ≡ exactRun effect parts calls (started params rtt now cycle) unset
     pub along : Along P calls (started params rtt now cycle)
 
-  reached-start : (p : Params) (rtt : Duration) (now : Moment) → Reached (begun p rtt now) unset
-  unfolding begun started run exactRun
+  reached-start : (p : Params) (rtt : Duration) (now : Moment) → Reached (afterStart p rtt now) unset
+  unfolding afterStart started run exactRun
   reached-start p rtt now =
       record { params = p; rtt = rtt; now = now; cycle = freshCycle (settled (startNumber p rtt now) now zeroMoment); calls = []; here = refl; exact = refl; along = tt }
 

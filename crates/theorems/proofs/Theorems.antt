@@ -33,7 +33,7 @@ use Rattle.theorems.proofs.Estimates.{pair-shows}
 use Rattle.theorems.proofs.Exported as exported
 use Rattle.theorems.proofs.Follow as follow
 use Rattle.theorems.proofs.Left.{left-whole, from-form, left-within, started-within, left-taken}
-use Rattle.theorems.proofs.Note.{noted}
+use Rattle.theorems.proofs.Note.{noted, last-noted}
 use Rattle.theorems.proofs.Numbers.{every-number}
 use Rattle.theorems.proofs.Refused.{refused}
 use Rattle.theorems.proofs.Rows.{every-row}
@@ -97,6 +97,7 @@ theorems =
       never-sent = never-sent;
       unsent-events = unsent-events;
       note = noted;
+      last-sent = last-noted;
       reasons = reasons;
       reason-examples = reason-examples;
       worth = every-run;

@@ -1,6 +1,6 @@
--- Runs worked out in bytes, at beta 0.3, from 408 bytes of zeros, in which every call but a start is refused: what the
--- statements of Theorems.antt speak of is there. A run here is one that the definitions make. Their starts, sends and
--- parameters are those of crates/guovssalu/specs/Examples.antt.
+-- Runs worked out in bytes, at beta 0.3, from 408 bytes of zeros, in which every call on the model but a start is
+-- refused: what the statements of Theorems.antt speak of is there. A run here is one that the definitions make. Their
+-- starts, sends and parameters are those of crates/guovssalu/specs/Examples.antt.
 use Prim.Native.Nat.{ℕ, _-_, _*_, _^_}
 use mathlib.Core.Bool.{Bool, false, _&&_}
 use mathlib.Core.List.{List, [], _∷_, _++_}

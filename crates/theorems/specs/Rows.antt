@@ -1,6 +1,6 @@
--- The rows of document 01's table for a call of a run, by the number of the call (docs/LAYOUT.md): those of
--- the call's definition, of what its words are read as. Definitions only. `ltb a b` tests whether a
--- is below b, `&&` is "and" of tests, `not` the opposite; the rest as in Steps.antt.
+-- The rows of the table, document 01's with request i's row 10, for a call of a run, by the number of the call
+-- (docs/LAYOUT.md): those of the call's definition, of what its words are read as. Definitions only. `ltb a b` tests
+-- whether a is below b, `not` is the opposite of a test; the rest as in Steps.antt.
 use Prim.Native.Nat.{ℕ}
 use mathlib.Core.Bool.{Bool, true, false, cond, _&&_, _||_}
 use mathlib.Core.List.{List}

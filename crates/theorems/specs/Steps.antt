@@ -1,8 +1,8 @@
 -- A call's 49 words, with the lists after them, as the step that they ask for, by its number (docs/LAYOUT.md, "A
 -- call"), what a step does to a state, and the exact run beside it (crates/drift/specs/Exact.antt). Definitions only.
 -- `data` lists the kinds of a thing. `zero` is 0, and `suc n` the number after n. `eqb a b` and `leb a b` test
--- whether a equals b and whether it is at most b, `||` is "or" of tests, and `cond t a b` is a where the test t
--- holds, b elsewhere. `record { f = a; .. }` is the record with those fields.
+-- whether a equals b and whether it is at most b, `||` is "or" of tests and `&&` "and", and `cond t a b` is a where
+-- the test t holds, b elsewhere. `record { f = a; .. }` is the record with those fields.
 use Prim.Native.Nat.{ℕ, zero, suc, _+_}
 use mathlib.Core.Bool.{Bool, true, false, cond, _&&_, _||_}
 use mathlib.Core.List.{List, [], _∷_}
@@ -86,12 +86,12 @@ stepOf w =
     (cond (leb 40 (word w 0)) (enterStep w) (changeStep w)))))))
 
 -- ---- what a step does. A start makes model and cycle anew, a refused one at moment 0
-unfoldable pub begun : Params → Duration → Moment → State
-begun p rtt now =
+unfoldable pub afterStart : Params → Duration → Moment → State
+afterStart p rtt now =
     record { model = startModel p rtt now; cycle = freshCycle (settled (startNumber p rtt now) now zeroMoment) }
 
 unfoldable pub afterStep : Step → State → State
-afterStep (begins p rtt now) s = begun p rtt now
+afterStep (begins p rtt now) s = afterStart p rtt now
 afterStep (makes c) s = after c s
 afterStep keeps s = s
 
@@ -124,12 +124,20 @@ exactWalk effect parts (c ∷ steps) s x = exactWalk effect parts steps (afterSt
 abbrev pub outcomeIn : List ℕ → State → Outcome
 outcomeIn w s = outcomeOf w (s .model) (s .cycle)
 
--- document 02, request i, "a note of whether anything was sent", after a call: a start, done or refused, sets it to no,
--- a send that is done to yes, and no other call touches it
-abbrev pub noteAfter : List ℕ → State → Bool
-noteAfter w s =
+-- what a start, done or refused, puts anew (`fresh`), a send that is done too (`sent`), and every other call leaves
+-- (`was`)
+abbrev pub sentAfter : {A : Type 0} → List ℕ → State → (fresh sent was : A) → A
+sentAfter w s fresh sent was =
     let n = word w 0 in
-    cond (eqb n 0) false (cond (eqb n 1 && eqb (outcomeIn w s .reply) 0) true (s .model .begun))
+    cond (eqb n 0) fresh (cond (eqb n 1 && eqb (outcomeIn w s .reply) 0) sent was)
+
+-- document 02, request i, "a note of whether anything was sent", after a call; and the last sent number, which a send
+-- takes from word 3
+abbrev pub noteAfter : List ℕ → State → Bool
+noteAfter w s = sentAfter w s false true (s .model .begun)
+
+abbrev pub lastAfter : List ℕ → State → ℕ
+lastAfter w s = sentAfter w s 0 (word w 3) (s .model .rounds .sent)
 
 abbrev pub stateLeft : Outcome → State
 stateLeft t = record { model = t .model; cycle = t .cycle }

@@ -4,13 +4,13 @@
 -- How to read them. `--` begins a remark. `x : A` says that x is of the kind A: `ℕ` is the whole numbers from 0, `Bool`
 -- is true or false, `Float` a float, `List ℕ` a list of whole numbers. `(x : A) → B` is "for every x of the kind A, B",
 -- and `A → B` is "if A, then B"; between kinds of values it is a function from A to B. `A × B` is "A and B", `A ⊎ B` "A
--- or B", `x ≡ y` "x equals y". `⊥` is "never", so that `A → ⊥` is "not A". `f x y` is f of x and y: arguments have no
--- brackets around them. `r .f` is the field f of the record r. `λ x. A` is A as a function of x. `[]` is the empty
--- list, `x ∷ l` is the list l with x before it, `k ++ l` is the list k and then the list l. `let x = a in B` is B, in
--- which x stands for a. A `record` of statements holds where each of its lines does. `Type 0` is the kind of
--- statements: a definition that ends in it names one. `a ≤ b`, `a < b` and `2 ^ n` are as in school. `HasValue x false
--- a c` says that the float x is finite, not negative, and a / c in size. `abbrev`, `unfoldable`, `pub` and `use` lines
--- add nothing to what is said.
+-- or B", `A ↔ B` "A exactly when B", `x ≡ y` "x equals y". `⊥` is "never", so that `A → ⊥` is "not A". `f x y` is f of
+-- x and y: arguments have no brackets around them. `r .f` is the field f of the record r. `λ x. A` is A as a function
+-- of x. `[]` is the empty list, `x ∷ l` is the list l with x before it, `k ++ l` is the list k and then the list l.
+-- `let x = a in B` is B, in which x stands for a. A `record` of statements holds where each of its lines does. `Type 0`
+-- is the kind of statements: a definition that ends in it names one. `a ≤ b`, `a < b` and `2 ^ n` are as in school.
+-- `HasValue x false a c` says that the float x is finite, not negative, and a / c in size. `abbrev`, `unfoldable`,
+-- `pub` and `use` lines add nothing to what is said.
 --
 -- Bytes, words, the numbers of the calls, of the refusals and of the reasons are explained in docs/LAYOUT.md, "document
 -- 01" and "document 02" in docs/README.md. The statements are made of names from four files beside this one:
@@ -18,7 +18,7 @@
 --                 `guovssalu_run` or with lists, one after the other; where in the bytes a word stands; the exact value
 --                 beside them
 --   Steps.antt    the 49 words of a call, with the lists, as the step that they ask for, and what it does to a state
---   Rows.antt     by the number of a call in a run, which rows of document 01's table hold
+--   Rows.antt     by the number of a call in a run, which rows of the table hold: document 01's, and request i's 10
 --   Casts.antt    that the casts of the definitions are those of the Rust Reference
 -- and Examples.antt has five runs worked out in bytes, so that one sees what the statements speak of.
 -- Any other name stands in the crate that its `use` line names; what the lower bounds, exact values and `Follows` are
@@ -63,7 +63,7 @@ use Rattle.units.specs.declared.maybe.MaybeNumber.{MaybeNumber}
 use Rattle.drift.specs.Drift.{Follows, IsBeta, usualBeta, usualParts, Under}
 use Rattle.theorems.specs.Rows.{rowsOf}
 use Rattle.theorems.specs.Casts.{Casts}
-use Rattle.theorems.specs.Steps.{moment, Makes, Refused, Numbered, stepOf, outcomeIn, noteAfter}
+use Rattle.theorems.specs.Steps.{moment, Makes, Refused, Numbered, stepOf, outcomeIn, noteAfter, lastAfter}
 use Rattle.theorems.specs.Runs.{Unasked, Run, Ran, FilterRun, Filtered, SlopeRun, Raised, OneOutcome, Conversions, RunRow, FilterRow, SlopeRow, PairShows, AreBytes, isWithin, count, call, before, answer, answerWord, Accepted, Starts, Each, History, exactAfter, exactRuns, exactBefore, lowWord, inflightIn, bandwidthIn, HasBetaWord, HasSmallWords, OfEvents}
 
 -- What demand 3 says, of any runs, the last of which is r, that begin with a start (`History`), and in which every
@@ -135,7 +135,8 @@ pub record Theorems : Type 0 where
   pub calls : EveryReply
   pub calls-bounds : EveryCall
   --
-  -- ==== Demand 2. What an exported call replies and leaves is what its definition says, and nothing else is allowed
+  -- ==== Demand 2. What an exported call replies and leaves is what its definition says, and nothing else is allowed.
+  -- Where nothing is refused it is written from the Rust: an event's, since request i, over events that pass row 10
   pub run-defined : (r : Run) → Ran r →
       (r .reply ≡ modelRow (r .state) (r .calls) (length (r .answers)))
       × (r .left ≡ stateOut (r .state) (r .calls) (r .lists) (r .answers))
@@ -165,11 +166,12 @@ pub record Theorems : Type 0 where
   pub only-greatest-call : Calls.OnlyGreatest
   -- Acks for packets never sent (document 02, request i): which lists are turned away with 10, and events worked out;
   -- where 10 stands among the refusals say `calls` and `call-row` (`Exactly`, `is10`). And what a call of a run does to
-  -- the note of whether anything was sent: a start, done or refused, sets it to no, a send that is done to yes, and no
-  -- other call touches it
+  -- the note of whether anything was sent, and to the last sent number: a start, done or refused, sets them to no and
+  -- 0, a send that is done to yes and its packet's number, and no other call touches them
   pub never-sent : NeverSent
   pub unsent-events : all unsentEvents ≡ true
   pub note : (w : List ℕ) (s : State) → outcomeIn w s .model .begun ≡ noteAfter w s
+  pub last-sent : (w : List ℕ) (s : State) → outcomeIn w s .model .rounds .sent ≡ lastAfter w s
   -- Why a windowed filter's estimates moved (document 02, request f): "unchanged" exactly when the update left the
   -- filter as it was; the best moves with step 1 and step 3 alone; of step 2 and a later step the later is named; and
   -- only four such pairs can meet, each worked out
@@ -206,6 +208,6 @@ pub record Theorems : Type 0 where
 -- which are only read, share bytes. The page docs/LAYOUT.md. And the definitions that this page is made of, written
 -- from documents 01 and 02, the original and docs/LAYOUT.md: all files of specs/ to which `use` lines lead from here,
 -- with their remarks. A script of the gate counts their lines (tests/contracts.py):
---   numbers 257, units 93, filters 442, words 129, state 741, worth 274, layout 216, events 462, phases 208, changes
+--   numbers 257, units 93, filters 442, words 129, state 749, worth 274, layout 216, events 464, phases 208, changes
 --   62, judge 199, arguments 222, reads 18, pairs 57, calls 204, laws 526, drift 379, dispatch 234, guovssalu 155,
---   theorems 805: together 5683
+--   theorems 815: together 5703

@@ -51,7 +51,8 @@
 //!
 //! An event that acks a packet which was never sent is refused with [`Refusal::NeverSent`], and nothing
 //! of it counts: where one of its numbers is above that of the last send, and where it has a number and
-//! nothing was sent since the model was made. The last send's number counts, and not the greatest.
+//! nothing was sent since the model was made. The last send's number counts, and not the greatest; a
+//! number up to it is taken, whether it was sent or not.
 //!
 //! So a model's packets are numbered in one rising row, in the order in which they are sent. QUIC has
 //! three packet number spaces, each from 0: whoever feeds several of them into one model numbers the

@@ -1,11 +1,11 @@
 -- `row_of` meets its contract: row by row. Assumes nothing.
-use Rattle.state.specs.Refusals.{rowOf}
+use Rattle.state.specs.Refusals.{rowOf, upToFour}
 use Rattle.state.proofs.Rows.{asks-stored, asks-argument, asks-earlier, asks-lower}
 use Rattle.state.proofs.refusals.row_of.Statement.{statement}
 use Rattle.state.proofs.refusals.row_of.Tie as tie
 
 pub row-of-spec : {M : Type 1} → statement M
-unfolding rowOf
+unfolding rowOf upToFour
 row-of-spec =
     tie.close
     (tie.spec
