@@ -247,6 +247,20 @@ fn events(run: &mut Run, usual: Start) {
     }
 }
 
+/// A bandwidth was seen, the end of a round without loss has taken the latest
+/// one down, and the next events have this window.
+fn before_loss(run: &mut Run, bandwidth: u64, window: u64) {
+    run.sampled(bandwidth);
+    run.round(Sample {
+        bandwidth: Some(0),
+        ..ACKED
+    });
+    run.record(Record {
+        prior_cwnd: window,
+        ..Record::default()
+    });
+}
+
 /// Facts 10 and 11, and reductions in a row.
 fn reductions(run: &mut Run, usual: Start) {
     // 10: a loss while probing is counted at the next round's end.
@@ -296,16 +310,7 @@ fn reductions(run: &mut Run, usual: Start) {
             beta: f32::from_bits(beta),
             ..usual
         });
-        run.sampled(bandwidth);
-        // The end of a round without loss takes the latest bandwidth down.
-        run.round(Sample {
-            bandwidth: Some(0),
-            ..ACKED
-        });
-        run.record(Record {
-            prior_cwnd: window,
-            ..Record::default()
-        });
+        before_loss(run, bandwidth, window);
         for _ in 0..4 {
             run.round(LOST);
         }
@@ -313,15 +318,7 @@ fn reductions(run: &mut Run, usual: Start) {
     // Both held up by what was seen last.
     for (bandwidth, window) in [(1000, 1300), (BANDWIDTH, BYTES)] {
         run.start(usual);
-        run.sampled(bandwidth);
-        run.round(Sample {
-            bandwidth: Some(0),
-            ..ACKED
-        });
-        run.record(Record {
-            prior_cwnd: window,
-            ..Record::default()
-        });
+        before_loss(run, bandwidth, window);
         run.round(Sample {
             bandwidth: Some(bandwidth - 1),
             max_inflight: window - 1,
