@@ -1,58 +1,35 @@
 -- Which lists give refusal 10 (specs/NeverSent.antt), and that the greatest number decides. Assumes nothing.
-use Prim.Native.Nat.{ℕ, max, _+_, _≤_, _<_}
-use mathlib.Core.Bool.{Bool, true, false, not, _&&_, _||_}
+use Prim.Native.Nat.{ℕ, max, _+_, _≤_}
+use mathlib.Core.Bool.{Bool, true, false, not, _||_, or-true, or-false, or-assoc}
 use mathlib.Core.List.{List, [], _∷_}
 use mathlib.Core.Path.{_≡_, refl, sym, ap, _∙_}
 use native.Mathlib.Nat.{le-refl}
 use native.Mathlib.Omega.{arith}
 use lib.Dec.{ltb}
-use borrow.Author.Tests.{ltb-true, ltb-false, lt-ltb, le-ltb, not-false}
+use borrow.Author.Tests.{ltb-false, lt-ltb, le-ltb, not-false}
 use Rattle.units.specs.declared.maybe.MaybeNumber.{MaybeNumber}
 use Rattle.units.specs.declared.maybe.MaybeNumber.the-variants as Number
 use Rattle.filters.specs.Greatest.{NoneAbove}
 use Rattle.filters.specs.RoundTripCounter.{mostOf, greatest, listed}
 use Rattle.filters.proofs.Greatest.{listed-back}
 use Rattle.state.specs.declared.network_model.NetworkModel.{NetworkModel}
+use Rattle.state.proofs.Laws.{below-larger}
 use Rattle.state.proofs.Rows.{or-left, or-right}
 use Rattle.events.specs.Event.{neverSent, isUnsent}
 use Rattle.events.specs.NeverSent.{NeverSent}
 
--- ---- tests
-or-false : (a : Bool) → (a || false) ≡ a
-or-false true = refl
-or-false false = refl
-
-or-true : (a : Bool) → (a || true) ≡ true
-or-true true = refl
-or-true false = refl
-
-or-both : (a b : Bool) → a ≡ false → b ≡ false → (a || b) ≡ false
-or-both a b p q = simp (p, q)
-
-or-before : (a b c : Bool) → (a || (b || c)) ≡ ((a || b) || c)
-or-before true b c = refl
-or-before false b c = refl
-
 -- ---- of two numbers the larger decides
-above-larger : (s n k : ℕ) → (ltb s n || ltb s k) ≡ ltb s (max n k)
-above-larger s n k = go (ltb s n) refl (ltb s k) refl
-  where
-    go : (a : Bool) → ltb s n ≡ a → (b : Bool) → ltb s k ≡ b → (a || b) ≡ ltb s (max n k)
-    go true p b q = sym (lt-ltb s (max n k) (omega (arith, ltb-true s n p)))
-    go false p true q = sym (lt-ltb s (max n k) (omega (arith, ltb-true s k q)))
-    go false p false q = sym (le-ltb s (max n k) (omega (arith, ltb-false s n p, ltb-false s k q)))
-
 larger : (m : NetworkModel) (n k : ℕ) → (neverSent m n || neverSent m k) ≡ neverSent m (max n k)
 larger m n k = go (m .begun)
   where
     go : (b : Bool) → ((not b || ltb (m .rounds .sent) n) || (not b || ltb (m .rounds .sent) k)) ≡ (not b || ltb (m .rounds .sent) (max n k))
-    go true = above-larger (m .rounds .sent) n k
+    go true = below-larger (m .rounds .sent) n k
     go false = refl
 
 from-first : (m : NetworkModel) (n : ℕ) (l : List ℕ) → (neverSent m n || isUnsent m l) ≡ neverSent m (mostOf n l)
 unfolding isUnsent
 from-first m n [] = or-false (neverSent m n)
-from-first m n (k ∷ l) = or-before (neverSent m n) (neverSent m k) (isUnsent m l) ∙ ap (λ (t : Bool). t || isUnsent m l) (larger m n k) ∙ from-first m (max n k) l
+from-first m n (k ∷ l) = sym (or-assoc (neverSent m n) (neverSent m k) (isUnsent m l)) ∙ ap (λ (t : Bool). t || isUnsent m l) (larger m n k) ∙ from-first m (max n k) l
 
 -- the test of the greatest
 abbrev ofGreatest : NetworkModel → MaybeNumber → Bool
@@ -86,7 +63,7 @@ none-above m (n ∷ l) h = (passes-one m n (or-left (neverSent m n) (isUnsent m 
 all-pass : (m : NetworkModel) (l : List ℕ) → m .begun ≡ true → NoneAbove l (m .rounds .sent) → isUnsent m l ≡ false
 unfolding isUnsent
 all-pass m [] b h = refl
-all-pass m (n ∷ l) b h = or-both (neverSent m n) (isUnsent m l) (one-passes m n b (h .0)) (all-pass m l b (h .1))
+all-pass m (n ∷ l) b h = simp (one-passes m n b (h .0), all-pass m l b (h .1))
 
 pub never-sent : NeverSent
 unfolding isUnsent

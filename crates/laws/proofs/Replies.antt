@@ -12,10 +12,10 @@ use Rattle.filters.specs.Reason.{windowedReason}
 use Rattle.filters.specs.WindowedFilter.{isAfter, windowedNumber, windowedUpdate}
 use Rattle.state.specs.Answers.{settled}
 use Rattle.state.specs.declared.refusals.Rows.{Rows}
-use Rattle.state.specs.Refusals.{isFullCounter, rowOf, upToFour, askedOf, firstOf}
+use Rattle.state.specs.Refusals.{isFullCounter, rowOf, upToFour, firstOf}
 use Rattle.state.specs.NetworkModel.{startNumber, startModel, storedNumber, givenNumber, headroomNumber}
 use Rattle.changes.specs.Changes.{sentNumber, postponeNumber}
-use Rattle.state.proofs.Rows.{None}
+use Rattle.state.proofs.Rows.{None, in-turn}
 use Rattle.events.specs.Event.{eventNumber, finishNumber}
 use Rattle.judge.specs.Judge.{judgedNumber, growthFull, queueNumber}
 use Rattle.state.specs.Cycle.{freshNumber, freshCycle}
@@ -34,31 +34,23 @@ Row (suc (suc (suc (suc (suc zero))))) s a e l u f = (s ≡ false) × (a ≡ fal
 -- 10, and none of the others
 Row (suc (suc (suc (suc (suc (suc n)))))) s a e l u f = (n ≡ 4) × (s ≡ false) × (a ≡ false) × (e ≡ false) × (l ≡ false) × (u ≡ true)
 
-row-holds : (s a e l u f : Bool) → Row (askedOf s a e l u f) s a e l u f
-unfolding rowOf upToFour
-row-holds true a e l true f = refl
-row-holds true a e l false f = refl
-row-holds false true e l true f = (refl, refl)
-row-holds false true e l false f = (refl, refl)
-row-holds false false true l true f = (refl, refl, refl)
-row-holds false false true l false f = (refl, refl, refl)
-row-holds false false false true true f = (refl, refl, refl, refl)
-row-holds false false false true false f = (refl, refl, refl, refl)
+row-holds : (s a e l u f : Bool) → Row (upToFour s a e l (cond u 10 (cond f 5 0))) s a e l u f
+unfolding upToFour
+row-holds true a e l u f = refl
+row-holds false true e l u f = (refl, refl)
+row-holds false false true l u f = (refl, refl, refl)
+row-holds false false false true u f = (refl, refl, refl, refl)
 row-holds false false false false true f = (refl, refl, refl, refl, refl, refl)
 row-holds false false false false false true = (refl, refl, refl, refl, refl, refl)
 row-holds false false false false false false = (refl, record { stored-fine = refl; argument-fine = refl; in-order = refl; no-lower = refl; not-full = refl })
 
-row-only : (n : ℕ) (s a e l u f : Bool) → Row n s a e l u f → askedOf s a e l u f ≡ n
-unfolding rowOf upToFour
+row-only : (n : ℕ) (s a e l u f : Bool) → Row n s a e l u f → upToFour s a e l (cond u 10 (cond f 5 0)) ≡ n
+unfolding upToFour
 row-only zero s a e l u f h = simp (h .0, h .1 .stored-fine, h .1 .argument-fine, h .1 .in-order, h .1 .no-lower, h .1 .not-full)
-row-only (suc zero) s a e l true f h = simp h
-row-only (suc zero) s a e l false f h = simp h
-row-only (suc (suc zero)) s a e l true f h = simp (h .0, h .1)
-row-only (suc (suc zero)) s a e l false f h = simp (h .0, h .1)
-row-only (suc (suc (suc zero))) s a e l true f h = simp (h .0, h .1, h .2)
-row-only (suc (suc (suc zero))) s a e l false f h = simp (h .0, h .1, h .2)
-row-only (suc (suc (suc (suc zero)))) s a e l true f h = simp (h .0, h .1, h .2, h .3)
-row-only (suc (suc (suc (suc zero)))) s a e l false f h = simp (h .0, h .1, h .2, h .3)
+row-only (suc zero) s a e l u f h = simp h
+row-only (suc (suc zero)) s a e l u f h = simp (h .0, h .1)
+row-only (suc (suc (suc zero))) s a e l u f h = simp (h .0, h .1, h .2)
+row-only (suc (suc (suc (suc zero)))) s a e l u f h = simp (h .0, h .1, h .2, h .3)
 row-only (suc (suc (suc (suc (suc zero))))) s a e l u f h = simp (h .0, h .1, h .2, h .3, h .4, h .5)
 row-only (suc (suc (suc (suc (suc (suc n)))))) s a e l u f h = simp (h .0, h .1, h .2, h .3, h .4, h .5)
 
@@ -67,11 +59,14 @@ module _ (r : Rows) where
   abbrev Of : ℕ → Type 0
   Of k = Row k (r .stored) (r .argument) (r .earlier) (r .lower) (r .unsent) (r .full)
 
+  turn : firstOf r ≡ upToFour (r .stored) (r .argument) (r .earlier) (r .lower) (cond (r .unsent) 10 (cond (r .full) 5 0))
+  turn = in-turn (r .stored) (r .argument) (r .earlier) (r .lower) (r .unsent) (r .full)
+
   given : (n k : ℕ) → n ≡ firstOf r → n ≡ k → Of k
-  given n k p h = subst Of (sym p ∙ h) (row-holds (r .stored) (r .argument) (r .earlier) (r .lower) (r .unsent) (r .full))
+  given n k p h = subst Of (sym turn ∙ sym p ∙ h) (row-holds (r .stored) (r .argument) (r .earlier) (r .lower) (r .unsent) (r .full))
 
   only : (n k : ℕ) → n ≡ firstOf r → Of k → n ≡ k
-  only n k p h = p ∙ row-only k (r .stored) (r .argument) (r .earlier) (r .lower) (r .unsent) (r .full) h
+  only n k p h = p ∙ turn ∙ row-only k (r .stored) (r .argument) (r .earlier) (r .lower) (r .unsent) (r .full) h
 
   pub exactly : (n : ℕ) → n ≡ firstOf r → Exactly n r
   exactly n p =

@@ -1,6 +1,6 @@
 -- The table of refusals: what a reply's number says of its rows. Laws over plain variables. Assumes nothing.
 use Prim.Native.Nat.{ℕ, zero, suc}
-use mathlib.Core.Bool.{Bool, true, false, not, _&&_, _||_}
+use mathlib.Core.Bool.{Bool, true, false, cond, not, _&&_, _||_}
 use mathlib.Core.List.{List, [], _∷_}
 use mathlib.Core.Path.{_≡_, refl, sym, subst, _∙_}
 use native.Mathlib.Omega.{arith}
@@ -30,7 +30,12 @@ none false false false true f h = clash 3 h
 none false false false false true h = clash 4 h
 none false false false false false h = record { stored-fine = refl; argument-fine = refl; in-order = refl; no-lower = refl; not-full = refl }
 
--- with row 10 among them, which is asked after row 4 and before row 5
+-- ---- with row 10 among them: one row after the other, in the order in which they are asked
+pub in-turn : (s a e l u f : Bool) → askedOf s a e l u f ≡ upToFour s a e l (cond u 10 (cond f 5 0))
+unfolding rowOf upToFour
+in-turn s a e l true f = refl
+in-turn s a e l false f = refl
+
 pub none-asked : (s a e l u f : Bool) → askedOf s a e l u f ≡ 0 → (u ≡ false) × None s a e l f
 unfolding upToFour
 none-asked true a e l true f h = clash 0 h
@@ -39,27 +44,6 @@ none-asked false false true l true f h = clash 2 h
 none-asked false false false true true f h = clash 3 h
 none-asked false false false false true f h = clash 9 h
 none-asked s a e l false f h = (refl, none s a e l f h)
-
--- ---- the rows 1 to 4, in the order in which they are asked: row 10 or not
-pub asks-stored : (s a e l u f : Bool) → s ≡ true → 1 ≡ askedOf s a e l u f
-unfolding rowOf upToFour
-asks-stored s a e l true f p = simp p
-asks-stored s a e l false f p = simp p
-
-pub asks-argument : (s a e l u f : Bool) → s ≡ false → a ≡ true → 2 ≡ askedOf s a e l u f
-unfolding rowOf upToFour
-asks-argument s a e l true f p q = simp (p, q)
-asks-argument s a e l false f p q = simp (p, q)
-
-pub asks-earlier : (s a e l u f : Bool) → s ≡ false → a ≡ false → e ≡ true → 3 ≡ askedOf s a e l u f
-unfolding rowOf upToFour
-asks-earlier s a e l true f p q r = simp (p, q, r)
-asks-earlier s a e l false f p q r = simp (p, q, r)
-
-pub asks-lower : (s a e l u f : Bool) → s ≡ false → a ≡ false → e ≡ false → l ≡ true → 4 ≡ askedOf s a e l u f
-unfolding rowOf upToFour
-asks-lower s a e l true f p q r t = simp (p, q, r, t)
-asks-lower s a e l false f p q r t = simp (p, q, r, t)
 
 -- so of a call that is done the stored numbers and the arguments are within their bounds
 pub row-stored : (s a e l f : Bool) → rowOf (not s) a e l f ≡ 0 → s ≡ true

@@ -26,6 +26,7 @@ use Rattle.dispatch.specs.Outcome.{sendNumber, sendOutcome, outcomeOf}
 use Rattle.drift.specs.Calls as C
 use Rattle.drift.specs.Calls.{Other, Call, State, otherNext, nextOf, after}
 use Rattle.theorems.specs.Steps.{Step, begins, makes, keeps, afterStart, afterStep, Numbered, stepOf, outcomeIn, noteAfter, lastAfter}
+use Rattle.theorems.proofs.Choice.{either, both}
 use Rattle.theorems.proofs.Decoded.{every-outcome}
 use Rattle.theorems.proofs.Numbers.{every-number}
 
@@ -36,11 +37,7 @@ sentIn m = (m .begun, m .rounds .sent)
 -- ---- a send: of a model, done or refused
 settles : (k : ℕ) (next m : NetworkModel) (t : Bool × ℕ) → sentIn next ≡ t → sentIn (settled k next m) ≡ cond (eqb k 0) t (sentIn m)
 unfolding settled
-settles k next m t h = go (eqb k 0)
-  where
-    go : (b : Bool) → sentIn (cond b next m) ≡ cond b t (sentIn m)
-    go true = h
-    go false = refl
+settles k next m t h = both (λ (x : NetworkModel) (y : Bool × ℕ). sentIn x ≡ y) (eqb k 0) next m t (sentIn m) h refl
 
 module _ (w : List ℕ) (s : State) where
   send : getD w 0 0 ≡ 1 → sentIn (outcomeIn w s .model) ≡ cond (eqb (outcomeIn w s .reply) 0) (true, getD w 3 0) (sentIn (s .model))
@@ -50,37 +47,24 @@ module _ (w : List ℕ) (s : State) where
 -- ---- any other call: of a state, done or refused
 stays : (k : ℕ) (next s : State) → sentIn (next .model) ≡ sentIn (s .model) → sentIn (settled k next s .model) ≡ sentIn (s .model)
 unfolding settled
-stays k next s h = go (eqb k 0)
-  where
-    go : (b : Bool) → sentIn (cond b next s .model) ≡ sentIn (s .model)
-    go true = h
-    go false = refl
+stays k next s h = either (λ (x : State). sentIn (x .model) ≡ sentIn (s .model)) (eqb k 0) next s h refl
+
+keeps-either : (t : Bool) (a b m : NetworkModel) → sentIn a ≡ sentIn m → sentIn b ≡ sentIn m → sentIn (cond t a b) ≡ sentIn m
+keeps-either t a b m p q = either (λ (x : NetworkModel). sentIn x ≡ sentIn m) t a b p q
 
 -- leaving Down
 exit-kept : (m : NetworkModel) (c : Cycle) → sentIn (exitModel m c) ≡ sentIn m
 unfolding exitModel advanceNext withMaxbw
-exit-kept m c = go (c .advanced)
-  where
-    go : (t : Bool) → sentIn (cond t m (advanceNext m)) ≡ sentIn m
-    go true = refl
-    go false = refl
+exit-kept m c = keeps-either (c .advanced) m (advanceNext m) m refl refl
 
 left-kept : (m : NetworkModel) (c : Cycle) → sentIn (leftModel m c) ≡ sentIn m
 unfolding leftModel
-left-kept m c = go (isDown (c .stay .phase))
-  where
-    go : (t : Bool) → sentIn (cond t (exitModel m c) m) ≡ sentIn m
-    go true = exit-kept m c
-    go false = refl
+left-kept m c = keeps-either (isDown (c .stay .phase)) (exitModel m c) m m (exit-kept m c) refl
 
 -- an ack moves the count and the end
 acked-kept : (c : RoundTripCounter) (acked : List ℕ) → roundsAcked c acked .sent ≡ c .sent
 unfolding roundsAcked
-acked-kept c acked = go (roundsEnded c acked)
-  where
-    go : (t : Bool) → cond t (record { count = c .count + 1; sent = c .sent; end = Number.Set (c .sent) }) c .sent ≡ c .sent
-    go true = refl
-    go false = refl
+acked-kept c acked = either (λ (x : RoundTripCounter). x .sent ≡ c .sent) (roundsEnded c acked) (record { count = c .count + 1; sent = c .sent; end = Number.Set (c .sent) }) c refl refl
 
 abbrev Kept : Step → Type 0
 Kept c = (n : ℕ) (s : State) → Numbered c n → eqb n 1 ≡ false → sentIn (afterStep c s .model) ≡ cond (eqb n 0) (false, 0) (sentIn (s .model))
@@ -88,11 +72,7 @@ Kept c = (n : ℕ) (s : State) → Numbered c n → eqb n 1 ≡ false → sentIn
 other-kept : (c : Other) → Kept (makes (C.other c))
 unfolding afterStep after nextOf otherNext finishNext withRound expireNext withMinrtt growthNext withGrowth queueNext restartNext withRounds roundsRestart reachedNext pacingNext withGains cwndNext withHigh advanceNext withMaxbw postponeNext restartedAt withMoment
 other-kept (C.sent now inflight packet bytes) n s h not-send = absurd (true≢false (rw h at not-send))
-other-kept (C.finish e) n s h not-send = rw h (stays _ _ s (go (e .ended)))
-  where
-    go : (t : Bool) → sentIn (cond t (withRound (s .model) roundNew) (s .model)) ≡ sentIn (s .model)
-    go true = refl
-    go false = refl
+other-kept (C.finish e) n s h not-send = rw h (stays _ _ s (keeps-either (e .ended) (withRound (s .model) roundNew) (s .model) (s .model) refl refl))
 other-kept (C.expire q e) n s h not-send = rw h (stays _ _ s refl)
 other-kept (C.growth q e) n s h not-send = rw h (stays _ _ s refl)
 other-kept (C.queue q gain) n s h not-send = rw h (stays _ _ s refl)
@@ -120,11 +100,7 @@ call-kept (C.other c) n s h not-send = other-kept c n s h not-send
 
 new-kept : (q : Params) (rtt : Duration) (now : Moment) → sentIn (startModel q rtt now) ≡ (false, 0)
 unfolding startModel settled modelNew
-new-kept q rtt now = go (eqb (startNumber q rtt now) 0)
-  where
-    go : (t : Bool) → sentIn (cond t (modelNew (q .cwnd) (q .pacing) (q .ignore) rtt now) (modelNew one one false zeroLength zeroMoment)) ≡ (false, 0)
-    go true = refl
-    go false = refl
+new-kept q rtt now = either (λ (x : NetworkModel). sentIn x ≡ (false, 0)) (eqb (startNumber q rtt now) 0) (modelNew (q .cwnd) (q .pacing) (q .ignore) rtt now) (modelNew one one false zeroLength zeroMoment) refl refl
 
 step-kept : (c : Step) → Kept c
 unfolding afterStep afterStart
@@ -135,8 +111,8 @@ step-kept keeps (suc n) s h not-send = rw (ne-eqb (suc n) 0 (λ e. omega arith))
 
 -- ---- every call
 module _ (w : List ℕ) (s : State) where
-  both : sentIn (outcomeIn w s .model) ≡ cond (eqb (getD w 0 0) 0) (false, 0) (cond (eqb (getD w 0 0) 1 && eqb (outcomeIn w s .reply) 0) (true, getD w 3 0) (sentIn (s .model)))
-  both = go (eqb (getD w 0 0) 1) refl
+  sent-both : sentIn (outcomeIn w s .model) ≡ cond (eqb (getD w 0 0) 0) (false, 0) (cond (eqb (getD w 0 0) 1 && eqb (outcomeIn w s .reply) 0) (true, getD w 3 0) (sentIn (s .model)))
+  sent-both = go (eqb (getD w 0 0) 1) refl
     where
       go : (t : Bool) → eqb (getD w 0 0) 1 ≡ t → sentIn (outcomeIn w s .model) ≡ cond (eqb (getD w 0 0) 0) (false, 0) (cond (t && eqb (outcomeIn w s .reply) 0) (true, getD w 3 0) (sentIn (s .model)))
       go true e = let is = eqb-true (getD w 0 0) 1 e in send w s is ∙ rw (ne-eqb (getD w 0 0) 0 (λ z. omega (arith, is, z)))
@@ -149,7 +125,7 @@ module _ (w : List ℕ) (s : State) where
   of-both f false false x y z = refl
 
   pub noted : outcomeIn w s .model .begun ≡ noteAfter w s
-  noted = ap (λ (p : Bool × ℕ). p .0) both ∙ of-both (λ p. p .0) (eqb (getD w 0 0) 0) (eqb (getD w 0 0) 1 && eqb (outcomeIn w s .reply) 0) (false, 0) (true, getD w 3 0) (sentIn (s .model))
+  noted = ap (λ (p : Bool × ℕ). p .0) sent-both ∙ of-both (λ p. p .0) (eqb (getD w 0 0) 0) (eqb (getD w 0 0) 1 && eqb (outcomeIn w s .reply) 0) (false, 0) (true, getD w 3 0) (sentIn (s .model))
 
   pub last-noted : outcomeIn w s .model .rounds .sent ≡ lastAfter w s
-  last-noted = ap (λ (p : Bool × ℕ). p .1) both ∙ of-both (λ p. p .1) (eqb (getD w 0 0) 0) (eqb (getD w 0 0) 1 && eqb (outcomeIn w s .reply) 0) (false, 0) (true, getD w 3 0) (sentIn (s .model))
+  last-noted = ap (λ (p : Bool × ℕ). p .1) sent-both ∙ of-both (λ p. p .1) (eqb (getD w 0 0) 0) (eqb (getD w 0 0) 1 && eqb (outcomeIn w s .reply) 0) (false, 0) (true, getD w 3 0) (sentIn (s .model))

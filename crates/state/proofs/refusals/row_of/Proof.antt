@@ -1,18 +1,20 @@
 -- `row_of` meets its contract: row by row. Assumes nothing.
-use Rattle.state.specs.Refusals.{rowOf, upToFour}
-use Rattle.state.proofs.Rows.{asks-stored, asks-argument, asks-earlier, asks-lower}
+use mathlib.Core.Path.{_≡_, sym, _∙_}
+use mathlib.Core.Bool.{Bool}
+use Rattle.state.specs.Refusals.{upToFour}
+use Rattle.state.proofs.Rows.{in-turn}
 use Rattle.state.proofs.refusals.row_of.Statement.{statement}
 use Rattle.state.proofs.refusals.row_of.Tie as tie
 
 pub row-of-spec : {M : Type 1} → statement M
-unfolding rowOf upToFour
+unfolding upToFour
 row-of-spec =
     tie.close
     (tie.spec
-    (λ c. let a = c .before .args in asks-stored (a .stored) (a .argument) (a .earlier) (a .lower) (a .unsent) (a .full) (c .if1 .taken))
-    (λ c. let a = c .before .before .args in asks-argument (a .stored) (a .argument) (a .earlier) (a .lower) (a .unsent) (a .full) (c .before .if1 .left) (c .if2 .taken))
-    (λ c. let a = c .before .before .before .args in asks-earlier (a .stored) (a .argument) (a .earlier) (a .lower) (a .unsent) (a .full) (c .before .before .if1 .left) (c .before .if2 .left) (c .if3 .taken))
-    (λ c. let a = c .before .before .before .before .args in asks-lower (a .stored) (a .argument) (a .earlier) (a .lower) (a .unsent) (a .full) (c .before .before .before .if1 .left) (c .before .before .if2 .left) (c .before .if3 .left) (c .if4 .taken))
-    (λ c. rw (c .before .before .before .before .if1 .left, c .before .before .before .if2 .left, c .before .before .if3 .left, c .before .if4 .left, c .if5 .taken))
-    (λ c. rw (c .before .before .before .before .before .if1 .left, c .before .before .before .before .if2 .left, c .before .before .before .if3 .left, c .before .before .if4 .left, c .before .if5 .left, c .if6 .taken))
-    (λ c. rw (c .before .before .before .before .before .if1 .left, c .before .before .before .before .if2 .left, c .before .before .before .if3 .left, c .before .before .if4 .left, c .before .if5 .left, c .if6 .left)))
+    (λ c. let a = c .before .args in rw (in-turn (a .stored) (a .argument) (a .earlier) (a .lower) (a .unsent) (a .full), c .if1 .taken))
+    (λ c. let a = c .before .before .args in rw (in-turn (a .stored) (a .argument) (a .earlier) (a .lower) (a .unsent) (a .full), c .before .if1 .left, c .if2 .taken))
+    (λ c. let a = c .before .before .before .args in rw (in-turn (a .stored) (a .argument) (a .earlier) (a .lower) (a .unsent) (a .full), c .before .before .if1 .left, c .before .if2 .left, c .if3 .taken))
+    (λ c. let a = c .before .before .before .before .args in rw (in-turn (a .stored) (a .argument) (a .earlier) (a .lower) (a .unsent) (a .full), c .before .before .before .if1 .left, c .before .before .if2 .left, c .before .if3 .left, c .if4 .taken))
+    (λ c. let a = c .before .before .before .before .before .args in rw (in-turn (a .stored) (a .argument) (a .earlier) (a .lower) (a .unsent) (a .full), c .before .before .before .before .if1 .left, c .before .before .before .if2 .left, c .before .before .if3 .left, c .before .if4 .left, c .if5 .taken))
+    (λ c. let a = c .before .before .before .before .before .before .args in rw (in-turn (a .stored) (a .argument) (a .earlier) (a .lower) (a .unsent) (a .full), c .before .before .before .before .before .if1 .left, c .before .before .before .before .if2 .left, c .before .before .before .if3 .left, c .before .before .if4 .left, c .before .if5 .left, c .if6 .taken))
+    (λ c. let a = c .before .before .before .before .before .before .args in rw (in-turn (a .stored) (a .argument) (a .earlier) (a .lower) (a .unsent) (a .full), c .before .before .before .before .before .if1 .left, c .before .before .before .before .if2 .left, c .before .before .before .if3 .left, c .before .before .if4 .left, c .before .if5 .left, c .if6 .left)))
