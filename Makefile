@@ -1,5 +1,5 @@
 # make run: proves, builds and runs the demonstration. make test: the whole gate. README.md has the others.
-.PHONY: run test contracts table diff patterns changes mutants drift estimate picture lists rust year hostile bench instructions install clean kit archive
+.PHONY: run test contracts table refusal diff patterns changes mutants drift estimate picture lists rust year hostile bench instructions install clean kit archive
 
 run: kit
 	rt check show
@@ -28,6 +28,10 @@ contracts:
 # the Rust packages.
 table:
 	@python3 tests/table.py --write
+
+# A reply in words: make refusal REPLY=66562 CALL=start. CALL is a call's number or name, or an exported function's name.
+refusal:
+	@python3 tests/refusal.py '$(REPLY)' '$(CALL)'
 
 # ---- the port beside the original (oracle/README.md)
 

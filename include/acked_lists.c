@@ -84,11 +84,13 @@ int main(void) {
     printf("acked %d down to %d, the round's end at %d\n", (int)lists[0], (int)lists[PACKETS - 1], END);
     printf("with the lists: reply %d, round ended %d\n", (int)refused, (int)ended);
 
-    /* A run without lists refuses the event: it has room for GUOVSSALU_MOST_ACKED numbers. */
+    /* A run without lists refuses the event: it has room for GUOVSSALU_MOST_ACKED numbers. A reply to a bad
+     * argument has three parts: here 2.8 at 1, for a list of a wrong length that is the first argument. */
     memset(state, 0, sizeof state);
     refused |= guovssalu_run(state, sizeof state, calls, sizeof calls, answers, sizeof answers);
     uint64_t without = get(CALLS - 1, GUOVSSALU_REPLY_IN_ANSWER);
-    printf("without: reply %d\n", (int)without);
+    printf("without: reply %d.%d at %d\n", (int)GUOVSSALU_ROW(without), (int)GUOVSSALU_KIND(without),
+           (int)GUOVSSALU_PLACE(without));
 
     /* A number above the last sent one, wherever it stands, refuses the event as a whole. */
     lists[PACKETS / 2] = PACKETS + 1;
@@ -97,6 +99,7 @@ int main(void) {
                                    sizeof answers);
     uint64_t unsent = get(CALLS - 1, GUOVSSALU_REPLY_IN_ANSWER);
     printf("with %d among the numbers, which was never sent: reply %d\n", PACKETS + 1, (int)unsent);
-    return refused != 0 || ended != 1 || without != GUOVSSALU_BAD_ARGUMENT ||
+    return refused != 0 || ended != 1 || GUOVSSALU_ROW(without) != GUOVSSALU_BAD_ARGUMENT ||
+           GUOVSSALU_KIND(without) != GUOVSSALU_FAULT_LIST_LENGTH || GUOVSSALU_PLACE(without) != 1 ||
            unsent != GUOVSSALU_NEVER_SENT;
 }

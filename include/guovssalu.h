@@ -12,8 +12,13 @@
  * An f32 or an f64 crosses as its bits. Every pattern of a NaN counts as a NaN.
  *
  * Where a call replies with a number: 0 is done, and any other number is a refusal, which leaves
- * every lent byte as it was. Where several apply, the lowest is given. The calls inside a run have
- * answers of their own: guovssalu_run and guovssalu_run_lists, below.
+ * every lent byte as it was. Its row is GUOVSSALU_ROW(reply); where several apply, the lowest is given.
+ * The calls inside a run have answers of their own: guovssalu_run and guovssalu_run_lists, below.
+ *
+ * Callers that compare a reply with 2 must change. Since version 0.6.0 a bad argument's reply also says
+ * which argument it was and what is wrong with it, so it is never 2 alone ("Replies", below). Instead of
+ * reply == GUOVSSALU_BAD_ARGUMENT write GUOVSSALU_ROW(reply) == GUOVSSALU_BAD_ARGUMENT, and likewise
+ * where a switch has it as a case. Done is 0 as before, and the other rows are the numbers that they were.
  */
 #ifndef GUOVSSALU_H
 #define GUOVSSALU_H
@@ -28,24 +33,38 @@ extern "C" {
 /* ---- The version. The file VERSION has it. */
 
 #define GUOVSSALU_VERSION_MAJOR 0
-#define GUOVSSALU_VERSION_MINOR 5
+#define GUOVSSALU_VERSION_MINOR 6
 #define GUOVSSALU_VERSION_PATCH 0
 
 /* The layout's number. It is raised when a call of guovssalu_run takes other arguments, or a word of a
- * state, of a call or of a call's answer gets another place or stands for something else: a state that
- * was kept is for its own number alone. Version 0.5.0 raised it to 2: a state has one more word,
+ * state, of a call or of a call's answer gets another place or stands for something else.
+ *
+ * Version 0.6.0 raised it to 3: the reply, the first word of an answer, has for a bad argument a kind and
+ * a place besides the row. States and calls are those of layout 2: a state that version 0.5.0 kept, 408
+ * bytes, is taken as it is. Version 0.5.0 raised it to 2: a state has one more word,
  * GUOVSSALU_STATE_ANYTHING_SENT, and those of the cycle stand one place further on. The 400 bytes of
- * layout 1 are refused with 2; docs/LAYOUT.md, "Carrying a kept state over", has the four lines that
- * make 408 of them. Version 0.4.0 did not raise it; but since then the greatest of an event's acked
+ * layout 1 are refused, with 2.8 at 1; docs/LAYOUT.md, "Carrying a kept state over", has the four lines
+ * that make 408 of them. Version 0.4.0 did not raise it; but since then the greatest of an event's acked
  * numbers counts, and before it the last did. What guovssalu_filter_run writes is not part of it: it is
  * four words a pair since version 0.3.0, and was three. */
-#define GUOVSSALU_LAYOUT 2
+#define GUOVSSALU_LAYOUT 3
 
-/* ---- Replies: what an exported call replies, and the first word of an answer. Only an event is refused
- * with GUOVSSALU_NEVER_SENT: "Packet numbers", below. */
+/* ---- Replies: what an exported call replies, and the first word of an answer.
+ *
+ * A reply has three parts, a byte each: the row of the table of replies, and for a bad argument, row 2, its
+ * kind and the place of the argument. For the other rows these are 0. 2.4 at 1 is written for row 2, kind
+ * 4, place 1: the number 2 + 256 * 4 + 65536 * 1 = 66562, or 0x10402. In a start that is initial_rtt, which
+ * is longer than 2^36 ns.
+ *
+ * Places are counted from 1, without the model, the cycle and the parameters, in the order of the original's
+ * methods: beside the calls and their arguments, below, and in docs/LAYOUT.md. Where several arguments are
+ * bad the first is named, and of a record its first field. docs/REFUSALS.md has every reply of row 2, by
+ * its number too, and says what to ask next; `python3 tests/refusal.py 66562 0` says one in words.
+ *
+ * Only an event is refused with GUOVSSALU_NEVER_SENT: "Packet numbers", below. */
 
 /* -- replies of docs/calls.txt -- */
-/* Replies. */
+/* The rows of replies. */
 enum {
     GUOVSSALU_DONE = 0,
     GUOVSSALU_OUT_OF_BOUNDS = 1,
@@ -56,6 +75,26 @@ enum {
     GUOVSSALU_BAD_TEXT = 6,
     GUOVSSALU_SHORT_OUTPUT = 7,
     GUOVSSALU_NEVER_SENT = 10
+};
+
+/* The row of a reply: 0 is done, 1 to 7 and 10 are refusals. */
+#define GUOVSSALU_ROW(reply) ((uint64_t)(reply) & 0xff)
+/* The kind of a reply: in row 2 what is wrong, 1 to 9; otherwise 0. */
+#define GUOVSSALU_KIND(reply) (((uint64_t)(reply) >> 8) & 0xff)
+/* The place of a reply: in row 2 which argument, from 1 on, or 0 where a number is no call's; otherwise 0. */
+#define GUOVSSALU_PLACE(reply) (((uint64_t)(reply) >> 16) & 0xff)
+
+/* The kinds of row 2, a bad argument: what it is, and the limit that it is beyond. */
+enum {
+    GUOVSSALU_FAULT_WINDOW = 1,       /* a congestion window, at most 2^40 bytes (1.1 TB) */
+    GUOVSSALU_FAULT_BYTE_COUNT = 2,   /* another count of bytes, at most 2^40 bytes (1.1 TB) */
+    GUOVSSALU_FAULT_BANDWIDTH = 3,    /* a bandwidth, at most 2^40 bits per second (1.1 Tbit/s) */
+    GUOVSSALU_FAULT_LENGTH = 4,       /* a length of time, at most 2^36 ns (68.7 s) */
+    GUOVSSALU_FAULT_TOTAL = 5,        /* a total, or an event's bytes acked or lost, at most 2^62 bytes (4.6 million TB) */
+    GUOVSSALU_FAULT_PROBE_ROUNDS = 6, /* the rounds of probing up, at most 30 */
+    GUOVSSALU_FAULT_GAIN = 7,         /* a gain, 1/1024 to 8 */
+    GUOVSSALU_FAULT_LIST_LENGTH = 8,  /* a list or bytes of a wrong length, a malformed word, a number of no call */
+    GUOVSSALU_FAULT_MOMENT = 9        /* a moment, or a postponed one, at most 2^62 ns (146 years) */
 };
 /* -- end -- */
 
@@ -90,7 +129,7 @@ uint64_t guovssalu_to_bytes_per_period(uint64_t bandwidth, uint64_t nanos);
 
 /* Writes two words, GUOVSSALU_SLOPE_BYTES: the next probe_up_rounds, which is rounds + 1 or at most
  * 30, and probe_up_bytes, which is window / 2^rounds or at least 1300. Bytes past them keep what
- * they held. Replies 1 for rounds over 30, 2 for a window above 2^40, 7 for a shorter output. */
+ * they held. Replies 1 for rounds over 30, 2.1 at 2 for a window above 2^40, 7 for a shorter output. */
 uint64_t guovssalu_raise_inflight_high_slope(uint64_t rounds, uint64_t window, uint8_t *out,
                                              size_t out_len);
 
@@ -110,8 +149,8 @@ uint64_t guovssalu_raise_inflight_high_slope(uint64_t rounds, uint64_t window, u
  * GUOVSSALU_SAMPLES_REASON why they moved. That is the step of the update that acted last, by its
  * number: GUOVSSALU_REASON_ALL_REPLACED to GUOVSSALU_REASON_UNCHANGED. The best is at most the largest
  * sample of the window, and may be below it: docs/ESTIMATE.md has what is promised of the three. Bytes
- * past the answer keep what they held. Replies 2 for a part of a pair, 3 if a pair's time is earlier
- * than one of the three times that the filter holds then, 7 for an output of under
+ * past the answer keep what they held. Replies 2.8 at 2 for a part of a pair, 3 if a pair's time is
+ * earlier than one of the three times that the filter holds then, 7 for an output of under
  * GUOVSSALU_SAMPLES_BYTES a pair. */
 uint64_t guovssalu_filter_run(uint64_t window, const uint8_t *src, size_t src_len, uint8_t *out,
                               size_t out_len);
@@ -163,8 +202,9 @@ enum {
 /* -- end -- */
 
 /* -- calls and words of docs/calls.txt -- */
-/* The numbers of the calls: the word GUOVSSALU_NUMBER_IN_CALL of a call. Beside each its arguments in
- * order, whether it reads the event's record and takes the parameters, and what its answer is. */
+/* The numbers of the calls: the word GUOVSSALU_NUMBER_IN_CALL of a call. Beside each its arguments in the
+ * order of their words, whether it reads the event's record and takes the parameters, and what its answer
+ * is. */
 enum {
     GUOVSSALU_CALL_START = 0,                           /* now, initial_rtt; params */
     GUOVSSALU_CALL_ON_PACKET_SENT = 1,                  /* sent_time, bytes_in_flight, packet_number, bytes */
@@ -212,77 +252,80 @@ enum {
     GUOVSSALU_CALL_RAISE_INFLIGHT_HIGH_SLOPE = 45       /* cwnd */
 };
 
-/* The calls' arguments: words of a call. */
+/* The calls' arguments: words of a call. Beside each its kind, what a bad one is refused with, and its
+ * place. */
 enum {
-    GUOVSSALU_ARG_START_NOW = 1,                            /* moment */
-    GUOVSSALU_ARG_START_INITIAL_RTT = 2,                    /* length */
-    GUOVSSALU_ARG_ON_PACKET_SENT_SENT_TIME = 1,             /* moment */
-    GUOVSSALU_ARG_ON_PACKET_SENT_BYTES_IN_FLIGHT = 2,       /* bytes */
-    GUOVSSALU_ARG_ON_PACKET_SENT_PACKET_NUMBER = 3,         /* number */
-    GUOVSSALU_ARG_ON_PACKET_SENT_BYTES = 4,                 /* bytes */
-    GUOVSSALU_ARG_IS_INFLIGHT_TOO_HIGH_MAX_LOSS_EVENTS = 1, /* number */
-    GUOVSSALU_ARG_CHECK_PERSISTENT_QUEUE_TARGET_GAIN = 1,   /* f32 */
-    GUOVSSALU_ARG_BDP_BANDWIDTH = 1,                        /* bandwidth */
-    GUOVSSALU_ARG_BDP_GAIN = 2,                             /* f32 */
-    GUOVSSALU_ARG_BDP1_BANDWIDTH = 1,                       /* bandwidth */
-    GUOVSSALU_ARG_SET_PACING_GAIN_PACING_GAIN = 1,          /* f32 */
-    GUOVSSALU_ARG_SET_CWND_GAIN_CWND_GAIN = 1,              /* f32 */
-    GUOVSSALU_ARG_SET_INFLIGHT_HI_NEW_INFLIGHT_HI = 1,      /* bytes or unset */
-    GUOVSSALU_ARG_CAP_INFLIGHT_LO_CAP = 1,                  /* bytes or unset */
-    GUOVSSALU_ARG_POSTPONE_MIN_RTT_TIMESTAMP_DURATION = 1,  /* length */
-    GUOVSSALU_ARG_ENTER_PROBE_DOWN_PROBED_TOO_HIGH = 1,     /* flag */
-    GUOVSSALU_ARG_ENTER_PROBE_DOWN_STOPPED_RISKY_PROBE = 2, /* flag */
-    GUOVSSALU_ARG_ENTER_PROBE_DOWN_NOW = 3,                 /* moment */
-    GUOVSSALU_ARG_ENTER_PROBE_CRUISE_NOW = 1,               /* moment */
-    GUOVSSALU_ARG_ENTER_PROBE_REFILL_PROBE_UP_ROUNDS = 1,   /* number */
-    GUOVSSALU_ARG_ENTER_PROBE_REFILL_NOW = 2,               /* moment */
-    GUOVSSALU_ARG_ENTER_PROBE_UP_NOW = 1,                   /* moment */
-    GUOVSSALU_ARG_ENTER_PROBE_UP_CWND = 2,                  /* bytes */
-    GUOVSSALU_ARG_RAISE_INFLIGHT_HIGH_SLOPE_CWND = 1        /* bytes */
+    GUOVSSALU_ARG_START_NOW = 1,                            /* moment; 2.9 at 2 */
+    GUOVSSALU_ARG_START_INITIAL_RTT = 2,                    /* length; 2.4 at 1 */
+    GUOVSSALU_ARG_ON_PACKET_SENT_SENT_TIME = 1,             /* moment; 2.9 at 1 */
+    GUOVSSALU_ARG_ON_PACKET_SENT_BYTES_IN_FLIGHT = 2,       /* bytes; 2.2 at 2 */
+    GUOVSSALU_ARG_ON_PACKET_SENT_PACKET_NUMBER = 3,         /* number; never refused, at 3 */
+    GUOVSSALU_ARG_ON_PACKET_SENT_BYTES = 4,                 /* bytes; 2.2 at 4 */
+    GUOVSSALU_ARG_IS_INFLIGHT_TOO_HIGH_MAX_LOSS_EVENTS = 1, /* number; never refused, at 2 */
+    GUOVSSALU_ARG_CHECK_PERSISTENT_QUEUE_TARGET_GAIN = 1,   /* f32; 2.8 or 2.7 at 1 */
+    GUOVSSALU_ARG_BDP_BANDWIDTH = 1,                        /* bandwidth; 2.3 at 1 */
+    GUOVSSALU_ARG_BDP_GAIN = 2,                             /* f32; 2.8 or 2.7 at 2 */
+    GUOVSSALU_ARG_BDP1_BANDWIDTH = 1,                       /* bandwidth; 2.3 at 1 */
+    GUOVSSALU_ARG_SET_PACING_GAIN_PACING_GAIN = 1,          /* f32; 2.8 or 2.7 at 1 */
+    GUOVSSALU_ARG_SET_CWND_GAIN_CWND_GAIN = 1,              /* f32; 2.8 or 2.7 at 1 */
+    GUOVSSALU_ARG_SET_INFLIGHT_HI_NEW_INFLIGHT_HI = 1,      /* bytes or unset; 2.2 at 1 */
+    GUOVSSALU_ARG_CAP_INFLIGHT_LO_CAP = 1,                  /* bytes or unset; 2.2 at 1 */
+    GUOVSSALU_ARG_POSTPONE_MIN_RTT_TIMESTAMP_DURATION = 1,  /* length; 2.4 or 2.9 at 1 */
+    GUOVSSALU_ARG_ENTER_PROBE_DOWN_PROBED_TOO_HIGH = 1,     /* flag; 2.8 at 1 */
+    GUOVSSALU_ARG_ENTER_PROBE_DOWN_STOPPED_RISKY_PROBE = 2, /* flag; 2.8 at 2 */
+    GUOVSSALU_ARG_ENTER_PROBE_DOWN_NOW = 3,                 /* moment; 2.9 at 3 */
+    GUOVSSALU_ARG_ENTER_PROBE_CRUISE_NOW = 1,               /* moment; 2.9 at 1 */
+    GUOVSSALU_ARG_ENTER_PROBE_REFILL_PROBE_UP_ROUNDS = 1,   /* number; 2.6 at 1 */
+    GUOVSSALU_ARG_ENTER_PROBE_REFILL_NOW = 2,               /* moment; 2.9 at 2 */
+    GUOVSSALU_ARG_ENTER_PROBE_UP_NOW = 1,                   /* moment; 2.9 at 1 */
+    GUOVSSALU_ARG_ENTER_PROBE_UP_CWND = 2,                  /* bytes; 2.1 at 2 */
+    GUOVSSALU_ARG_RAISE_INFLIGHT_HIGH_SLOPE_CWND = 1        /* bytes; 2.1 at 1 */
 };
 
-/* An event's arguments, of GUOVSSALU_CALL_ON_CONGESTION_EVENT_START: words of a call. */
+/* An event's arguments, of GUOVSSALU_CALL_ON_CONGESTION_EVENT_START: words of a call. The last two are the
+ * argument acked, at place 1, and those before them the argument sample, at place 3. */
 enum {
-    GUOVSSALU_SAMPLE_MAX_BANDWIDTH_SET = 1,                         /* flag */
-    GUOVSSALU_SAMPLE_MAX_BANDWIDTH = 2,                             /* bandwidth */
-    GUOVSSALU_SAMPLE_MAX_SEND_RATE_SET = 3,                         /* flag */
-    GUOVSSALU_SAMPLE_MAX_SEND_RATE = 4,                             /* bandwidth */
-    GUOVSSALU_SAMPLE_MAX_ACK_RATE_SET = 5,                          /* flag */
-    GUOVSSALU_SAMPLE_MAX_ACK_RATE = 6,                              /* bandwidth */
-    GUOVSSALU_SAMPLE_IS_APP_LIMITED = 7,                            /* flag */
-    GUOVSSALU_SAMPLE_RTT_SET = 8,                                   /* flag */
-    GUOVSSALU_SAMPLE_RTT = 9,                                       /* length */
-    GUOVSSALU_SAMPLE_MAX_INFLIGHT = 10,                             /* bytes */
-    GUOVSSALU_SAMPLE_EXTRA_ACKED = 11,                              /* bytes */
-    GUOVSSALU_SAMPLE_LAST_PACKET_SEND_STATE_IS_VALID = 12,          /* flag */
-    GUOVSSALU_SAMPLE_LAST_PACKET_SEND_STATE_IS_APP_LIMITED = 13,    /* flag */
-    GUOVSSALU_SAMPLE_LAST_PACKET_SEND_STATE_TOTAL_BYTES_ACKED = 14, /* bytes */
-    GUOVSSALU_SAMPLE_LAST_PACKET_SEND_STATE_BYTES_IN_FLIGHT = 15,   /* bytes */
-    GUOVSSALU_SAMPLE_TOTAL_BYTES_ACKED = 16,                        /* bytes */
-    GUOVSSALU_SAMPLE_TOTAL_BYTES_LOST = 17,                         /* bytes */
-    GUOVSSALU_SAMPLE_ACKED_COUNT = 18,                              /* count */
+    GUOVSSALU_SAMPLE_MAX_BANDWIDTH_SET = 1,                         /* flag; 2.8 */
+    GUOVSSALU_SAMPLE_MAX_BANDWIDTH = 2,                             /* bandwidth; 2.8 or 2.3 */
+    GUOVSSALU_SAMPLE_MAX_SEND_RATE_SET = 3,                         /* flag; 2.8 */
+    GUOVSSALU_SAMPLE_MAX_SEND_RATE = 4,                             /* bandwidth; 2.8 or 2.3 */
+    GUOVSSALU_SAMPLE_MAX_ACK_RATE_SET = 5,                          /* flag; 2.8 */
+    GUOVSSALU_SAMPLE_MAX_ACK_RATE = 6,                              /* bandwidth; 2.8 or 2.3 */
+    GUOVSSALU_SAMPLE_IS_APP_LIMITED = 7,                            /* flag; 2.8 */
+    GUOVSSALU_SAMPLE_RTT_SET = 8,                                   /* flag; 2.8 */
+    GUOVSSALU_SAMPLE_RTT = 9,                                       /* length; 2.8 or 2.4 */
+    GUOVSSALU_SAMPLE_MAX_INFLIGHT = 10,                             /* bytes; 2.2 */
+    GUOVSSALU_SAMPLE_EXTRA_ACKED = 11,                              /* bytes; 2.2 */
+    GUOVSSALU_SAMPLE_LAST_PACKET_SEND_STATE_IS_VALID = 12,          /* flag; 2.8 */
+    GUOVSSALU_SAMPLE_LAST_PACKET_SEND_STATE_IS_APP_LIMITED = 13,    /* flag; 2.8 */
+    GUOVSSALU_SAMPLE_LAST_PACKET_SEND_STATE_TOTAL_BYTES_ACKED = 14, /* bytes; 2.5 */
+    GUOVSSALU_SAMPLE_LAST_PACKET_SEND_STATE_BYTES_IN_FLIGHT = 15,   /* bytes; 2.2 */
+    GUOVSSALU_SAMPLE_TOTAL_BYTES_ACKED = 16,                        /* bytes; 2.5 */
+    GUOVSSALU_SAMPLE_TOTAL_BYTES_LOST = 17,                         /* bytes; 2.5 */
+    GUOVSSALU_SAMPLE_ACKED_COUNT = 18,                              /* count; 2.8 */
     GUOVSSALU_SAMPLE_ACKED_PACKETS = 19                             /* three numbers */
 };
 
 /* An event's record: words from GUOVSSALU_EVENT_IN_CALL of a call on, from GUOVSSALU_EVENT_IN_ANSWER of an
- * answer on. */
+ * answer on. It is the argument event: at place 2 of GUOVSSALU_CALL_ON_CONGESTION_EVENT_START, at
+ * place 1 of the other calls that read it. */
 enum {
-    GUOVSSALU_EVENT_TIME = 0,                                      /* moment */
-    GUOVSSALU_EVENT_PRIOR_CWND = 1,                                /* bytes */
-    GUOVSSALU_EVENT_PRIOR_BYTES_IN_FLIGHT = 2,                     /* bytes */
-    GUOVSSALU_EVENT_BYTES_IN_FLIGHT = 3,                           /* bytes */
-    GUOVSSALU_EVENT_BYTES_ACKED = 4,                               /* bytes */
-    GUOVSSALU_EVENT_BYTES_LOST = 5,                                /* bytes */
-    GUOVSSALU_EVENT_END_OF_ROUND_TRIP = 6,                         /* flag */
-    GUOVSSALU_EVENT_IS_PROBING_FOR_BANDWIDTH = 7,                  /* flag */
-    GUOVSSALU_EVENT_SAMPLE_MAX_BANDWIDTH_SET = 8,                  /* flag */
-    GUOVSSALU_EVENT_SAMPLE_MAX_BANDWIDTH = 9,                      /* bandwidth */
-    GUOVSSALU_EVENT_SAMPLE_MIN_RTT_SET = 10,                       /* flag */
-    GUOVSSALU_EVENT_SAMPLE_MIN_RTT = 11,                           /* length */
-    GUOVSSALU_EVENT_LAST_PACKET_SEND_STATE_IS_VALID = 12,          /* flag */
-    GUOVSSALU_EVENT_LAST_PACKET_SEND_STATE_IS_APP_LIMITED = 13,    /* flag */
-    GUOVSSALU_EVENT_LAST_PACKET_SEND_STATE_TOTAL_BYTES_ACKED = 14, /* bytes */
-    GUOVSSALU_EVENT_LAST_PACKET_SEND_STATE_BYTES_IN_FLIGHT = 15    /* bytes */
+    GUOVSSALU_EVENT_TIME = 0,                                      /* moment; 2.9 */
+    GUOVSSALU_EVENT_PRIOR_CWND = 1,                                /* bytes; 2.1 */
+    GUOVSSALU_EVENT_PRIOR_BYTES_IN_FLIGHT = 2,                     /* bytes; 2.2 */
+    GUOVSSALU_EVENT_BYTES_IN_FLIGHT = 3,                           /* bytes; 2.2 */
+    GUOVSSALU_EVENT_BYTES_ACKED = 4,                               /* bytes; 2.5 */
+    GUOVSSALU_EVENT_BYTES_LOST = 5,                                /* bytes; 2.5 */
+    GUOVSSALU_EVENT_END_OF_ROUND_TRIP = 6,                         /* flag; 2.8 */
+    GUOVSSALU_EVENT_IS_PROBING_FOR_BANDWIDTH = 7,                  /* flag; 2.8 */
+    GUOVSSALU_EVENT_SAMPLE_MAX_BANDWIDTH_SET = 8,                  /* flag; 2.8 */
+    GUOVSSALU_EVENT_SAMPLE_MAX_BANDWIDTH = 9,                      /* bandwidth; 2.8 or 2.3 */
+    GUOVSSALU_EVENT_SAMPLE_MIN_RTT_SET = 10,                       /* flag; 2.8 */
+    GUOVSSALU_EVENT_SAMPLE_MIN_RTT = 11,                           /* length; 2.8 or 2.4 */
+    GUOVSSALU_EVENT_LAST_PACKET_SEND_STATE_IS_VALID = 12,          /* flag; 2.8 */
+    GUOVSSALU_EVENT_LAST_PACKET_SEND_STATE_IS_APP_LIMITED = 13,    /* flag; 2.8 */
+    GUOVSSALU_EVENT_LAST_PACKET_SEND_STATE_TOTAL_BYTES_ACKED = 14, /* bytes; 2.5 */
+    GUOVSSALU_EVENT_LAST_PACKET_SEND_STATE_BYTES_IN_FLIGHT = 15    /* bytes; 2.2 */
 };
 
 /* The parameters: words from GUOVSSALU_PARAMS_IN_CALL of a call on. */
@@ -417,23 +460,23 @@ enum {
  * GUOVSSALU_CALL_START, on a state of zeros. Bytes of answers past the last keep what they held.
  *
  * The first word of a call's answer, GUOVSSALU_REPLY_IN_ANSWER, is 0 where the call was done, and the
- * refusal's number, 1 to 5 or 10, where it was refused; the run goes on. Where several apply, the first
- * of 1, 2, 3, 4, 10 and 5 is given. The run's own reply of 0 says nothing of its calls: look at each
- * answer. A refused call changes nothing, but for a start, which then replaces the state by a fresh one
- * at moment 0: look at its answer before going on.
+ * refusal, whose row is 1 to 5 or 10, where it was refused; the run goes on. Where several rows apply,
+ * the first of 1, 2, 3, 4, 10 and 5 is given. The run's own reply of 0 says nothing of its calls: look at
+ * each answer. A refused call changes nothing, but for a start, which then replaces the state by a fresh
+ * one at moment 0: look at its answer before going on.
  *
  * A call's words are tested. A flag that is neither 0 nor 1, an f32 with bits above the 32nd, two
  * words of a number that may be unset that are neither 1 and the number nor 0 and 0, and a count of
- * acked numbers above 3 refuse the call that uses them: with 2, or with 1 in the parameters. So a
- * flag is written as (flag ? 1 : 0). A number that is no call's is refused with 2, or with 1 where
- * the stored model is out of bounds.
+ * acked numbers above 3 refuse the call that uses them: with 2.8 at the argument's place, or with 1 in
+ * the parameters. So a flag is written as (flag ? 1 : 0). A number that is no call's is refused with 2.8
+ * at 0, or with 1 where the stored model is out of bounds.
  *
  * An event's acked numbers may stand in any order: the greatest counts. An event with a number above
  * the last sent one, or with any before the first send, is refused with 10. More than 3 of them go by
  * guovssalu_run_lists.
  *
- * The run itself replies 1 for bytes that encode no state, 2 for a state of another length or a part
- * of a call, 7 for answers too short for the calls. */
+ * The run itself replies 1 for bytes that encode no state, 2.8 at 1 for a state of another length, 2.8 at
+ * 2 for a part of a call, 7 for answers too short for the calls. */
 uint64_t guovssalu_run(uint8_t *state, size_t state_len, const uint8_t *calls, size_t calls_len,
                        uint8_t *answers, size_t answers_len);
 
@@ -446,8 +489,8 @@ uint64_t guovssalu_run(uint8_t *state, size_t state_len, const uint8_t *calls, s
  * GUOVSSALU_SAMPLE_ACKED_PACKETS on, and the lists are not looked at. More stand in the lists: they are
  * the n numbers from place s on, counted from 0, where s is the event's word
  * GUOVSSALU_SAMPLE_ACKED_PACKETS; the two words after that are not looked at. Where the lists don't hold
- * them all, s + n being above lists_len, that event is refused with 2, or with 1 where that applies too,
- * and the run goes on. Events may take the same numbers.
+ * them all, s + n being above lists_len, that event is refused with 2.8 at 1, or with 1 where that applies
+ * too, and the run goes on. Events may take the same numbers.
  *
  * The run's own replies are those of guovssalu_run, whatever the lists are. */
 uint64_t guovssalu_run_lists(uint8_t *state, size_t state_len, const uint8_t *calls, size_t calls_len,

@@ -50,7 +50,7 @@ static void begin(uint64_t number) {
         put(GUOVSSALU_PARAMS_IN_CALL + i, params[i]);
 }
 
-/* Makes the call: the number of its refusal, or 0. */
+/* Makes the call: its refusal, or 0. */
 static uint64_t make(void) {
     uint64_t reply = guovssalu_run(state, sizeof state, call, sizeof call, answer, sizeof answer);
     return reply != GUOVSSALU_DONE ? reply : get(GUOVSSALU_REPLY_IN_ANSWER);

@@ -1,16 +1,16 @@
 #!/usr/bin/env python3
 """Small changes to the original, each of which the comparison with the port must notice; and to what the oracle reads or
 does apart from it: the reason of a windowed filter's update, the refusals of a round's end where the count is full and of
-a number that was never sent, the note of whether anything was sent, and the order in which the original is asked acked
-numbers. What the original does with a number that was never sent is no change here: it isn't asked such an event, so
+a number that was never sent, the note of whether anything was sent, the order in which the original is asked acked
+numbers, and what a refusal with 2 names, the kind of bound and the place of the argument. What the original does with a number that was never sent is no change here: it isn't asked such an event, so
 whether it lets one through is told by no accepted call.
 
     tests/changes.py [SEED [CALLS]]
 
 Copies the files of the original that were ported, and the oracle, to a temporary folder, makes one change at a time,
 builds the oracle with the changed file, and compares with the port by `diff` (a change to the windowed filter or to the
-reading by `filter`, one to what the exported filter run writes by `exports`, one that only long lists of acked numbers
-show by `lists`). A change is noticed where something differs, or where the original overflows in a call that had to be
+reading by `filter`, one to what the exported calls write or name by `exports`, one that only long lists of acked numbers
+or wrong lengths of a run show by `lists`). A change is noticed where something differs, or where the original overflows in a call that had to be
 refused. One that isn't noticed is listed, and the script ends with 1. PORT is the command of the port; without it the
 unchanged oracle answers in its place, which tries the comparison alone. `lists` asks the archive in target/staticlib, or
 the one that GUOVSSALU_ARCHIVE names by its full path; where there is none it says so, and leaves its changes out.
@@ -30,13 +30,19 @@ MODEL = "gcongestion/bbr2/network_model.rs"
 PROBE = "gcongestion/bbr2/probe_bw.rs"
 MODE = "gcongestion/bbr2/mode.rs"
 # Of the oracle: the reading, where in it is what the exported filter run writes, the answers, where in them is what a
-# refused start leaves, the refusals, and the host of the original.
+# refused start leaves, the refusals, what those with 2 name, where in that are the exported calls, the lengths of a run,
+# and the host of the original.
 READING = "windowed.rs"
 EXPORTED = "pub fn run("
 ANSWERS = "world.rs"
 LEFT = "fn start_refused"
 REPLIES = "replies.rs"
+PLACES = "places.rs"
+PAIRS = "const PAIRS_LENGTH"
+SLOPE = "const SLOPE_WINDOW"
+LENGTHS = "lengths.rs"
 HOST = "appended/probe_bw.rs"
+OURS = (READING, ANSWERS, REPLIES, PLACES, LENGTHS, HOST)
 ARCHIVE = os.environ.get("GUOVSSALU_ARCHIVE") or os.path.join(ROOT, "target/staticlib/libguovssalu.a")
 
 # In which file; after which words, that occur once; what is found first after them; what is put in its place.
@@ -209,9 +215,63 @@ CHANGES = [
     (HOST, "fn at(", "anything_sent: false", "anything_sent: true"),
     (HOST, "fn begin(", "self.last = moment.max(self.last);", "self.last = moment.max(self.last); self.anything_sent = true;"),
     (ANSWERS, LEFT, "self.state = self.host.state();", "let sent = self.state[crate::model::field::ANYTHING_SENT]; self.state = self.host.state(); self.state[crate::model::field::ANYTHING_SENT] = sent;"),
+    # The word that says it.
+    (PLACES, "pub const fn reply", "+ (1 << 16) * self.place", ""),
+    (PLACES, "pub const fn reply", "(1 << 8) * self.kind as u64 +", ""),
+    (PLACES, "pub const fn reply", "(1 << 16) * self.place", "(1 << 16) * (self.place + 1)"),
+    (PLACES, "pub const fn reply", "(1 << 8) * self.kind as u64 + (1 << 16) * self.place", "(1 << 16) * self.kind as u64 + (1 << 8) * self.place"),
+    # Which fault is named.
+    (PLACES, "pub fn of_words", ".next()", ".min_by_key(|fault| fault.kind)"),
+    (PLACES, "pub fn of_words", ".next()", ".last()"),
+    (PLACES, "pub fn of_words", ".next()", ".find(|fault| fault.kind == Kind::Form).or_else(|| all(words, lists).map(|(_, fault)| fault).next())"),
+    (PLACES, "pub fn of_words", ".next()", ".find(|fault| fault.kind != Kind::Form).or_else(|| all(words, lists).map(|(_, fault)| fault).next())"),
+    (PLACES, "pub fn all", "lists)?", "lists).filter(|_| words[EVENT_IN_CALL + event::LAST_PACKET_SEND_STATE_IS_VALID] == 1 || word < EVENT_IN_CALL + event::LAST_PACKET_SEND_STATE_TOTAL_BYTES_ACKED)?"),
+    (PLACES, "pub fn all", "lists)?", "lists).filter(|_| words[sample::LAST_PACKET_SEND_STATE_IS_VALID] == 1 || ![sample::LAST_PACKET_SEND_STATE_TOTAL_BYTES_ACKED, sample::LAST_PACKET_SEND_STATE_BYTES_IN_FLIGHT].contains(&word))?"),
+    (PLACES, "pub fn of_call", "of_words(words, 0)", "of_words(words, 0).filter(|_| !passes_moment(words, state))"),
+    (PLACES, "pub fn of_call", "Kind::Moment, 1", "Kind::Length, 1"),
+    (PLACES, "pub fn of_call", "Kind::Moment, 1", "Kind::Moment, 2"),
+    # The places of arguments, and the order of fields.
+    (PLACES, "pub fn fields", "(1..)", "(0..)"),
+    (PLACES, "call::START =>", "&[(start::INITIAL_RTT, A_LENGTH)], &[(start::NOW, A_MOMENT)]", "&[(start::NOW, A_MOMENT)], &[(start::INITIAL_RTT, A_LENGTH)]"),
+    (PLACES, "call::ON_PACKET_SENT =>", "FREE,", ""),
+    (PLACES, "call::ON_CONGESTION_EVENT_START =>", "ACKED, EVENT, SAMPLE", "ACKED, SAMPLE, EVENT"),
+    (PLACES, "call::ON_CONGESTION_EVENT_START =>", "ACKED, EVENT, SAMPLE", "EVENT, ACKED, SAMPLE"),
+    (PLACES, "call::IS_INFLIGHT_TOO_HIGH =>", "EVENT, FREE", "FREE, EVENT"),
+    (PLACES, "call::BDP =>", "&[(bdp::BANDWIDTH, A_BANDWIDTH)], &[(bdp::GAIN, Gain)]", "&[(bdp::GAIN, Gain)], &[(bdp::BANDWIDTH, A_BANDWIDTH)]"),
+    (PLACES, "call::ENTER_PROBE_DOWN =>", "&[(enter_probe_down::PROBED_TOO_HIGH, Flag)],", "&[(enter_probe_down::NOW, A_MOMENT)], &[(enter_probe_down::PROBED_TOO_HIGH, Flag)],"),
+    (PLACES, "call::ENTER_PROBE_UP =>", "&[(enter_probe_up::NOW, A_MOMENT)],", "&[(enter_probe_up::CWND, A_WINDOW)], &[(enter_probe_up::NOW, A_MOMENT)],"),
+    (PLACES, "const EVENT", "(EVENT_IN_CALL + event::EVENT_TIME, A_MOMENT),", "(EVENT_IN_CALL + event::PRIOR_CWND, A_WINDOW), (EVENT_IN_CALL + event::EVENT_TIME, A_MOMENT),"),
+    (PLACES, "const SAMPLE", "(sample::SAMPLE_MAX_BANDWIDTH_SET, BANDWIDTH_OR_NONE),", "(sample::TOTAL_BYTES_ACKED, A_TOTAL), (sample::SAMPLE_MAX_BANDWIDTH_SET, BANDWIDTH_OR_NONE),"),
+    (PLACES, "const NO_CALL", "Form, 0", "Form, 1"),
+    # The kinds of bounds.
+    (PLACES, "const A_WINDOW", "Kind::Window", "Kind::Bytes"),
+    (PLACES, "const A_COUNT", "Kind::Bytes", "Kind::Window"),
+    (PLACES, "const A_LENGTH", "Kind::Length", "Kind::Moment"),
+    (PLACES, "const A_TOTAL", "Kind::Total", "Kind::Bytes"),
+    (PLACES, "event::BYTES_LOST", "A_TOTAL", "UpTo(TOTAL, Kind::Bytes)"),
+    (PLACES, "event::LAST_PACKET_SEND_STATE_TOTAL_BYTES_ACKED", "A_TOTAL", "UpTo(TOTAL, Kind::Bytes)"),
+    (PLACES, "const A_MOMENT", "Kind::Moment", "Kind::Length"),
+    (PLACES, "const BANDWIDTH_OR_NONE", "Kind::Bandwidth", "Kind::Bytes"),
+    (PLACES, "enter_probe_refill::PROBE_UP_ROUNDS", "Kind::UpRounds", "Kind::Bytes"),
+    (PLACES, "Bound => (words", "Kind::Bytes", "Kind::Window"),
+    (PLACES, "Flag => (words", "Kind::Form", "Kind::Gain"),
+    (PLACES, "Gain if words[0]", "Kind::Form", "Kind::Gain"),
+    (PLACES, "Gain if words[0]", ">> 32 != 0", ">> 32 != 0 && bounds::gain(f32::from_bits(words[0] as u32))"),
+    (PLACES, "Gain => (!bounds", "Kind::Gain", "Kind::Form"),
+    (PLACES, "match words[..2]", "_ => Some(Kind::Form)", "_ => Some(kind)"),
+    (PLACES, "match words[..2]", "[0, 0] => None,", "[0, 0] => None, [_, number] if number > most => Some(kind),"),
+    (PLACES, "let outside", "Kind::Form", "Kind::Bytes"),
+    # Row 1 comes first, and names nothing.
+    (REPLIES, "pub fn to_words", "if model(state) { reply } else { OUT_OF_BOUNDS }", "reply"),
+    (REPLIES, "pub fn to_words", "fault.is_some() && !stored(&call, state)", "false"),
+    (REPLIES, "pub fn to_words", "parameter ||", "parameter && fault.is_none() ||"),
+    # The exported calls.
+    (PLACES, PAIRS, "Form, 2", "Form, 1"),
+    (PLACES, SLOPE, "Kind::Window", "Kind::Bytes"),
+    (PLACES, SLOPE, "Window, 2", "Window, 1"),
 ]
 
-# Those that only long lists show, by `lists`.
+# Those that only long lists and wrong lengths of a run show, by `lists`.
 LONG = [
     (HOST, "pub fn event_of", "numbers.to_vec()", "numbers[..numbers.len().min(3)].to_vec()"),
     (HOST, "pub fn event_of", "numbers.to_vec()", "numbers[numbers.len().saturating_sub(3)..].to_vec()"),
@@ -220,6 +280,10 @@ LONG = [
     (REPLIES, "fn overflows", "acked.iter()", "acked.iter().take(3)"),
     (REPLIES, "pub fn never_sent", "acked.iter()", "acked.iter().take(3)"),
     (REPLIES, "pub fn never_sent", "acked.iter()", "acked.iter().rev().take(3)"),
+    (PLACES, "let outside", "after > lists as u128", "lists < usize::MAX"),
+    (LENGTHS, "fn reply(", "if self.state.len() != STATE_BYTES", "if self.state.len() != STATE_BYTES && self.has_part() { CALLS_LENGTH.reply() } else if self.state.len() != STATE_BYTES"),
+    (LENGTHS, "const STATE_LENGTH", "Form, 1", "Form, 0"),
+    (LENGTHS, "const CALLS_LENGTH", "Form, 2", "Form, 1"),
 ]
 
 
@@ -255,7 +319,7 @@ def command_for(change):
     file, after = change[:2]
     if change in LONG:
         return "lists"
-    if file == READING and after == EXPORTED:
+    if after in (EXPORTED, PAIRS, SLOPE):
         return "exports"
     return "filter" if file in (FILTER, READING, ANSWERS) and after != LEFT else "diff"
 
@@ -287,7 +351,7 @@ def main():
     missed = []
     changes = CHANGES + LONG
     if not os.path.isfile(ARCHIVE):
-        print("The changes that only long lists show are left out, since there is no %s" % ARCHIVE)
+        print("The changes that only `lists` shows are left out, since there is no %s" % ARCHIVE)
         changes = CHANGES
     with tempfile.TemporaryDirectory() as folder:
         recovery, source, parts = copies(folder)
@@ -302,7 +366,7 @@ def main():
                 sys.exit("The unchanged original and the port differ in %s: %s" % (command, said))
 
         for number, (file, after, find, put) in enumerate(changes, 1):
-            path = os.path.join(source if file in (READING, ANSWERS, REPLIES, HOST) else recovery, file)
+            path = os.path.join(source if file in OURS else recovery, file)
             command = command_for(changes[number - 1])
             with open(path) as opened:
                 text = opened.read()

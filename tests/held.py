@@ -1,5 +1,6 @@
 """Holds the Rattle source and its definitions to docs/calls.txt: the numbers of calls, the places and forms of words,
-the sizes, the replies, the reasons. tests/table.py calls `faults`; the lists below say where to look.
+the sizes, the replies, the reasons, the kinds and places of a refusal 2. tests/table.py calls `faults`; the lists below
+say where to look.
 
 Each check takes paths and gives lines: file, what stands there, what should. Of the words it is reading that is held:
 that what was written is read back as it was is proved (crates/dispatch/specs/RoundTrip.antt). Of the calls' arguments it is
@@ -9,7 +10,7 @@ import glob
 import os
 import re
 
-from words import PATH, ROOT, WORD_BYTES
+from words import PATH, ROOT, WORD_BYTES, constant
 
 # ---- where to look
 
@@ -98,7 +99,7 @@ PHRASES = [
     (r"room < (\d+) \* \(src|ltb room \((\d+) \* pairs|put_words\(out, (\d+) \* i|\(r \.output\)\) \((\d+) \* pairs", ("SAMPLES_BYTES",)),
     (r"or_short\(reply, room < (\d+)\)|\(ltb room (\d+)\)", ("SLOPE_BYTES",)),
 ]
-SIZED = [f"crates/{crate}/{folder}/*" for crate in ("words", "layout", "arguments", "pairs", "calls", "dispatch", "guovssalu", "theorems") for folder in ("src", "specs")]
+SIZED = [f"crates/{crate}/{folder}/*" for crate in ("words", "layout", "arguments", "places", "pairs", "calls", "dispatch", "guovssalu", "theorems") for folder in ("src", "specs")]
 # Where a number above every word and every call, and below 1000, is a size, or one of these: bits of a word, values of a
 # byte, and what is the program `serve`'s own (oracle/README.md, "The frames").
 COUNTED = SIZED + ["crates/serve/src/*"]
@@ -110,6 +111,44 @@ NOT_COUNTED = ["crates/guovssalu/specs/Examples.antt", "crates/theorems/specs/Ex
 NUMBERED = [
     ("replies", "Reply", "number", ["crates/units/specs/Reply.antt"]),
     ("reasons", "Reason", "reasonNumber", ["crates/filters/src/windowed_filter.rt", "crates/filters/specs/Reason.antt"]),
+]
+
+# The kinds of a refusal 2: the constants of the source, and their names in definitions, `aWindow` for Window, but for
+# these. Both files have a list of faults for each call, each fault with its place and its kind, in their order.
+FAULTS = {".rt": "crates/state/src/faults.rt", ".antt": "crates/state/specs/Faults.antt"}
+KINDS = {"ProbeRounds": "probeRounds", "ListLength": "listLength"}
+# Which list a call of a run has: by its number, of the numbers in its words.
+PLACES = {".rt": "crates/places/src/places.rt", ".antt": "crates/places/specs/Places.antt"}
+# Which words of a record these test, each by its kind; and the words that these take as they stand.
+FITS = [
+    ("crates/places/src/fits.rt", "record_fits", "event", "EVENT_IN_CALL"),
+    ("crates/places/src/fits.rt", "sample_fits", "sample", 0),
+    ("crates/places/specs/Places.antt", "recordFits", "event", "EVENT_IN_CALL"),
+    ("crates/places/specs/Places.antt", "sampleFitsIn", "sample", 0),
+]
+STANDING = [
+    ("crates/places/src/fits.rt", "record_in", "event", "EVENT_IN_CALL", "event_time"),
+    ("crates/places/src/fits.rt", "sample_in", "sample", 0, "extra_acked"),
+    ("crates/places/specs/Places.antt", "recordIn", "event", "EVENT_IN_CALL", "event_time"),
+    ("crates/places/specs/Places.antt", "sampleIn", "sample", 0, "extra_acked"),
+]
+# The lists of the exported functions. The two runs have the same one.
+EXPORTED = [
+    ("guovssalu_run", "crates/guovssalu/src/model_run.rt", "model_reply"),
+    ("guovssalu_run", "crates/guovssalu/specs/ModelRun.antt", "lengthFaults"),
+    ("guovssalu_run_lists", "crates/guovssalu/specs/ModelRun.antt", "lengthFaults"),
+    ("guovssalu_filter_run", "crates/pairs/src/pairs.rt", "run_reply"),
+    ("guovssalu_filter_run", "crates/pairs/specs/Pairs.antt", "pairsFaults"),
+    ("guovssalu_raise_inflight_high_slope", "crates/guovssalu/src/slope.rt", "slope_reply"),
+    ("guovssalu_raise_inflight_high_slope", "crates/guovssalu/specs/Slope.antt", "windowFaults"),
+]
+# Where a reply is put together, and by which part's step: a fault is a kind and so many times a place, a reply a row and
+# so many times a fault.
+STEPS = [
+    ("crates/state/src/faults.rt", r"wide\(kind\) \+ (\d+) \* wide\(place\)", "place"),
+    ("crates/state/specs/Faults.antt", r"\(kind \+ (\d+) \* place\)", "place"),
+    ("crates/units/src/reply.rt", r" \+ (\d+) \* wide\(fault\)", "kind"),
+    ("crates/units/specs/Reply.antt", r"= row \+ (\d+) \* fault\b", "kind"),
 ]
 
 
@@ -457,11 +496,256 @@ def check_numbers(table, paths, others):
 def check_numbered(table, section, kind, function, paths):
     due = {row["name"]: int(row["number"]) for row in table.rows(section)}
     for path in paths:
-        pairs = re.findall(rf"(?:{kind}::(?=\w+ =>)|^{function} )(\w+) =>? (\d+)", code(path), re.M)
+        pairs = re.findall(rf"(?:{kind}::(?=\w+ =>)|^{function} \(?)(\w+)(?: \w+\))? =>? (\d+)", code(path), re.M)
         stands = {name: int(number) for name, number in pairs}
         for name in sorted(set(due) | set(stands)):
             if due.get(name) != stands.get(name):
                 yield f"{path}: {name} is {stands.get(name)} there, and should be {due.get(name)}"
+
+
+# ---- kinds and places of a refusal 2
+
+
+def ending(path):
+    return os.path.splitext(path)[1]
+
+
+def kind_names(table, path):
+    """The names of the kinds in a file, and their numbers."""
+    named = constant if ending(path) == ".rt" else lambda name: KINDS.get(name, "a" + name)
+    return {named(row["name"]): int(row["number"]) for row in table.rows("faults")}
+
+
+def check_kinds(table, path):
+    """The kinds have the table's numbers."""
+    kind = r"^pub const (\w+): u8 = (\d+);" if ending(path) == ".rt" else r"^(\w+) = (\d+)$"
+    due, stands = kind_names(table, path), {name: int(number) for name, number in re.findall(kind, code(path), re.M)}
+    for name in sorted(set(due) | set(stands)):
+        if due.get(name) != stands.get(name):
+            yield f"{line_of(path, name)}: kind {name} is {stands.get(name)} there, and should be {due.get(name)}"
+
+
+def check_steps(table, steps):
+    """A reply is put together as the table says."""
+    times = {row["part"]: int(row["times"]) for row in table.rows("reply")}
+    due = {"kind": times["kind"], "place": times["place"] // times["kind"]}
+    for path, phrase, part in steps:
+        stands = [int(found) for found in re.findall(phrase, code(path))]
+        if stands != [due[part]]:
+            yield f"{path}: a {part} is taken times {stands} there, and should be times {due[part]}"
+
+
+def faults_in(row):
+    return [int(number) for number in (row["fault"] or "").split(", ") if number]
+
+
+def record_due(table, name, place):
+    """The faults of an argument that is a record, each with its place, kind and field."""
+    rows = table.rows("event") if name == "event" else [row for row in table.rows("sample") if row["argument"] == name]
+    return [(place, fault, row["here"]) for row in rows for fault in faults_in(row)]
+
+
+def faults_due(table, call):
+    """The faults of a call in order."""
+    given = [(int(row["place"]), fault, row["word"]) for row in table.given(call) for fault in faults_in(row)]
+    for row in table.rows("records"):
+        if row["call"] == call:
+            given += record_due(table, row["argument"], int(row["place"]))
+    return sorted(given, key=lambda one: one[0])
+
+
+def atoms(text):
+    """What a definition's function is applied to: words and brackets, up to the end of the application."""
+    while text := text.lstrip():
+        if text[0] in ")∷;":
+            return
+        atom = closed(text, 0) if text[0] == "(" else re.match(r"[^\s()]+", text).group(0)
+        yield atom
+        text = text[len(atom) + 2 * (text[0] == "(") :]
+
+
+def methods(path):
+    """The bodies of a source's functions, those named `fault` by their record, with the types of what each is given."""
+    text, bodies = code(path), dict(functions(path))
+    for found in re.finditer(r"^impl (\w+) \{", text, re.M):
+        within = closed(text, found.end() - 1)
+        at = within.find("fn fault(")
+        if at >= 0:
+            bodies[found.group(1)] = closed(within, within.index("{", at))
+    types = {name: dict(re.findall(r"(\w+): (\w+)", given)) for name, given in re.findall(r"\bfn (\w+)\(([^()]*)\)", text)}
+    return bodies, types
+
+
+def entries(path, name):
+    """What a function lists: a test, a place and a kind, or the name of a record's list and what that is given."""
+    if ending(path) == ".rt":
+        bodies, types = methods(path)
+        body = bodies.get(name, "")
+        for found in re.finditer(r"\bunless\(|\b(\w+)\.fault\(", body):
+            record = types[name].get(found.group(1), "") if found.group(1) else None
+            yield record, split(closed(body, found.end() - 1), ",")
+        return
+    body = functions(path).get(name, "")
+    for found in re.finditer(r"\bunless |\b(\w+Faults) ", body):
+        yield found.group(1), list(atoms(body[found.end() :]))
+
+
+def listed(path, name, kinds, place=None):
+    """The faults that a function lists: place, kind and test of each. A record stands at the place that it is given."""
+    for record, given in entries(path, name):
+        if record is not None:
+            yield from listed(path, record, kinds, given[0])
+        else:
+            test, at, kind = given[:3]
+            yield place if at == "place" else at, kinds.get(kind, kind), test
+
+
+def check_list(where, stands, due, of):
+    """A list of faults is the due one, place by place and kind by kind."""
+    said = lambda one: f"2.{one[1]} at {one[0]}" if one else "nothing"
+    stands, due = [(str(one[0]), str(one[1])) for one in stands], [(str(one[0]), str(one[1])) for one in due]
+    for turn in range(max(len(stands), len(due))):
+        one, other = (part[turn] if turn < len(part) else None for part in (stands, due))
+        if one != other:
+            yield f"{where}: fault {turn + 1} is {said(one)} there, and should be {said(other)}: {of}"
+            return
+
+
+def numbers_in(text):
+    """The calls that a test by number lets through."""
+    text = " ".join(text.split())
+    ranges = re.findall(r"\bleb (\d+) call && leb call (\d+)|\((\d+) <= call\) & \(call <= (\d+)\)", text)
+    single = re.findall(r"\beqb call (\d+)|\bcall == (\d+)", text)
+    found = {int(one or other) for one, other in single}
+    for low, high, least, most in ranges:
+        found |= set(range(int(low or least), int(high or most) + 1))
+    return found
+
+
+def letters(text):
+    """The numbers of a call that an expression uses, one after the other."""
+    found = re.findall(r"\b[abcd]\b", text)
+    return [one for turn, one in enumerate(found) if turn == 0 or found[turn - 1] != one]
+
+
+def chosen_lists(path):
+    """The list of each call in words: the call's number, the list's name, and the words that it is made of, or nothing
+    for a record."""
+    text, bodies = code(path), functions(path)
+    if ending(path) == ".rt":
+        for chooser in ("entry_fault", "number_fault"):
+            given = re.search(rf"return {chooser}\((.*)\);|^    {chooser}\((.*)\)$", text, re.M)
+            words = dict(zip(parameters(path, chooser), split(given.group(1) or given.group(2), ",")))
+            for number, called in choices_in(bodies[chooser]):
+                name = re.match(r"\w*", called).group(0)
+                name = name if name not in bodies else re.search(r"\b(\w+_fault)\(", bodies[name]).group(1)
+                yield number, name, [int(words[one][2:-1]) for one in letters(called)]
+        started = re.search(r"\bif n\[0\] == (\d+) \{\s*return started\(", text)
+        yield int(started.group(1)), re.search(r"\b(\w+_fault)\(", bodies["started"]).group(1), None
+        return
+    for chooser in ("entryFaults", "numberFaults"):
+        takes = re.search(rf"^{chooser} call ([\w ]+) =", text, re.M).group(1).split()
+        words = dict(zip(takes, re.findall(r"word w (\d+)", re.search(rf"\({chooser} call (.*)$", text, re.M).group(1))))
+        for found in re.finditer(r"\bcond \((eqb call [^()]*)\) (\(|\[\])", bodies[chooser]):
+            chosen = closed(bodies[chooser], found.end() - 1) if found.group(2) == "(" else ""
+            for number in sorted(numbers_in(found.group(1))):
+                yield number, chosen.split(" ")[0], [int(words[one]) for one in letters(chosen)]
+    started = re.search(r"\bcond \(eqb \(word w 0\) (\d+)\)\s*\((\w+)", bodies["faultsOf"])
+    yield int(started.group(1)), started.group(2), None
+
+
+def choices_in(body):
+    """The arms of a match by a call's number."""
+    for arm in split(closed(body, body.index("match call {") + len("match call ")), ","):
+        number, _, called = arm.partition("=>")
+        if number.strip().isdigit():
+            yield int(number), called.strip()
+
+
+def check_places(table, path, beside):
+    """Each call of a run has its list, of its words, and each list is the table's."""
+    try:
+        yield from differing_places(table, path, beside)
+    except (AttributeError, KeyError, IndexError, ValueError) as fault:
+        yield f"{path}: the list of each call's faults is written in another way there than tests/held.py reads: {fault!r}"
+
+
+def differing_places(table, path, beside):
+    source = ending(path) == ".rt"
+    kinds, numbers = kind_names(table, beside), {int(row["number"]): row["name"] for row in table.rows("calls")}
+    bodies, seen = functions(path), set()
+    for number, name, words in chosen_lists(path):
+        call = numbers.get(number, f"{number}, no call's number")
+        due = faults_due(table, call)
+        yield from check_list(f"{beside}: {name or 'no list'}", listed(beside, name, kinds), due, f"{number} {call}")
+        if words is not None:
+            asked = [int(word) for turn, (_, _, word) in enumerate(due) if turn == 0 or due[turn - 1][2] != word]
+            if words != asked:
+                yield f"{path}: {name}: words {words} of call {number} are handed on there, and should be {asked}: {call}"
+        seen.add(number)
+    record = numbers_in(bodies["is_about_event" if source else "isAboutEvent"])
+    place = re.search(r"\bevent\.fault\((\d+)", bodies["other_fault"]).group(1) if source else None
+    name = "CongestionEvent" if source else "eventFaults"
+    for number in sorted(record):
+        call = numbers.get(number, f"{number}, no call's number")
+        yield from check_list(f"{beside}: {name}", listed(beside, name, kinds, place), faults_due(table, call), f"{number} {call}")
+    free = numbers_in(bodies["is_given_nothing" if source else "isGivenNothing"])
+    for number in sorted(set(numbers) - seen - record - free):
+        yield f"{path}: no list for {number} {numbers[number]} stands there"
+    for number in sorted((seen | record | free) - set(numbers)):
+        yield f"{path}: a list for {number} stands there, and that is no call's"
+    for number in sorted(number for number in free if faults_due(table, numbers.get(number, ""))):
+        yield f"{path}: call {number} is given nothing there, and should be given what {numbers[number]} is"
+    if source:
+        where, stands = beside, [divmod(int(found), 256) for found in re.findall(r"\bNO_CALL: u32 = (\d+);", code(beside))]
+    else:
+        where, stands = path, listed(path, "noCall", kinds)
+    due = [(0, kinds["LIST_LENGTH" if source else "listLength"])]
+    yield from check_list(f"{where}: a number that is no call's", stands, due, "no call")
+
+
+def check_fields(table, path):
+    """The numbers of a record's definition are its fields, each once, in order."""
+    kinds = kind_names(table, path)
+    for name, argument in (("recordFaults", "event"), ("sampleFaults", "sample")):
+        form = kinds["listLength"]
+        stands = [".".join(re.findall(r"\.(\w+)", test)) for _, kind, test in listed(path, name, kinds) if kind != form]
+        due = [here for _, kind, here in record_due(table, argument, 0) if kind != form]
+        if stands != due:
+            yield f"{path}: {name}: the fields {', '.join(stands)} are tested there, and should be {', '.join(due)}"
+
+
+def check_fits(table, path, name, section, first):
+    """The words that are tested are those of the fields that can be malformed, a pair as one."""
+    start = table.place.__dict__[first] if first else 0
+    word = r"n\[(\d+)\]" if ending(path) == ".rt" else r"\(word w (\d+)\)"
+    tests = re.findall(rf"\b(flag|maybe)_?[fF]its[( ]{word}(?:,? {word})?", functions(path).get(name, ""))
+    stands = [(kind, *(int(one) for one in words if one)) for kind, *words in tests]
+    due = []
+    for row in table.rows(section):
+        if row.get("argument", "sample") == "sample" and table.numbered("faults").LIST_LENGTH in faults_in(row):
+            kind = "flag" if row["kind"] == "flag" else "maybe"
+            due.append((kind, *(start + int(row["word"]) + more for more in range(table.words(row)))))
+    if stands != due:
+        yield f"{path}: {name}: {stands} are tested there, and should be {due}"
+
+
+def check_standing(table, path, name, section, first, field):
+    """The one word that is taken as it stands is the field's."""
+    start = table.place.__dict__[first] if first else 0
+    found = re.findall(r"\bn\[\d+\]|\bword w \d+", functions(path).get(name, ""))
+    stands = [int(re.search(r"\d+", word).group(0)) for word in found]
+    due = [start + int(row["word"]) for row in table.rows(section) if row["field"] == field]
+    if stands != due:
+        yield f"{path}: {name}: words {stands} are taken as they stand there, and should be {due}"
+
+
+def check_exported(table, lists):
+    """The lists of the exported functions are the table's."""
+    for function, path, name in lists:
+        rows = [row for row in table.rows("exported") if row["function"] == function]
+        due = [(int(row["place"]), fault) for row in rows for fault in faults_in(row)]
+        yield from check_list(f"{path}: {name}", listed(path, name, kind_names(table, path)), due, function)
 
 
 # ---- all of it
@@ -480,6 +764,9 @@ def named():
     yield from [HANDED, *CHOOSERS.values()]
     yield from NOT_COUNTED
     yield from (path for *_, paths in NUMBERED for path in paths)
+    yield from [*FAULTS.values(), *PLACES.values()]
+    yield from (path for _, path, _ in EXPORTED)
+    yield from (path for path, *_ in FITS + STANDING + STEPS)
 
 
 def faults(table):
@@ -501,4 +788,14 @@ def faults(table):
     out += check_numbers(table, [path for path in files(COUNTED) if path not in NOT_COUNTED], OTHERS)
     for numbered in NUMBERED:
         out += check_numbered(table, *numbered)
+    for kind, path in FAULTS.items():
+        out += check_kinds(table, path)
+        out += check_places(table, PLACES[kind], path)
+    out += check_fields(table, FAULTS[".antt"])
+    for fits in FITS:
+        out += check_fits(table, *fits)
+    for standing in STANDING:
+        out += check_standing(table, *standing)
+    out += check_exported(table, EXPORTED)
+    out += check_steps(table, STEPS)
     return out

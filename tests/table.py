@@ -4,9 +4,9 @@
     tests/table.py            a line for each difference: the file, what stands there, what should; then 1
     tests/table.py --write    writes them
 
-Written are the parts of docs/LAYOUT.md and include/guovssalu.h between the marks, and the whole of
-rust/guovssalu-sys/src/table.rs. tests/held.py holds the Rattle source and its definitions to the same table: that is
-compared, and never written."""
+Written are the parts of docs/LAYOUT.md, docs/REFUSALS.md and include/guovssalu.h between the marks, and the whole of
+rust/guovssalu-sys/src/table.rs. What a refusal says of an argument is tests/refusal.py's. tests/held.py holds the Rattle
+source and its definitions to the same table: that is compared, and never written."""
 
 import difflib
 import os
@@ -14,9 +14,11 @@ import re
 import sys
 
 import held
+import refusal
 from words import PATH, ROOT, TABLE, WORD_BYTES, Fault, constant
 
 PAGE = "docs/LAYOUT.md"
+DESK = "docs/REFUSALS.md"
 HEADER = "include/guovssalu.h"
 RUST = "rust/guovssalu-sys/src/table.rs"
 # Has numbers of calls that are not the model's.
@@ -24,6 +26,7 @@ FRAMES = "oracle/src/frame.rs"
 # Around a part that is written: its first line with the part's name, and its last.
 MARKS = {
     PAGE: ("<!-- {} of docs/calls.txt -->", "<!-- end -->"),
+    DESK: ("<!-- {} of docs/calls.txt -->", "<!-- end -->"),
     HEADER: ("/* -- {} of docs/calls.txt -- */", "/* -- end -- */"),
 }
 WIDTH = 100
@@ -83,6 +86,35 @@ def shown(field):
     return field.replace("last_packet_send_state.", "last_packet_send_state: ")
 
 
+def refused(faults):
+    """What a word or an argument can be refused with: 2.8 or 2.7; three or more in a row are 2.1 to 2.5."""
+    return refusal.joined(["2." + part.replace(" to ", " to 2.") for part in listed(faults)]) or "never"
+
+
+def marked(said):
+    """What is said of an argument, with names as a page has them."""
+    return f"{refusal.joined([f'`{name}`' for name in said.names])} {said.phrase}"
+
+
+def fault_name(row):
+    """A fault's name in words: ListLength is list length."""
+    return constant(row["name"]).lower().replace("_", " ")
+
+
+def fault_of(row):
+    """What a fault is about, and the limit."""
+    if not row["limit"]:
+        return row["what"]
+    most = row["limit"] if " to " in row["limit"] else "at most " + row["limit"]
+    return f"{row['what']}, {most}" + (f" ({row['plain']})" if row["plain"] else "")
+
+
+def part_of(reply, row):
+    """A part of a reply, as C and Rust say it."""
+    shift = int(row["times"]).bit_length() - 1
+    return f"({reply} >> {shift}) & {hex(refusal.PART - 1)}" if shift else f"{reply} & {hex(refusal.PART - 1)}"
+
+
 def fields(section, part=None):
     """A row for each field: its words, its name, its kind."""
     rows = [row for row in TABLE.rows(section) if part in (None, row.get("part"))]
@@ -112,15 +144,19 @@ def page_sizes():
     return grid(["array", "words", "bytes", "what"], rows)
 
 
+def function_replies(function, done, other):
+    """What an exported function replies, in order: done, what its arguments can be refused with, and the other rows."""
+    rows = [(TABLE.reply.DONE, done), *other.items()]
+    for argument in refusal.EXPORTED[function]:
+        rows += [(f"2.{fault} at {argument.place}", marked(said)) for fault, said in argument.said.items()]
+        rows += [(row, marked(said)) for row, said in argument.other.items() if row not in other]
+    return grid(["reply", "where"], sorted(rows, key=lambda row: str(row[0])))
+
+
 def page_run():
-    state, call, answer = (SIZE[name + "_BYTES"] for name in ("STATE", "CALL", "ANSWER"))
-    rows = [
-        (TABLE.reply.DONE, "the calls were gone through. That says nothing of any of them: each has its own reply, in word 0 of its answer"),
-        (TABLE.reply.OUT_OF_BOUNDS, f"the state's {state} bytes encode no state: a word of them is malformed (below), as a flag of 2 or an unset number that is not 0"),
-        (TABLE.reply.BAD_ARGUMENT, f"the state has another length, or the calls are no whole number of {call} bytes"),
-        (TABLE.reply.SHORT_OUTPUT, f"the answers have under {answer} bytes a call"),
-    ]
-    return grid(["reply", "where"], rows)
+    done = "the calls were gone through. That says nothing of any of them: each has its own reply, in word 0 of its answer"
+    malformed = f"the state's {SIZE['STATE_BYTES']} bytes encode no state: a word of them is malformed (below), as a flag of 2 or an unset number that is not 0"
+    return function_replies("guovssalu_run", done, {TABLE.reply.OUT_OF_BOUNDS: malformed})
 
 
 def page_kinds():
@@ -148,28 +184,49 @@ def page_call():
     return grid(["words", "what"], [(words, row["what"] + only.get(row["part"], "")) for row, words in parts_of("call")])
 
 
+def words_of(call, argument):
+    """The words of an argument, and how they are written."""
+    if argument.name == "event":
+        return span(SIZE["EVENT_IN_CALL"], SIZE["EVENT_WORDS"]), "the event's record, below"
+    rows = [row for row in TABLE.given(call) if row["argument"] == argument.name]
+    if rows:
+        return span(int(rows[0]["word"]), TABLE.words(rows[0])), rows[0]["kind"]
+    rows = refusal.fields(argument.name)
+    return span(int(rows[0]["word"]), TABLE.width(rows)), "the table below"
+
+
 def page_arguments():
-    rows = []
+    rows, bare = [], []
     for row in TABLE.rows("calls"):
-        name = row["name"] + (f": {row['what']}" if row["what"] else "")
-        given = TABLE.given(row["name"])
-        if row["name"] == "on_congestion_event_start":
-            rows.append((row["number"], name, "the table below"))
-        elif given:
-            rows.append((row["number"], name, "; ".join(f"{one['word']} {one['argument']}, {one['kind']}" for one in given)))
-    bare = [row for row in TABLE.rows("calls") if not any(str(row["number"]) == number for number, _, _ in rows)]
+        found = refusal.ARGUMENTS[row["name"]]
+        name = f"{row['number']} {row['name']}" + (f": {row['what']}" if row["what"] else "")
+        for argument in found:
+            words, kind = words_of(row["name"], argument)
+            rows.append((name, argument.place, argument.name, words, kind, refused(sorted(argument.said))))
+            name = f"{row['number']} {row['name']}"
+        bare += [] if found else [row]
     named = lambda rows: ", ".join(f"{row['number']} {row['name']}" for row in rows)
-    answers = [row for row in bare if row["answer"] and not row["event"]]
+    answers = [row for row in bare if row["answer"]]
     others = [row for row in bare if row not in answers]
-    line = f"With no arguments: {named(others)}; and those that only answer: {named(answers)}."
-    return grid(["call", "name", "arguments: word, name, kind"], rows) + ["", line]
+    line = f"With no arguments, and so never refused with 2: {named(others)}; and those that only answer: {named(answers)}."
+    return grid(["call", "place", "argument", "word", "kind", "refused with"], rows) + ["", line]
+
+
+def page_sample():
+    rows = []
+    for row in TABLE.rows("sample"):
+        place = next(one.place for one in refusal.ARGUMENTS[refusal.EVENT] if one.name == row["argument"])
+        words = span(int(row["word"]), TABLE.words(row))
+        rows.append((words, shown(row["field"]), row["kind"], f"{place} {row['argument']}", refused(refusal.faults_of(row))))
+    return grid(["word", "what", "kind", "place, argument", "refused with"], rows)
 
 
 def page_unknown():
     known = calls_with("number")
     holes = [str(number) for number in range(known[-1]) if number not in known]
+    reply = refusal.reply_of(refusal.LIST_LENGTH, 0)
     return [
-        f"The numbers {', '.join(holes)} and those above {known[-1]} are no call's. Such a number is a bad argument: it is refused with 2, or with 1 where the stored model is out of bounds, and the run goes on."
+        f"The numbers {', '.join(holes)} and those above {known[-1]} are no call's. Such a number is a bad argument that has no place: it is refused with 2.{refusal.LIST_LENGTH} at 0, the reply {reply}, or with 1 where the stored model is out of bounds, and the run goes on."
     ]
 
 
@@ -179,9 +236,9 @@ def page_event():
     rows = []
     for row in TABLE.rows("event"):
         at, width = int(row["word"]), TABLE.words(row)
-        rows.append((span(call + at, width), span(answer + at, width), shown(row["field"]), row["kind"]))
+        rows.append((span(call + at, width), span(answer + at, width), shown(row["field"]), row["kind"], refused(refusal.faults_of(row))))
     said = f"The event's record. The same {words} words, in the same order, are the last of call {start}'s answer: to go on with an event, copy words {answer} to {answer + words - 1} of that answer into words {call} to {call + words - 1} of the calls that follow."
-    return [said, "", *grid(["word of a call", "of an answer", "field", "kind"], rows)]
+    return [said, "", *grid(["word of a call", "of an answer", "field", "kind", "refused with"], rows)]
 
 
 def page_params():
@@ -194,7 +251,7 @@ def page_answer():
     event, words = SIZE["EVENT_IN_CALL"], SIZE["EVENT_WORDS"]
     start = TABLE.call.ON_CONGESTION_EVENT_START
     more = {
-        "reply": ": 0 done, 1 to 5 or 10 refused (the table of replies, below)",
+        "reply": ": 0 where the call was done, and otherwise a refusal, whose row is 1 to 5 or 10 (\"The replies\", below)",
         "event": f" after call {start}; where that is refused, the record handed in, words {event} to {event + words - 1} of the call as they are, byte for byte. 0 for the other calls, which leave it",
     }
     table = grid(["word", "what"], [(at, row["what"] + more.get(row["part"], "")) for row, at in parts_of("answer")])
@@ -209,12 +266,6 @@ def page_answer():
 
 def page_filter():
     pair, samples, kind = SIZE["PAIR_BYTES"], SIZE["SAMPLES_BYTES"], ["word", "what", "kind"]
-    replies = [
-        (TABLE.reply.DONE, "the pairs were gone through"),
-        (TABLE.reply.BAD_ARGUMENT, f"the pairs are no whole number of {pair} bytes"),
-        (TABLE.reply.EARLIER_MOMENT, "a pair's time is earlier than one of the three times that the filter holds then"),
-        (TABLE.reply.SHORT_OUTPUT, f"the output has under {samples} bytes a pair"),
-    ]
     return [
         f"A pair, {pair} bytes:",
         "",
@@ -226,7 +277,7 @@ def page_filter():
         "",
         "The replies:",
         "",
-        *grid(["reply", "where"], replies),
+        *function_replies("guovssalu_filter_run", "the pairs were gone through", {}),
     ]
 
 
@@ -238,6 +289,15 @@ def page_replies():
     return grid(["reply", "name", "where"], [(row["number"], row["name"], row["what"]) for row in TABLE.rows("replies")])
 
 
+def page_parts():
+    return grid(["part", "of a reply", "what"], [(row["part"], part_of("reply", row), row["what"]) for row in TABLE.rows("reply")])
+
+
+def page_faults():
+    rows = [(f"2.{row['number']}", fault_name(row), row["what"], row["limit"] or "-", row["plain"] or "-") for row in TABLE.rows("faults")]
+    return grid(["reply", "kind", "what is bad", "limit", "in plain units"], rows)
+
+
 PAGES = {
     "sizes": page_sizes,
     "the run's replies": page_run,
@@ -245,7 +305,7 @@ PAGES = {
     "state": page_state,
     "call": page_call,
     "arguments": page_arguments,
-    "sample": lambda: grid(["word", "what", "kind"], fields("sample")),
+    "sample": page_sample,
     "no calls": page_unknown,
     "event": page_event,
     "params": page_params,
@@ -253,6 +313,81 @@ PAGES = {
     "filter run": page_filter,
     "reasons": page_reasons,
     "replies": page_replies,
+    "reply": page_parts,
+    "faults": page_faults,
+}
+
+
+# ---- docs/REFUSALS.md
+
+
+SAYS = ["reply", "in a log", "hexadecimal", "what it says", "the limit in plain units"]
+
+
+def desk_replies():
+    numbers = {row["name"]: row["number"] for row in TABLE.rows("calls")}
+    calls = {0: "every call", 1: "every call", 2: "every call that has an argument"}
+    for row in TABLE.rows("asked"):
+        calls[int(row["row"])] = "; ".join(f"{numbers[name]} {name}" for name in row["calls"].split(", "))
+    other = {row for found in refusal.EXPORTED.values() for argument in found for row in argument.other}
+    none = lambda number: "none, only exported functions" if number in other else "none"
+    said = lambda number: calls.get(number) or none(number)
+    rows = [(row["number"], row["name"], row["what"], said(int(row["number"]))) for row in TABLE.rows("replies")]
+    return grid(["reply", "name", "where", "calls in a run that can get it"], rows)
+
+
+def desk_says(fault, place, said):
+    """A reply of 2 as it is written, as it stands in a log, and what it says."""
+    reply = refusal.reply_of(fault, place)
+    return f"2.{fault} at {place}", reply, hex(reply), said, refusal.FAULTS[fault]["plain"] or "-"
+
+
+def desk_argument(named, argument):
+    return [(named, *desk_says(fault, argument.place, marked(said))) for fault, said in sorted(argument.said.items())]
+
+
+def desk_calls():
+    """A row for each reply of 2 to a call. Calls that have the same record at the same place share theirs."""
+    records = {row["argument"] for row in TABLE.rows("records")}
+    named = {}
+    for number, call in refusal.NUMBERS.items():
+        for argument in refusal.ARGUMENTS[call]:
+            shared = (argument.place, argument.name) if argument.name in records else (number, argument.place)
+            named.setdefault(shared, (argument, []))[1].append(f"{number} {call}")
+    rows = []
+    for argument, calls in named.values():
+        rows += desk_argument("; ".join(calls), argument)
+    return grid(["call", *SAYS], rows + [("any other number", *desk_says(refusal.LIST_LENGTH, 0, refusal.NO_CALL))])
+
+
+def desk_functions():
+    rows = []
+    for function, found in refusal.EXPORTED.items():
+        for argument in found:
+            rows += desk_argument(function, argument)
+    other = []
+    for function, found in refusal.EXPORTED.items():
+        other += [(function, row, marked(said)) for argument in found for row, said in argument.other.items()]
+    return [*grid(["function", *SAYS], rows), "", "Their other refusals:", "", *grid(["function", "reply", "what it says"], other)]
+
+
+def desk_free():
+    """The arguments that any number is right for, and the calls that have none."""
+    free = [f"{argument.name} of {call}" for call, found in [*refusal.ARGUMENTS.items(), *refusal.EXPORTED.items()] for argument in found if not argument.said]
+    bare = [row["number"] for row in TABLE.rows("calls") if not refusal.ARGUMENTS[row["name"]]]
+    return [
+        f"Never refused with 2: {joined(free)}.",
+        "",
+        f"Calls without an argument are never refused with 2 either: {joined(listed([int(number) for number in bare]))}.",
+    ]
+
+
+DESKS = {
+    "replies": desk_replies,
+    "faults": page_faults,
+    "calls": desk_calls,
+    "exported": desk_functions,
+    "free": desk_free,
 }
 
 
@@ -291,7 +426,34 @@ def said_of(row):
 
 def header_replies():
     rows = ((constant(row["name"]), row["number"], None) for row in TABLE.rows("replies"))
-    return enum(["/* Replies. */"], rows)
+    faults = (("FAULT_" + constant(row["name"]), row["number"], fault_of(row)) for row in TABLE.rows("faults"))
+    parts = []
+    for row in TABLE.rows("reply"):
+        of = part_of("(uint64_t)(reply)", row)
+        parts += [f"/* The {row['part']} of a reply: {row['what']}. */", f"#define GUOVSSALU_{row['part'].upper()}(reply) ({of})"]
+    return [
+        *enum(["/* The rows of replies. */"], rows),
+        "",
+        *parts,
+        "",
+        *enum(["/* The kinds of row 2, a bad argument: what it is, and the limit that it is beyond. */"], faults),
+    ]
+
+
+def with_fault(kind, faults, place=None):
+    """What stands beside a word: its kind, and what it is refused with."""
+    if not faults:
+        return f"{kind}; never refused, at {place}" if place else kind
+    return f"{kind}; {refused(faults)}" + (f" at {place}" if place else "")
+
+
+def header_words(section, names):
+    """The names of a section's words, with what each is refused with. Of a pair the first is only malformed."""
+    faults = {}
+    for row in TABLE.rows(section):
+        first, found = int(row["word"]), refusal.faults_of(row)
+        faults.update({first: found} if TABLE.words(row) == 1 else {first: found[:1], first + 1: found})
+    return [(name, number, with_fault(kind, faults.get(number, []))) for name, number, kind in with_prefix(section, names)]
 
 
 def header_sizes():
@@ -308,28 +470,49 @@ def header_sizes():
     ]
 
 
+def header_arguments():
+    """The words of arguments, an event's and its record's, with what each is refused with."""
+    arguments = []
+    for call, names, _ in TABLE.argument.items():
+        given = {int(row["word"]): row for row in TABLE.given(call)}
+        for name, number, kind in names.items():
+            said = with_fault(kind, refusal.faults_of(given[number]), given[number]["place"])
+            arguments.append((f"ARG_{call.upper()}_{name}", number, said))
+    places = {one.name: one.place for one in refusal.ARGUMENTS[refusal.EVENT]}
+    of_sample = [
+        "/* An event's arguments, of GUOVSSALU_CALL_ON_CONGESTION_EVENT_START: words of a call. The last two are the",
+        f" * argument acked, at place {places['acked']}, and those before them the argument sample, at place {places['sample']}. */",
+    ]
+    of_event = [
+        "/* An event's record: words from GUOVSSALU_EVENT_IN_CALL of a call on, from GUOVSSALU_EVENT_IN_ANSWER of an",
+        f" * answer on. It is the argument event: at place {places['event']} of GUOVSSALU_CALL_ON_CONGESTION_EVENT_START, at",
+        " * place 1 of the other calls that read it. */",
+    ]
+    return [
+        *enum(["/* The calls' arguments: words of a call. Beside each its kind, what a bad one is refused with, and its", " * place. */"], arguments),
+        "",
+        *enum(of_sample, header_words("sample", TABLE.sample)),
+        "",
+        *enum(of_event, header_words("event", TABLE.event)),
+    ]
+
+
 def header_calls():
     rows = (("CALL_" + constant(row["name"]), row["number"], said_of(row)) for row in TABLE.rows("calls"))
     phases = (("PHASE_" + constant(row["name"]), row["number"], None) for row in TABLE.rows("phases"))
     reasons = (("REASON_" + constant(row["name"]), row["number"], None) for row in TABLE.rows("reasons"))
     why = [f" *   {row['number']}  {row['what']}" for row in TABLE.rows("reasons")]
     why = ["/* Why the filter's estimates moved, its word GUOVSSALU_SAMPLES_REASON: the step that acted last. Too old is", " * older than the window.", *why[:-1], why[-1] + " */"]
-    arguments = []
-    for call, names, _ in TABLE.argument.items():
-        arguments += [(f"ARG_{call.upper()}_{name}", number, kind) for name, number, kind in names.items()]
     apart = [row for name in ("pair", "samples", "slope") for row in with_prefix(name, getattr(TABLE, name))]
     about = [
-        "/* The numbers of the calls: the word GUOVSSALU_NUMBER_IN_CALL of a call. Beside each its arguments in",
-        " * order, whether it reads the event's record and takes the parameters, and what its answer is. */",
+        "/* The numbers of the calls: the word GUOVSSALU_NUMBER_IN_CALL of a call. Beside each its arguments in the",
+        " * order of their words, whether it reads the event's record and takes the parameters, and what its answer",
+        " * is. */",
     ]
     return [
         *enum(about, rows),
         "",
-        *enum(["/* The calls' arguments: words of a call. */"], arguments),
-        "",
-        *enum(["/* An event's arguments, of GUOVSSALU_CALL_ON_CONGESTION_EVENT_START: words of a call. */"], with_prefix("sample", TABLE.sample)),
-        "",
-        *enum(["/* An event's record: words from GUOVSSALU_EVENT_IN_CALL of a call on, from GUOVSSALU_EVENT_IN_ANSWER of an", " * answer on. */"], with_prefix("event", TABLE.event)),
+        *header_arguments(),
         "",
         *enum(["/* The parameters: words from GUOVSSALU_PARAMS_IN_CALL of a call on. */"], with_prefix("params", TABLE.params)),
         "",
@@ -411,6 +594,69 @@ def rust_reasons():
     return rust_module("reason", "Why the filter's estimates moved: what `samples::REASON` is.", items)
 
 
+def rust_reply():
+    """The rows, and the parts of a reply."""
+    items = [rust_const("    ", one, "u64", number, f"Reply {number}.") for one, number, _ in TABLE.reply.items()]
+    for row in TABLE.rows("reply"):
+        body = [f"    pub const fn {row['part']}(reply: u64) -> u64 {{", f"        {part_of('reply', row)}", "    }"]
+        items.append([f"    /// The {row['part']} of a reply: {row['what']}.", *body])
+    return rust_module("reply", "The replies: an answer's first word, and what an exported call replies.", items)
+
+
+def rust_faults():
+    """The kinds of reply 2: their numbers, names, limits and sentences."""
+    rows = TABLE.rows("faults")
+    items = [rust_const("    ", constant(row["name"]), "u64", row["number"], f"2.{row['number']}: {fault_of(row)}.") for row in rows]
+    quoted = lambda column: [f'"{row[column] or ""}"' for row in rows]
+    names = [f'"{fault_name(row)}"' for row in rows]
+    items.append(rust_list("    ", "NAMES", "&str", names, "Their names in words, in order: 2.1 first."))
+    items.append(rust_list("    ", "SAID", "&str", quoted("said"), "What is said of an argument, in the same order."))
+    items.append(rust_list("    ", "PLAIN", "&str", quoted("plain"), "The limits in plain units, in the same order; empty where there is none."))
+    return rust_module("fault", "The kinds of reply 2, `reply::BAD_ARGUMENT`: what `reply::kind` is.", items)
+
+
+def rust_argument(argument, indent):
+    """An argument with what is said of it, a fault to a line where there are several."""
+    said = [f'({fault}, "{refusal.sentence(said)}")' for fault, said in argument.said.items()]
+    if len(said) < 2:
+        return f'Argument {{ name: "{argument.name}", faults: &[{"".join(said)}] }}'
+    lines = [f'Argument {{ name: "{argument.name}", faults: &[', *(f"    {one}," for one in said), "] }"]
+    return f"\n{indent}".join(lines)
+
+
+def rust_places():
+    """The arguments by call and place, with what is said of each. A record is written once."""
+    argument = [
+        "    /// An argument, and what can be said of it.",
+        "    #[derive(Clone, Copy, Debug, PartialEq, Eq)]",
+        "    pub struct Argument {",
+        "        /// Its name.",
+        "        pub name: &'static str,",
+        "        /// The faults that it can have, numbers of `fault`, and what is then said.",
+        "        pub faults: &'static [(u64, &'static str)],",
+        "    }",
+    ]
+    records = {row["argument"]: refusal.of_record(row) for row in TABLE.rows("records")}
+    items = [argument]
+    for name, found in records.items():
+        items.append([f"    /// The argument `{name}` of an event.", f"    pub const {name.upper()}: Argument = {rust_argument(found, '    ')};"])
+    calls = ["    /// Of each call of `call::ALL`, in the same order.", f"    pub const CALLS: [&[Argument]; {len(refusal.ARGUMENTS)}] = ["]
+    for name, found in refusal.ARGUMENTS.items():
+        cells = [one.name.upper() if one.name in records else rust_argument(one, " " * 12) for one in found]
+        calls.append(f"        // {name}")
+        calls += ["        &[", *(f"            {cell}," for cell in cells), "        ],"] if cells else ["        &[],"]
+    items.append(calls + ["    ];"])
+    for function, found in refusal.EXPORTED.items():
+        name = function.replace("guovssalu_", "").upper()
+        lines = [f"    /// Of `{function}`.", f"    pub const {name}: [Argument; {len(found)}] = ["]
+        items.append([*lines, *(f"        {rust_argument(one, ' ' * 8)}," for one in found), "    ];"])
+    items.append(rust_const("    ", "NO_CALL", "&str", f'"{refusal.NO_CALL}"', "What is said at place 0."))
+    said = "The arguments that a reply of 2 can name, by `reply::place`: place 1 is the first of an array."
+    lines = rust_module("place", said, items)
+    # its sentences are longer than a line
+    return [lines[0], "#[rustfmt::skip]", *lines[1:]]
+
+
 def rust_calls():
     rows = TABLE.rows("calls")
     items = []
@@ -466,7 +712,9 @@ def rust_text():
         rust_words("pair", "A pair of the filter run.", TABLE.pair),
         rust_words("samples", "The filter run's answer to a pair.", TABLE.samples),
         rust_words("slope", "The slope's output.", TABLE.slope),
-        rust_numbers("reply", "The replies: an answer's first word, and what an exported call replies.", TABLE.reply, "Reply"),
+        rust_reply(),
+        rust_faults(),
+        rust_places(),
         rust_numbers("phase", "What the state's word `state::PHASE` is.", TABLE.phase, "Phase"),
         rust_reasons(),
     ]
@@ -487,7 +735,7 @@ def filled(path, text, blocks):
         end = text.find(last, start)
         if end < 0:
             raise Fault(f"{path}: no {last} after {mark}")
-        apart = "\n\n" if path == PAGE else "\n"
+        apart = "\n" if path == HEADER else "\n\n"
         text = text[:start] + apart + "\n".join(block()) + apart + text[end:]
     return text
 
@@ -516,6 +764,7 @@ def in_file(path):
 def due():
     """Each written file: what stands there, and what should."""
     yield PAGE, in_file(PAGE), filled(PAGE, in_file(PAGE), PAGES)
+    yield DESK, in_file(DESK), filled(DESK, in_file(DESK), DESKS)
     yield HEADER, in_file(HEADER), filled(HEADER, in_file(HEADER), HEADERS)
     yield RUST, in_file(RUST), rust_text()
 

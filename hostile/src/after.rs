@@ -7,6 +7,7 @@ use guovssalu_sys::table::ANSWER_WORDS;
 use guovssalu_sys::table::STATE_WORDS;
 
 use crate::next;
+use crate::places;
 use crate::reckon;
 use crate::table;
 use crate::words;
@@ -64,9 +65,10 @@ fn started(call: &Call) -> State {
     fresh(now, rtt, cwnd_gain, pacing_gain, option)
 }
 
-/// The state after a call in a run with these lists: a refusal changes nothing but at a start.
-pub fn state(before: &State, call: &Call, lists: &[u64], due: u64) -> State {
-    match (call[c::NUMBER], due) {
+/// The state after a call with this reply in a run with these lists: a refusal changes nothing but at a
+/// start.
+pub fn state(before: &State, call: &Call, lists: &[u64], reply: u64) -> State {
+    match (call[c::NUMBER], reply) {
         (calls::START, 0) => started(call),
         (calls::START, _) => refused_start(),
         (_, 0) => next::state(before, call, lists),
@@ -74,10 +76,10 @@ pub fn state(before: &State, call: &Call, lists: &[u64], due: u64) -> State {
     }
 }
 
-/// The answer to a call in a run with these lists.
-pub fn answer(before: &State, call: &Call, lists: &[u64], due: u64) -> Answer {
-    if due != 0 {
-        return refused(call, due);
+/// The answer to a call with this reply in a run with these lists.
+pub fn answer(before: &State, call: &Call, lists: &[u64], reply: u64) -> Answer {
+    if reply != 0 {
+        return refused(call, reply);
     }
     let mut answer = [0; ANSWER_WORDS];
     answer[a::VALUE] = number(before, call);
@@ -89,9 +91,9 @@ pub fn answer(before: &State, call: &Call, lists: &[u64], due: u64) -> Answer {
 
 /// The answer to a refused call: "0 for a number, no for a yes or no, and an event's record as
 /// handed in".
-fn refused(call: &Call, due: u64) -> Answer {
+fn refused(call: &Call, reply: u64) -> Answer {
     let mut answer = [0; ANSWER_WORDS];
-    answer[a::REPLY] = due;
+    answer[a::REPLY] = reply;
     if call[c::NUMBER] == calls::ON_CONGESTION_EVENT_START {
         answer[a::RECORD..].copy_from_slice(&words::record(call));
     }
@@ -161,5 +163,5 @@ pub fn within(call: &Call, after: &State, answer: &Answer) -> bool {
         && (!table::gets_model(call[c::NUMBER]) || table::model_ok(after))
         && (!table::gets_cycle(call[c::NUMBER]) || table::cycle_ok(after))
         && (call[c::NUMBER] != calls::ON_CONGESTION_EVENT_START
-            || table::record_ok(&answer[a::RECORD..]))
+            || places::record_ok(&answer[a::RECORD..]))
 }

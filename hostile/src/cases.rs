@@ -2,6 +2,7 @@
 
 use crate::events;
 use crate::filter::Filter;
+use crate::flaws;
 use crate::model::Model;
 use crate::numbers;
 use crate::sends;
@@ -15,10 +16,12 @@ pub fn sweep(trial: &mut Trial) {
     model.each_malformed(trial);
     model.each_no_call(trial);
     model.each_length(trial);
-    for sweep in events::SWEEPS.into_iter().chain(sends::SWEEPS) {
+    let sweeps = flaws::SWEEPS.into_iter().chain(events::SWEEPS);
+    for sweep in sweeps.chain(sends::SWEEPS) {
         sweep(&mut model, trial);
     }
     Filter::new().each_length(trial);
+    Filter::new().each_refusal(trial);
     Slope::new().each(trial);
     numbers::each(trial);
 }

@@ -5,10 +5,14 @@ use guovssalu_sys::table::call as calls;
 use guovssalu_sys::table::CALL_WORDS;
 use guovssalu_sys::table::STATE_WORDS;
 
+use crate::bounds;
 use crate::dice::Dice;
+use crate::edges;
 use crate::kinds;
 use crate::kinds::Kind;
 use crate::lists;
+use crate::places;
+use crate::places::Callee;
 use crate::table;
 use crate::values;
 use crate::words;
@@ -18,7 +22,7 @@ use crate::words::Call;
 use crate::words::State;
 
 /// The counters that some call adds 1 to.
-const COUNTERS: [usize; 4] = [
+pub const COUNTERS: [usize; 4] = [
     s::ROUND_TRIP_COUNT,
     s::LOSS_EVENTS_IN_ROUND,
     s::ROUNDS_WITHOUT_GROWTH,
@@ -69,7 +73,7 @@ pub fn good_state(dice: &mut Dice) -> State {
         // Where a queue begins to count as one, for gains up to 1.
         let target = table::bdp(&state, table::max_bandwidth(&state), 1.0) + 2 * 1300;
         let near = target + dice.below(3) - 1;
-        state[s::MIN_BYTES_IN_FLIGHT_IN_ROUND] = near.min(table::BYTES);
+        state[s::MIN_BYTES_IN_FLIGHT_IN_ROUND] = near.min(bounds::BYTES);
     }
     state
 }
@@ -155,11 +159,11 @@ fn go_on(dice: &mut Dice, state: &State, call: &mut Call) {
         stored.saturating_add(step).min(bound.max(stored))
     };
     if let Some(index) = table::moment_word(call[c::NUMBER]) {
-        call[index] = above(state[s::LAST_MOMENT], table::MOMENT);
+        call[index] = above(state[s::LAST_MOMENT], bounds::MOMENT);
     }
     if call[c::NUMBER] == calls::ON_CONGESTION_EVENT_START {
-        call[c::TOTAL_ACKED] = above(state[s::TOTAL_ACKED], table::TOTAL);
-        call[c::TOTAL_LOST] = above(state[s::TOTAL_LOST], table::TOTAL);
+        call[c::TOTAL_ACKED] = above(state[s::TOTAL_ACKED], bounds::TOTAL);
+        call[c::TOTAL_LOST] = above(state[s::TOTAL_LOST], bounds::TOTAL);
         call[c::ACKED_COUNT] = dice.pick(&[0, 1, 2, 3, 3, 3]);
         lists::fill_call(dice, state, call);
     }
@@ -224,6 +228,31 @@ pub fn malform_call(dice: &mut Dice, call: &mut Call, spoilt: &mut Spoilt) {
     spoilt.call.push(place);
 }
 
+/// Gives a call one flaw or two, far past the ends of what is allowed, just past them, or just not past
+/// them. In lists that are too short for four numbers they are no others.
+pub fn flaw_call(
+    dice: &mut Dice,
+    state: &State,
+    call: &mut Call,
+    lists: &Option<Vec<u64>>,
+    spoilt: &mut Spoilt,
+) {
+    let lists = lists.as_deref().unwrap_or(&[]);
+    let in_lists = lists.len() >= lists::FEWEST;
+    let flaws = places::flaws(Callee::Call(call[c::NUMBER]));
+    for _ in 0..flaws.len().min(2) {
+        let flaw = dice.pick(&flaws);
+        let ends = match dice.below(3) {
+            0 => edges::inside(&flaw, in_lists),
+            _ => edges::outside(&flaw, in_lists),
+        };
+        let far = edges::far(dice, &flaw, in_lists);
+        let to = dice.pick(&ends).unwrap_or(far);
+        edges::set(&flaw, to, &mut state.clone(), call, lists);
+        spoilt.call.push(flaw.word);
+    }
+}
+
 /// What else can be wrong beside a malformed word, a place outside the lists or an ack never sent.
 #[derive(Clone, Copy, PartialEq, Debug)]
 pub enum Beside {
@@ -266,15 +295,15 @@ impl Beside {
     pub fn put(self, state: &mut State, call: &mut Call) {
         match self {
             Beside::Nothing => {}
-            Beside::StoredModel => state[s::MIN_RTT] = table::LENGTH + 1,
-            Beside::StoredCycle => state[s::PROBE_UP_ROUNDS] = table::ROUNDS + 1,
-            Beside::Parameter => call[c::PROBE_RTT_PERIOD] = table::LENGTH + 1,
+            Beside::StoredModel => state[s::MIN_RTT] = bounds::LENGTH + 1,
+            Beside::StoredCycle => state[s::PROBE_UP_ROUNDS] = bounds::ROUNDS + 1,
+            Beside::Parameter => call[c::PROBE_RTT_PERIOD] = bounds::LENGTH + 1,
             Beside::MalformedParameter => call[c::IGNORE_APP_LIMITED] = 2,
             Beside::MalformedFlag if call[c::NUMBER] == calls::ON_CONGESTION_EVENT_START => {
                 call[c::SENT_IS_APP_LIMITED] = 2;
             }
             Beside::MalformedFlag => {}
-            Beside::Record => call[c::PRIOR_CWND] = table::BYTES + 1,
+            Beside::Record => call[c::PRIOR_CWND] = bounds::BYTES + 1,
             Beside::Moment => {
                 if let Some(index) = table::moment_word(call[c::NUMBER]) {
                     call[index] = state[s::LAST_MOMENT].saturating_sub(1);

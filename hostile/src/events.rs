@@ -5,6 +5,7 @@
 use guovssalu_sys::table::call as calls;
 use guovssalu_sys::table::CALL_WORDS;
 
+use crate::bounds;
 use crate::choose;
 use crate::choose::Beside;
 use crate::dice::Dice;
@@ -14,7 +15,6 @@ use crate::lists::LENGTHS;
 use crate::lists::LONGEST;
 use crate::model::Lent;
 use crate::model::Model;
-use crate::table;
 use crate::trial::Trial;
 use crate::words::call as c;
 use crate::words::state as s;
@@ -210,7 +210,7 @@ impl Round {
         state[s::END_OF_ROUND_TRIP + 1] = if self.is_set { self.end } else { 0 };
         let mut call = choose::good_call(dice, &state, calls::ON_CONGESTION_EVENT_START);
         choose::stand_still(&state, &mut call);
-        call[c::TOTAL_LOST] = (state[s::TOTAL_LOST] + dice.below(2)).min(table::TOTAL);
+        call[c::TOTAL_LOST] = (state[s::TOTAL_LOST] + dice.below(2)).min(bounds::TOTAL);
         (state, call)
     }
 

@@ -118,11 +118,11 @@ unsafe extern "C" fn raise_inflight_high_slope(
     out: *mut u8,
     out_len: usize,
 ) -> u64 {
-    let due = slope::rows(rounds, window, out_len).due();
-    if due == 0 {
+    let reply = slope::rows(rounds, window, out_len).reply();
+    if reply == 0 {
         lent((out, out_len))[..SLOPE_BYTES].copy_from_slice(&slope::written(rounds, window));
     }
-    due
+    reply
 }
 
 /// An exported filter run, for each number of a kind if it is for several: what is done with the
@@ -141,6 +141,7 @@ macro_rules! exported_filter {
         }
     };
 }
+pub(crate) use exported_filter;
 
 exported_filter!(filter_run, |window, src, out| {
     filter_by(|update| update.due, window, lent(src), lent(out))
@@ -197,7 +198,7 @@ fn write_if_done(rows: &Rows, written: &[u64], out: &mut [u8]) -> u64 {
         let written = words::bytes(written);
         out[..written.len()].copy_from_slice(&written);
     }
-    rows.due()
+    rows.reply()
 }
 
 /// An exported run, for each number of a kind if it is for several: what is done with the three
@@ -262,9 +263,9 @@ pub fn run_by(
     calls: &[u8],
     answers: &mut [u8],
 ) -> u64 {
-    let due = table::run_rows(state, calls, answers.len()).due();
-    if due != 0 {
-        return due;
+    let reply = table::run_rows(state, calls, answers.len()).reply();
+    if reply != 0 {
+        return reply;
     }
     let mut now: State = words::words(state);
     let answers = answers.chunks_exact_mut(words::ANSWER_BYTES);
@@ -288,9 +289,9 @@ pub fn step_with(state: &mut State, call: &Call, lists: &[u64]) -> Answer {
 
 /// One call, by the rows that are said to hold.
 pub fn step_by(rows: &Rows, state: &mut State, call: &Call, lists: &[u64]) -> Answer {
-    let due = rows.due();
-    let answer = after::answer(state, call, lists, due);
-    *state = after::state(state, call, lists, due);
+    let reply = rows.reply();
+    let answer = after::answer(state, call, lists, reply);
+    *state = after::state(state, call, lists, reply);
     answer
 }
 
@@ -646,7 +647,7 @@ fn found(port: Port) -> Tally {
 }
 
 /// Whether the checks notice this fault of a port by chance.
-fn notices(port: Port, fault: Fault) -> bool {
+pub fn notices(port: Port, fault: Fault) -> bool {
     let mut trial = Trial::new(&port, SEED);
     (1..=10).any(|tenth| {
         random(&mut trial, CALLS / 10 * tenth);
@@ -689,7 +690,7 @@ pub fn assert_noticed_swept(fault: Fault, sweeps: &[Sweep], runs: &[(&str, Run)]
 }
 
 /// Fails for a filter run whose fault the checks don't notice.
-fn assert_filter_noticed(fault: Fault, runs: &[(&str, FilterRun)]) {
+pub fn assert_filter_noticed(fault: Fault, runs: &[(&str, FilterRun)]) {
     for &(name, filter_run) in runs {
         let port = Port {
             filter_run,
@@ -712,12 +713,7 @@ fn the_right_port_is_found_right() {
 fn everything_is_swept() {
     let mut trial = Trial::new(&RIGHT, SEED);
     sweep(&mut trial);
-    assert_eq!(
-        trial.tally.fewer_than(1),
-        [""; 0],
-        "{}",
-        trial.tally.report()
-    );
+    assert_eq!(trial.tally.missing(), [""; 0], "{}", trial.tally.report());
 }
 
 #[test]

@@ -10,6 +10,8 @@ use crate::checks;
 use crate::choose;
 use crate::dice::Dice;
 use crate::lent::Ground;
+use crate::places::Callee;
+use crate::places::Given;
 use crate::table::Rows;
 use crate::tally::Export;
 use crate::tally::Tally;
@@ -117,7 +119,7 @@ pub fn due(window: u64, src: &[u8], out_len: usize) -> (Rows, Vec<Samples>) {
         written.push([best.0, second.0, third.0, reason]);
     }
     let rows = Rows::default()
-        .with(2, src.len() % PAIR_BYTES != 0)
+        .with_flaws(Callee::FilterRun, &Given::numbers(&[src.len() as u64]))
         .with(3, refused)
         .with(7, out_len < src.len() / PAIR_BYTES * SAMPLES_BYTES);
     (rows, written)
@@ -166,6 +168,22 @@ impl Filter {
         }
     }
 
+    /// Pairs whose times stay or fall, with a part of a pair after them or without, and with an output
+    /// that is too short or not.
+    pub fn each_refusal(&mut self, trial: &mut Trial) {
+        for (times, part) in [[5, 5, 5], [5, 4, 5]]
+            .into_iter()
+            .flat_map(|times| [0, 1, PAIR_BYTES - 1].map(|part| (times, part)))
+        {
+            for short in [0, 1, SAMPLES_BYTES] {
+                let mut src = words::bytes(&times.map(|time| [time, 1]).concat());
+                src.extend(trial.dice.bytes(part));
+                let out = trial.dice.bytes(times.len() * SAMPLES_BYTES - short);
+                self.run(trial, 8, &src, &out);
+            }
+        }
+    }
+
     /// Makes a run over these bytes and checks it.
     fn run(&mut self, trial: &mut Trial, window: u64, src: &[u8], out: &[u8]) {
         self.src.lend(src, &mut trial.dice);
@@ -186,6 +204,8 @@ impl Filter {
         };
         let (rows, written) = due(window, src, out.len());
         tally.replied(Export::FilterRun, &rows, given, tell);
+        let numbers = [src.len() as u64];
+        tally.asked(Callee::FilterRun, false, &Given::numbers(&numbers), &rows);
         let written = (rows.due() == 0).then_some(written);
         for pair in written.iter().flatten() {
             tally.reasoned(pair[samples::REASON]);

@@ -16,7 +16,7 @@ pub type RunLists = unsafe extern "C" fn(
     usize,
 ) -> u64;
 pub type FilterRun = unsafe extern "C" fn(u64, *const u8, usize, *mut u8, usize) -> u64;
-type Slope = unsafe extern "C" fn(u64, u64, *mut u8, usize) -> u64;
+pub type Slope = unsafe extern "C" fn(u64, u64, *mut u8, usize) -> u64;
 
 /// The exported calls of include/guovssalu.h, in its order: the archive's, or another's in a test.
 #[derive(Clone, Copy)]

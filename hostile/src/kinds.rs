@@ -6,16 +6,19 @@ use guovssalu_sys::table::EVENT_WORDS;
 use guovssalu_sys::table::PARAMS_WORDS;
 use guovssalu_sys::table::STATE_WORDS;
 
+use crate::bounds::BANDWIDTH;
+use crate::bounds::BYTES;
+use crate::bounds::LEAST_GAIN;
+use crate::bounds::LENGTH;
+use crate::bounds::MOMENT;
+use crate::bounds::MOST_GAIN;
+use crate::bounds::ROUNDS;
+use crate::bounds::TOTAL;
+use crate::bounds::WAIT;
 use crate::dice::Dice;
 use crate::table;
-use crate::table::BANDWIDTH;
-use crate::table::BYTES;
-use crate::table::LENGTH;
-use crate::table::MOMENT;
-use crate::table::ROUNDS;
-use crate::table::TOTAL;
-use crate::table::WAIT;
 use crate::values;
+use crate::values::NO_FLAGS;
 use crate::words;
 use crate::words::call as c;
 use crate::words::Call;
@@ -53,7 +56,7 @@ use Kind::Set;
 use Kind::Upto;
 
 const ANY: u64 = u64::MAX;
-const GAIN: Kind = Float(0x3a80_0000, 0x4100_0000);
+const GAIN: Kind = Float(LEAST_GAIN, MOST_GAIN);
 const SHARE: Kind = Float(0, 0x3f80_0000);
 
 /// The words of a state, in order.
@@ -202,8 +205,7 @@ pub fn used(number: u64) -> impl Iterator<Item = (usize, Kind)> {
         .chain(rest().filter(move |&(at, _)| if at < c::PARAMS { record } else { params }))
 }
 
-/// Words that no flag, count or pair has, and bits that no f32 has.
-const NO_FLAGS: [u64; 9] = [2, 3, 255, 256, 257, 1 << 32, (1 << 32) + 1, 1 << 63, ANY];
+/// Words that no count or pair has, and bits that no f32 has.
 const NO_COUNTS: [u64; 9] = [4, 5, 6, 7, 8, 1 << 32, (1 << 32) + 1, ANY - 3, ANY];
 const NO_PAIRS: [(u64, u64); 9] = [
     (0, 1),

@@ -1,24 +1,30 @@
 //! Gives the exported calls hostile input: random bytes, numbers at, past and far past their
 //! bounds, lengths that are off, several refusals at once. What is due is known beforehand, from a
-//! reading of documents 01 and 02 and the original that is independent of the port (`table`, `after`,
-//! `next`, `filter`, `slope`), and every lent range is guarded (`lent`).
+//! reading of documents 01 and 02 and the original that is independent of the port (`table`, `places`,
+//! `after`, `next`, `filter`, `slope`), and every lent range is guarded (`lent`).
 
 mod after;
 #[cfg(not(test))]
 mod archive;
+mod bounds;
 mod cases;
 mod checks;
 mod choose;
 mod dice;
+mod edges;
 mod events;
 #[cfg(test)]
 mod fakes;
 mod filter;
+mod flaws;
 mod foreign;
 mod kinds;
 mod lent;
 mod limits;
 mod lists;
+mod meets;
+#[cfg(test)]
+mod misnames;
 #[cfg(test)]
 mod misplaces;
 #[cfg(test)]
@@ -29,6 +35,7 @@ mod model;
 mod next;
 mod numbers;
 mod pages;
+mod places;
 mod reckon;
 mod sends;
 mod slope;
@@ -58,6 +65,6 @@ fn main() {
     cases::sweep(&mut trial);
     cases::random(&mut trial, calls);
     print!("{}", trial.tally.report());
-    let failed = trial.tally.wrongs() > 0 || !trial.tally.fewer_than(1).is_empty();
+    let failed = trial.tally.wrongs() > 0 || !trial.tally.missing().is_empty();
     std::process::exit(failed as i32);
 }

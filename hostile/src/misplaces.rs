@@ -1,6 +1,8 @@
 //! Ports that are wrong about an event's acked numbers, in one way each: about their order, about their
 //! place in lists, or about the refusal of a place outside them. The checks must notice all.
 
+use std::ptr;
+
 use guovssalu_sys::table::call as calls;
 
 use crate::events::SWEEPS;
@@ -27,6 +29,9 @@ use crate::words::Call;
 use crate::words::State;
 
 const MAX: u64 = u64::MAX;
+
+/// 2.8 at place 1: what numbers outside the lists are named.
+const OUTSIDE: u64 = 2 + 256 * 8 + 65_536;
 
 /// Whether it is an event.
 pub fn is_event(call: &Call) -> bool {
@@ -314,7 +319,7 @@ answers_outside!(outside_is_out_of_bounds, |_before, _call, answer| {
     answer[a::REPLY] = 1;
 });
 answers_outside!(outside_is_asked_first, |_before, _call, answer| {
-    answer[a::REPLY] = 2;
+    answer[a::REPLY] = OUTSIDE;
 });
 answers_outside!(outside_is_asked_after<ROW>, |before, call, answer| {
     if otherwise(&before, call) == ROW as u64 {
@@ -322,7 +327,7 @@ answers_outside!(outside_is_asked_after<ROW>, |before, call, answer| {
     }
 });
 answers_outside!(outside_is_done, |_before, _call, answer| {
-    if answer[a::REPLY] == 2 {
+    if answer[a::REPLY] == OUTSIDE {
         answer[a::REPLY] = 0;
     }
 });
@@ -337,7 +342,7 @@ answers_outside!(outside_has_a_record_without_end, |_before, call, answer| {
 });
 makes!(outside_moves_on, |state, call, lists| {
     let answer = step_with(state, call, lists);
-    if is_outside(call, lists) && answer[a::REPLY] == 2 {
+    if is_outside(call, lists) && answer[a::REPLY] == OUTSIDE {
         state[s::LAST_MOMENT] = call[c::EVENT_TIME];
     }
     answer
@@ -370,7 +375,7 @@ macro_rules! runs_outside {
 
 runs_outside!(outside_refuses_the_run, |_reply, _place, answers, kept| {
     answers.copy_from_slice(&kept);
-    2
+    OUTSIDE
 });
 runs_outside!(outside_ends_the_run, |reply, place, answers, kept| {
     let made = (place + 1) * words::ANSWER_BYTES;
@@ -383,7 +388,7 @@ macro_rules! refused_where {
     ($name:ident, |$calls:ident, $lists:ident| $refused:expr) => {
         exported_lists!($name, |state, $calls, $lists, answers| {
             if $refused {
-                return 2;
+                return OUTSIDE;
             }
             let lists = lent_words($lists);
             let one = |state: &mut State, call: &Call| step_with(state, call, lists);
@@ -398,7 +403,7 @@ refused_where!(odd_pointers_refuse_the_run, |calls, lists| {
     lists.0 as usize % 8 != 0
 });
 refused_where!(calls_as_lists_refuse_the_run, |calls, lists| {
-    lists.1 > 0 && lists.0 as usize == calls.0 as usize
+    lists.1 > 0 && ptr::eq(lists.0 as *const u8, calls.0)
 });
 
 #[test]

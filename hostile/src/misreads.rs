@@ -30,6 +30,9 @@ const RECORD: Range<usize> = c::RECORD..c::PARAMS;
 const PARAMS: Range<usize> = c::PARAMS..CALL_WORDS;
 const PARTS: [Range<usize>; 3] = [ARGUMENTS, RECORD, PARAMS];
 
+/// 2.8 at no place: what a number that is no call's is named.
+const NO_CALL: u64 = 2 + 256 * 8;
+
 /// The exported run that a function on slices makes.
 macro_rules! exported {
     ($name:ident $(<$kind:ident>)?, |$state:ident, $calls:ident, $answers:ident| $run:expr) => {
@@ -174,14 +177,15 @@ makes!(parameters_are_arguments, |state, call| {
     let otherwise = table::call_rows(state, &mended, &[]).due();
     let mut answer = step(state, call);
     if answer[a::REPLY] == 1 && otherwise != 1 {
-        answer[a::REPLY] = 2;
+        answer[a::REPLY] = NO_CALL;
     }
     answer
 });
 makes!(arguments_before_what_is_stored, |state, call| {
+    let rows = table::call_rows(state, call, &[]);
     let mut answer = step(state, call);
     if answer[a::REPLY] == 1 && (is_malformed(call, &ARGUMENTS) || is_malformed(call, &RECORD)) {
-        answer[a::REPLY] = 2;
+        answer[a::REPLY] = rows.bad_argument();
     }
     answer
 });
@@ -196,7 +200,7 @@ makes!(no_call_whatever_is_stored, |state, call| {
     if table::is_a_call(call[c::NUMBER]) {
         step(state, call)
     } else {
-        plain(2)
+        plain(NO_CALL)
     }
 });
 makes!(no_call_looks_at_the_cycle, |state, call| {
@@ -219,7 +223,7 @@ exported!(no_call_refuses_the_run, |state, calls, answers| {
         .map(|call| words::words::<1>(call)[0]);
     let due = table::run_rows(state, calls, answers.len()).due();
     if matches!(due, 0 | 7) && numbers.any(|number| !table::is_a_call(number)) {
-        return 2;
+        return NO_CALL;
     }
     run_by(step, state, calls, answers)
 });
@@ -257,9 +261,9 @@ exported!(stops_at_no_call, |state, calls, answers| {
     let mut each = calls.chunks_exact(words::CALL_BYTES);
     let end = each.position(|call| !table::is_a_call(words::words::<1>(call)[0]));
     let made = end.map_or(calls.len(), |end| (end + 1) * words::CALL_BYTES);
-    match table::run_rows(state, calls, answers.len()).due() {
+    match table::run_rows(state, calls, answers.len()).reply() {
         0 => run_by(step, state, &calls[..made], answers),
-        due => due,
+        reply => reply,
     }
 });
 makes!(refused_record_written_again, |state, call| {

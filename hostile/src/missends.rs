@@ -10,6 +10,7 @@ use crate::after;
 use crate::choose;
 use crate::dice::Dice;
 use crate::events::own;
+use crate::events::Sweep;
 use crate::fakes::assert_lists_noticed;
 use crate::fakes::assert_noticed;
 use crate::fakes::assert_noticed_swept;
@@ -65,14 +66,23 @@ macro_rules! makes {
         });
     };
 }
+pub(crate) use makes;
 
-/// Fails for two runs, without lists and with them, if a fault of one is not noticed.
-fn assert_both_noticed(fault: Fault, runs: &[(&str, Run, RunLists)]) {
+/// Two runs that are wrong in the same way, without lists and with them, and the name of that.
+pub type Both = (&'static str, Run, RunLists);
+
+/// Fails for two runs if a fault of one is not noticed by chance, or when these cases are swept.
+pub fn assert_both_noticed_in(fault: Fault, sweeps: &[Sweep], runs: &[Both]) {
     for &(name, run, run_lists) in runs {
         assert_noticed(fault, &[(name, run)]);
-        assert_noticed_swept(fault, &SWEEPS, &[(name, run)]);
-        assert_lists_noticed(fault, &SWEEPS, &[(name, run_lists)]);
+        assert_noticed_swept(fault, sweeps, &[(name, run)]);
+        assert_lists_noticed(fault, sweeps, &[(name, run_lists)]);
     }
+}
+
+/// The same with the cases of acked numbers beside the last sent one.
+fn assert_both_noticed(fault: Fault, runs: &[Both]) {
+    assert_both_noticed_in(fault, &SWEEPS, runs);
 }
 
 /// What a wrong port takes for an event that acks what was never sent.
@@ -207,10 +217,9 @@ fn other_numbers_never_sent_are_noticed() {
 
 /// The right call with another number for its reply.
 macro_rules! replies {
-    ($run:ident, $run_lists:ident $(<$kind:ident>)?, |$rows:ident, $due:ident| $reply:expr) => {
+    ($run:ident, $run_lists:ident $(<$kind:ident>)?, |$rows:ident| $reply:expr) => {
         makes!($run, $run_lists $(<$kind>)?, |state, call, lists| {
             let $rows = table::call_rows(state, call, lists);
-            let $due = $rows.due();
             let mut answer = step_with(state, call, lists);
             answer[a::REPLY] = $reply;
             answer
@@ -218,25 +227,25 @@ macro_rules! replies {
     };
 }
 
-replies!(asked_before, asked_before_lists<ROW>, |rows, due| {
-    if rows.holds(NEVER_SENT) && due == ROW as u64 {
+replies!(asked_before, asked_before_lists<ROW>, |rows| {
+    if rows.holds(NEVER_SENT) && rows.due() == ROW as u64 {
         NEVER_SENT
     } else {
-        due
+        rows.reply()
     }
 });
-replies!(asked_after_five, asked_after_five_lists, |rows, due| {
-    if due == NEVER_SENT && rows.holds(5) {
+replies!(asked_after_five, asked_after_five_lists, |rows| {
+    if rows.due() == NEVER_SENT && rows.holds(5) {
         5
     } else {
-        due
+        rows.reply()
     }
 });
-replies!(given_as, given_as_lists<NUMBER>, |_rows, due| {
-    if due == NEVER_SENT {
+replies!(given_as, given_as_lists<NUMBER>, |rows| {
+    if rows.due() == NEVER_SENT {
         NUMBER as u64
     } else {
-        due
+        rows.reply()
     }
 });
 
@@ -563,7 +572,8 @@ fn other_runs_are_noticed() {
 /// number after it.
 type Worked = (u64, u64, &'static [u64], u64, u64, u64);
 
-/// A run worked by hand, from a state of zeros. A start or a send of the number 99 is refused.
+/// A run worked by hand, from a state of zeros. A start of the number 99 is refused for its round trip,
+/// with 2.4 at 1, and a send for its bytes in flight, with 2.2 at 2.
 const WORKED: [Worked; 27] = {
     const START: u64 = calls::START;
     const SEND: u64 = calls::ON_PACKET_SENT;
@@ -574,7 +584,7 @@ const WORKED: [Worked; 27] = {
         (EVENT, 0, &[0], 10, 0, 0),
         (EVENT, 0, &[], 0, 0, 0),
         (RESTART, 0, &[], 0, 0, 0),
-        (SEND, 99, &[], 2, 0, 0),
+        (SEND, 99, &[], 0x2_0202, 0, 0),
         (EVENT, 0, &[0], 10, 0, 0),
         (SEND, 0, &[], 0, 1, 0),
         (EVENT, 0, &[1], 10, 1, 0),
@@ -586,9 +596,9 @@ const WORKED: [Worked; 27] = {
         (SEND, 3, &[], 0, 1, 3),
         (EVENT, 0, &[5], 10, 1, 3),
         (EVENT, 0, &[3], 0, 1, 3),
-        (SEND, 99, &[], 2, 1, 3),
+        (SEND, 99, &[], 0x2_0202, 1, 3),
         (EVENT, 0, &[4], 10, 1, 3),
-        (START, 99, &[], 2, 0, 0),
+        (START, 99, &[], 0x1_0402, 0, 0),
         (EVENT, 0, &[0], 10, 0, 0),
         (SEND, u64::MAX, &[], 0, 1, u64::MAX),
         (EVENT, 0, &[u64::MAX, 7], 0, 1, u64::MAX),

@@ -15,6 +15,8 @@ use crate::kinds;
 use crate::lent::Ground;
 use crate::limits;
 use crate::lists;
+use crate::places::Callee;
+use crate::places::Given;
 use crate::table;
 use crate::table::Rows;
 use crate::table::NEVER_SENT;
@@ -313,14 +315,15 @@ impl Model {
 
     /// Makes a run and checks it; of an accepted run of several calls, also each of them alone.
     pub fn run(&mut self, trial: &mut Trial, lent: &Lent) {
-        let due = lent.rows().due();
+        let rows = lent.rows();
+        let due = rows.due();
         let alone = lent.calls.len() == CALL_BYTES;
         let parts = if due == 0 && !alone {
             Some(self.one_by_one(trial, lent))
         } else {
             None
         };
-        let given = self.make(trial, lent);
+        let given = self.make(trial, lent, &rows);
         if let Some(what) = self.touched(lent, due) {
             trial.tally.wrong(Fault::Touched, || {
                 format!("{} after run reply {}\n{}", what, given, tell(lent))
@@ -342,8 +345,9 @@ impl Model {
         }
     }
 
-    /// Lends, makes the run, and checks its reply, the guards and the input. Answers the reply.
-    fn make(&mut self, trial: &mut Trial, lent: &Lent) -> u64 {
+    /// Lends, makes the run, and checks its reply by these rows, the guards and the input. Answers the
+    /// reply.
+    fn make(&mut self, trial: &mut Trial, lent: &Lent, rows: &Rows) -> u64 {
         self.state.lend(&lent.state, &mut trial.dice);
         self.calls.lend(&lent.calls, &mut trial.dice);
         self.answers.lend(&lent.answers, &mut trial.dice);
@@ -367,12 +371,14 @@ impl Model {
                 trial.port.run_lists(state, calls, lists, answers)
             }
         };
-        let rows = lent.rows();
         let [export, _] = lent.exports();
         let (tally, tell) = (&mut trial.tally, || tell(lent));
-        tally.replied(export, &rows, given, tell);
+        tally.replied(export, rows, given, tell);
+        let lengths = [lent.state.len() as u64, lent.calls.len() as u64];
+        let numbers = Given::numbers(&lengths);
+        tally.asked(Callee::Run, lent.lists.is_some(), &numbers, rows);
         if rows.due() != 0 && lent.acks_unsent() {
-            tally.never_asked(&rows);
+            tally.never_asked(rows);
         }
         checks::guards(tally, &mut self.state, "state", tell);
         checks::guards(tally, &mut self.calls, "calls", tell);
@@ -414,7 +420,7 @@ impl Model {
                 answers: trial.dice.bytes(ANSWER_BYTES),
                 spoilt: Spoilt::default(),
             };
-            if self.make(trial, &one) == 0 {
+            if self.make(trial, &one, &one.rows()) == 0 {
                 self.check(&mut trial.tally, &one);
             }
             state = self.state.bytes().to_vec();
@@ -434,9 +440,16 @@ impl Model {
         );
         let [_, export] = lent.exports();
         tally.replied(export, &rows, answer[a::REPLY], || tell(lent));
+        let given = Given {
+            state: &before,
+            words: &call,
+            lists,
+        };
+        let callee = Callee::Call(call[c::NUMBER]);
+        tally.asked(callee, lent.lists.is_some(), &given, &rows);
         let unknown = !table::is_a_call(call[c::NUMBER]);
         tally.worded(kinds::is_malformed(&call, lists), unknown);
-        let due = rows.due();
+        let due = rows.reply();
         if is_event(call[c::NUMBER]) {
             count_acked(tally, &before, &call, lent, &rows);
         }
@@ -503,7 +516,7 @@ fn chosen_call(
         _ => choose::number(dice),
     };
     let mut call = choose::good_call(dice, state, number);
-    if let (Some(lists), true) = (lists, is_event(number)) {
+    if let (Some(lists), true) = (&mut *lists, is_event(number)) {
         choose_place(dice, state, &mut call, lists);
         if dice.one_in(2) {
             return call;
@@ -517,6 +530,9 @@ fn chosen_call(
     }
     if dice.one_in(4) {
         choose::malform_call(dice, &mut call, spoilt);
+    }
+    if dice.one_in(8) {
+        choose::flaw_call(dice, state, &mut call, lists, spoilt);
     }
     if dice.one_in(16) {
         choose::no_call(dice, &mut call);

@@ -6,6 +6,7 @@ use guovssalu_sys::table::argument::start;
 use guovssalu_sys::table::call as calls;
 use guovssalu_sys::table::WORD_BYTES;
 
+use crate::bounds;
 use crate::choose;
 use crate::choose::Beside;
 use crate::dice::Dice;
@@ -24,7 +25,6 @@ use crate::lists::FEWEST;
 use crate::model::Lent;
 use crate::model::Model;
 use crate::model::Range;
-use crate::table;
 use crate::trial::Trial;
 use crate::words::state as s;
 use crate::words::Call;
@@ -143,13 +143,13 @@ impl Step {
             Step::Start => start_now(dice, state),
             Step::RefusedStart => {
                 let mut call = start_now(dice, state);
-                call[start::INITIAL_RTT] = table::LENGTH + 1;
+                call[start::INITIAL_RTT] = bounds::LENGTH + 1;
                 call
             }
             Step::Send(number) => choose::send_now(dice, state, number),
             Step::LargeSend(number) => {
                 let mut call = choose::send_now(dice, state, number);
-                call[sent::BYTES] = table::BYTES + 1;
+                call[sent::BYTES] = bounds::BYTES + 1;
                 call
             }
             Step::EarlierSend(number) => {

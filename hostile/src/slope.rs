@@ -2,10 +2,12 @@
 
 use guovssalu_sys::table::SLOPE_BYTES;
 
+use crate::bounds;
 use crate::checks;
 use crate::choose;
 use crate::lent::Ground;
-use crate::table;
+use crate::places::Callee;
+use crate::places::Given;
 use crate::table::Rows;
 use crate::tally::Export;
 use crate::tally::Tally;
@@ -19,8 +21,8 @@ const LONGEST: usize = 256;
 /// argument outside its bounds; "the lent output is shorter than the answer".
 pub fn rows(rounds: u64, window: u64, out_len: usize) -> Rows {
     Rows::default()
-        .with(1, rounds > table::ROUNDS)
-        .with(2, window > table::BYTES)
+        .with(1, rounds > bounds::ROUNDS)
+        .with_flaws(Callee::Slope, &Given::numbers(&[window]))
         .with(7, out_len < SLOPE_BYTES)
 }
 
@@ -50,9 +52,9 @@ impl Slope {
             values::hostile(&mut trial.dice, 30)
         };
         let window = if trial.dice.one_in(2) {
-            values::within(&mut trial.dice, table::BYTES)
+            values::within(&mut trial.dice, bounds::BYTES)
         } else {
-            values::hostile(&mut trial.dice, table::BYTES)
+            values::hostile(&mut trial.dice, bounds::BYTES)
         };
         let length = choose::length(&mut trial.dice, SLOPE_BYTES, LONGEST);
         self.call(trial, rounds, window, length);
@@ -67,8 +69,9 @@ impl Slope {
         }
         for rounds in 0..=40 {
             for length in 0..=40 {
-                let window = values::within(&mut trial.dice, table::BYTES);
+                let window = values::within(&mut trial.dice, bounds::BYTES);
                 self.call(trial, rounds, window, length);
+                self.call(trial, rounds, bounds::BYTES + 1, length);
             }
         }
     }
@@ -92,6 +95,7 @@ impl Slope {
         };
         let rows = rows(rounds, window, out.len());
         tally.replied(Export::Slope, &rows, given, tell);
+        tally.asked(Callee::Slope, false, &Given::numbers(&[window]), &rows);
         let written = (rows.due() == 0).then(|| written(rounds, window));
         checks::output(tally, &self.out, out, written, tell);
         checks::guards(tally, &mut self.out, "output", tell);

@@ -1,6 +1,7 @@
 //! Which number is due: document 01's section "Replies and bounds", read sentence by sentence, of
 //! document 02 "Acks for packets never sent", and for the runs and the form of words docs/LAYOUT.md.
 //! Where the documents leave a choice, the reading is that of docs/DECISIONS.md, named at its place.
+//! What is wrong with an argument, and what row 2 names, is read in `places`.
 //!
 //! A malformed word counts as one out of bounds: a flag that is neither 0 nor 1, an f32 with bits
 //! above the 32nd, a pair that is neither 1 and a number nor 0 and 0. In an argument or in the event's
@@ -10,6 +11,18 @@
 use guovssalu_sys::table::argument as arg;
 use guovssalu_sys::table::call as calls;
 
+use crate::bounds::BANDWIDTH;
+use crate::bounds::BYTES;
+use crate::bounds::LENGTH;
+use crate::bounds::MOMENT;
+use crate::bounds::ROUNDS;
+use crate::bounds::TOTAL;
+use crate::bounds::WAIT;
+use crate::places;
+use crate::places::is_a_gain;
+use crate::places::Callee;
+use crate::places::Given;
+use crate::places::Named;
 use crate::reckon;
 use crate::words;
 use crate::words::acked;
@@ -25,19 +38,6 @@ use crate::words::Call;
 use crate::words::State;
 use crate::words::UNSET;
 
-// "Bounds, inclusive: byte counts 2^40"
-pub const BYTES: u64 = 1 << 40;
-// "totals, an event's bytes acked and lost, bytes lost and delivered in the round, and moments
-// 2^62"
-pub const TOTAL: u64 = 1 << 62;
-pub const MOMENT: u64 = 1 << 62;
-// "lengths of time 2^36 ns (the stored probe wait 500,000 ns more)"
-pub const LENGTH: u64 = 1 << 36;
-pub const WAIT: u64 = LENGTH + 500_000;
-// "bandwidth 2^40 bits per second; probe_up_rounds 30"
-pub const BANDWIDTH: u64 = 1 << 40;
-pub const ROUNDS: u64 = 30;
-
 /// The numbers of the rows, in the order in which they are asked: rising, but for "10, asked after 4
 /// and before 5".
 pub const ORDER: [u64; 8] = [1, 2, 3, 4, NEVER_SENT, 5, 6, 7];
@@ -45,20 +45,43 @@ pub const ORDER: [u64; 8] = [1, 2, 3, 4, NEVER_SENT, 5, 6, 7];
 /// Document 02's row: a number is acked that was never sent.
 pub const NEVER_SENT: u64 = 10;
 
-/// The rows of the table that hold for a case, by their numbers.
+/// The rows of the table that hold for a case, by their numbers; for row 2 also which flaws of the
+/// callee are found, a bit for each in their order, and what the first of them is named.
 #[derive(Clone, Copy, Default, Debug, PartialEq)]
-pub struct Rows([bool; 11]);
+pub struct Rows {
+    holds: [bool; 11],
+    flaws: u64,
+    named: Option<Named>,
+}
 
 impl Rows {
     /// The same rows, and this one if it holds.
     pub fn with(mut self, row: u64, holds: bool) -> Self {
-        self.0[row as usize] |= holds;
+        self.holds[row as usize] |= holds;
         self
+    }
+
+    /// The same rows, and row 2 if there is a flaw in what a callee is given.
+    pub fn with_flaws(mut self, callee: Callee, given: &Given) -> Self {
+        let mut bit = 1;
+        places::each_flaw(callee, |flaw| {
+            if flaw.holds(given) {
+                self.flaws |= bit;
+                self.named = self.named.or(Some(flaw.named));
+            }
+            bit <<= 1;
+        });
+        self.with(2, self.flaws != 0)
     }
 
     /// Whether a row holds.
     pub fn holds(&self, row: u64) -> bool {
-        self.0[row as usize]
+        self.holds[row as usize]
+    }
+
+    /// The flaws that are found.
+    pub fn flaws(&self) -> u64 {
+        self.flaws
     }
 
     /// The numbers of the rows that hold, the one that is asked first before the others.
@@ -66,10 +89,23 @@ impl Rows {
         ORDER.into_iter().filter(|&row| self.holds(row))
     }
 
-    /// "If several refusals apply, the lowest number is given", 10 counting as between 4 and 5; 0 is
-    /// done.
+    /// The row of the reply: "If several refusals apply, the lowest number is given", 10 counting as
+    /// between 4 and 5; 0 is done.
     pub fn due(&self) -> u64 {
         self.numbers().next().unwrap_or(0)
+    }
+
+    /// The reply: the row that is due, and what it names if that is row 2.
+    pub fn reply(&self) -> u64 {
+        match self.due() {
+            2 => self.bad_argument(),
+            row => row,
+        }
+    }
+
+    /// The reply of row 2, whatever else holds.
+    pub fn bad_argument(&self) -> u64 {
+        self.named.map_or(2, Named::reply)
     }
 
     /// Whether two or more refusals apply.
@@ -85,14 +121,16 @@ pub fn call_rows(state: &State, call: &Call, lists: &[u64]) -> Rows {
     let number = call[c::NUMBER];
     let stored =
         (gets_model(number) && !model_ok(state)) || (gets_cycle(number) && !cycle_ok(state));
-    let given = is_a_call(number)
-        && arguments_ok(call, lists)
-        && (!gets_record(number) || record_ok(&call[c::RECORD..]));
+    let given = Given {
+        state,
+        words: call,
+        lists,
+    };
     Rows::default()
         // "1: a stored number or a parameter is outside the bounds below"
         .with(1, stored || (takes_params(number) && !params_ok(call)))
         // "2: an argument is outside its bounds .. or a postponed moment would exceed 2^62"
-        .with(2, !given || postponed_too_far(state, call))
+        .with_flaws(Callee::Call(number), &given)
         // "3: the moment given is earlier than the last accepted one"
         .with(
             3,
@@ -117,9 +155,36 @@ pub fn run_rows(state: &[u8], calls: &[u8], answers: usize) -> Rows {
         // "1: the state's 408 bytes encode no state"
         .with(1, whole && !encodes(&words::words(state)))
         // "2: the state has another length, or the calls are no whole number of 392 bytes"
-        .with(2, !whole || calls.len() % words::CALL_BYTES != 0)
+        .with_flaws(
+            Callee::Run,
+            &Given::numbers(&[state.len() as u64, calls.len() as u64]),
+        )
         // "7: the answers have under 144 bytes a call"
         .with(7, answers < count * words::ANSWER_BYTES)
+}
+
+/// The rows but 2 that can hold of a callee.
+pub fn rows_of(callee: Callee) -> Vec<u64> {
+    let number = match callee {
+        Callee::Call(number) => number,
+        Callee::Run | Callee::Slope => return vec![1, 7],
+        Callee::FilterRun => return vec![3, 7],
+    };
+    let is_event = number == calls::ON_CONGESTION_EVENT_START;
+    let counts = matches!(
+        number,
+        calls::ON_CONGESTION_EVENT_START
+            | calls::HAS_BANDWIDTH_GROWTH
+            | calls::CHECK_PERSISTENT_QUEUE
+    );
+    let can_hold = |&row: &u64| match row {
+        1 => true,
+        3 => moment_word(number).is_some(),
+        4 | NEVER_SENT => is_event,
+        5 => counts,
+        _ => false,
+    };
+    ORDER.into_iter().filter(can_hold).collect()
 }
 
 /// "The numbers 2, 39 and those above 45 are no call's." By hand: the table of calls is held to it below.
@@ -233,11 +298,6 @@ fn bytes_or_unset(number: u64) -> bool {
     number <= BYTES || number == UNSET
 }
 
-/// A flag: there is nothing to test but that it is one.
-fn flag_ok(word: u64) -> bool {
-    flag(word).is_some()
-}
-
 /// A number that may be unset: there is only something to test where it is set.
 fn optional_ok(words: &[u64], index: usize, bound: u64) -> bool {
     match pair(words, index) {
@@ -255,7 +315,7 @@ fn between(word: u64, low: f32, high: f32) -> bool {
 
 /// "gains 1/1024 to 8"
 fn gain_ok(word: u64) -> bool {
-    between(word, 1.0 / 1024.0, 8.0)
+    float(word).map_or(false, is_a_gain)
 }
 
 /// The stored model. "Counters and packet numbers are free."
@@ -314,89 +374,7 @@ fn params_ok(call: &Call) -> bool {
         && gain_ok(call[c::STARTUP_PACING_GAIN])
         && call[c::PROBE_RTT_PERIOD] <= LENGTH
         && call[c::PROBE_BASE_DURATION] <= LENGTH
-        && flag_ok(call[c::IGNORE_APP_LIMITED])
-}
-
-/// The arguments of each call: every number handed in is tested, whether the call reads it or not
-/// (decision 17). "The same holds for a gain given as an argument, with refusal 2."
-fn arguments_ok(call: &Call, lists: &[u64]) -> bool {
-    match call[c::NUMBER] {
-        calls::START => call[arg::start::NOW] <= MOMENT && call[arg::start::INITIAL_RTT] <= LENGTH,
-        calls::ON_PACKET_SENT => {
-            call[arg::on_packet_sent::SENT_TIME] <= MOMENT
-                && call[arg::on_packet_sent::BYTES_IN_FLIGHT] <= BYTES
-                && call[arg::on_packet_sent::BYTES] <= BYTES
-        }
-        calls::ON_CONGESTION_EVENT_START => sample_ok(call) && acked(call, lists).is_some(),
-        calls::CHECK_PERSISTENT_QUEUE => gain_ok(call[arg::check_persistent_queue::TARGET_GAIN]),
-        calls::SET_PACING_GAIN => gain_ok(call[arg::set_pacing_gain::PACING_GAIN]),
-        calls::SET_CWND_GAIN => gain_ok(call[arg::set_cwnd_gain::CWND_GAIN]),
-        calls::BDP => call[arg::bdp::BANDWIDTH] <= BANDWIDTH && gain_ok(call[arg::bdp::GAIN]),
-        calls::BDP1 => call[arg::bdp1::BANDWIDTH] <= BANDWIDTH,
-        calls::SET_INFLIGHT_HI => bytes_or_unset(call[arg::set_inflight_hi::NEW_INFLIGHT_HI]),
-        calls::CAP_INFLIGHT_LO => bytes_or_unset(call[arg::cap_inflight_lo::CAP]),
-        calls::POSTPONE_MIN_RTT_TIMESTAMP => {
-            call[arg::postpone_min_rtt_timestamp::DURATION] <= LENGTH
-        }
-        calls::ENTER_PROBE_DOWN => {
-            flag_ok(call[arg::enter_probe_down::PROBED_TOO_HIGH])
-                && flag_ok(call[arg::enter_probe_down::STOPPED_RISKY_PROBE])
-                && call[arg::enter_probe_down::NOW] <= MOMENT
-        }
-        calls::ENTER_PROBE_CRUISE => call[arg::enter_probe_cruise::NOW] <= MOMENT,
-        calls::ENTER_PROBE_REFILL => {
-            call[arg::enter_probe_refill::PROBE_UP_ROUNDS] <= ROUNDS
-                && call[arg::enter_probe_refill::NOW] <= MOMENT
-        }
-        calls::ENTER_PROBE_UP => {
-            call[arg::enter_probe_up::NOW] <= MOMENT && call[arg::enter_probe_up::CWND] <= BYTES
-        }
-        calls::RAISE_INFLIGHT_HIGH_SLOPE => call[arg::raise_inflight_high_slope::CWND] <= BYTES,
-        _ => true,
-    }
-}
-
-/// What the sampler says: its largest inflight and extra acked are byte counts (decision 24).
-fn sample_ok(call: &Call) -> bool {
-    optional_ok(call, c::SAMPLE_BANDWIDTH, BANDWIDTH)
-        && optional_ok(call, c::SAMPLE_SEND_RATE, BANDWIDTH)
-        && optional_ok(call, c::SAMPLE_ACK_RATE, BANDWIDTH)
-        && flag_ok(call[c::SAMPLE_IS_APP_LIMITED])
-        && optional_ok(call, c::SAMPLE_RTT, LENGTH)
-        && call[c::SAMPLE_MAX_INFLIGHT] <= BYTES
-        && call[c::EXTRA_ACKED] <= BYTES
-        && flag_ok(call[c::SENT_IS_VALID])
-        && flag_ok(call[c::SENT_IS_APP_LIMITED])
-        && call[c::SENT_TOTAL_ACKED] <= TOTAL
-        && call[c::SENT_IN_FLIGHT] <= BYTES
-        && call[c::TOTAL_ACKED] <= TOTAL
-        && call[c::TOTAL_LOST] <= TOTAL
-}
-
-/// The words of an event's record, from the first: "an event's bytes acked and lost .. 2^62".
-pub fn record_ok(record: &[u64]) -> bool {
-    let at = |index: usize| record[index - c::RECORD];
-    at(c::EVENT_TIME) <= MOMENT
-        && at(c::PRIOR_CWND) <= BYTES
-        && at(c::PRIOR_IN_FLIGHT) <= BYTES
-        && at(c::IN_FLIGHT) <= BYTES
-        && at(c::BYTES_ACKED) <= TOTAL
-        && at(c::BYTES_LOST) <= TOTAL
-        && flag_ok(at(c::END_OF_ROUND_TRIP))
-        && flag_ok(at(c::IS_PROBING))
-        && optional_ok(record, c::RECORD_BANDWIDTH - c::RECORD, BANDWIDTH)
-        && optional_ok(record, c::RECORD_RTT - c::RECORD, LENGTH)
-        && flag_ok(at(c::LAST_IS_VALID))
-        && flag_ok(at(c::LAST_IS_APP_LIMITED))
-        && at(c::LAST_TOTAL_ACKED) <= TOTAL
-        && at(c::LAST_IN_FLIGHT) <= BYTES
-}
-
-/// "a postponed moment would exceed 2^62"
-fn postponed_too_far(state: &State, call: &Call) -> bool {
-    let later = |length: u64| state[s::MIN_RTT_TIMESTAMP].saturating_add(length);
-    call[c::NUMBER] == calls::POSTPONE_MIN_RTT_TIMESTAMP
-        && later(call[arg::postpone_min_rtt_timestamp::DURATION]) > MOMENT
+        && flag(call[c::IGNORE_APP_LIMITED]).is_some()
 }
 
 /// "the total acked or the total lost is lower than the one stored"
@@ -655,8 +633,8 @@ mod tests {
             call[c::ACKED_COUNT] = count;
             call[c::ACKED] = start;
             let lists = vec![0; length];
-            let told = (length, start, count);
-            assert_eq!(arguments_ok(&call, &lists), inside, "{:?}", told);
+            let refused = call_rows(&[0; STATE_WORDS], &call, &lists).holds(2);
+            assert_eq!(refused, !inside, "{:?}", (length, start, count));
         }
     }
 }

@@ -8,6 +8,9 @@ use guovssalu_sys::table::reason;
 use crate::limits;
 use crate::limits::Greatest;
 use crate::limits::WAYS;
+use crate::meets::Meets;
+use crate::places::Callee;
+use crate::places::Given;
 use crate::table::Rows;
 use crate::table::ORDER;
 
@@ -88,12 +91,29 @@ const OF_RUN: [u64; 3] = [1, 2, 7];
 /// How many replies are counted apart: done, each row, and any other.
 const REPLIES: usize = ORDER.len() + 2;
 
-/// The place of a reply among them.
+/// The place of a reply among them, by its row.
 fn place(reply: u64) -> usize {
-    match ORDER.iter().position(|&row| row == reply) {
+    let [row, kind, place] = parts(reply);
+    match ORDER.iter().position(|&asked| asked == row) {
+        _ if reply >> 24 > 0 || (row != 2 && kind + place > 0) => REPLIES - 1,
         Some(row) => row + 1,
-        None if reply == 0 => 0,
+        None if row == 0 => 0,
         None => REPLIES - 1,
+    }
+}
+
+/// The row of a reply, the kind and the place.
+fn parts(reply: u64) -> [u64; 3] {
+    [0, 8, 16].map(|shift| reply >> shift & 255)
+}
+
+/// A reply in readable form.
+fn tell(reply: u64) -> String {
+    let [row, kind, place] = parts(reply);
+    if reply < 256 {
+        reply.to_string()
+    } else {
+        format!("{} ({}.{} at {})", reply, row, kind, place)
     }
 }
 
@@ -119,6 +139,7 @@ pub struct Tally {
     beside: [[u64; BESIDE.len()]; 2],
     of_run: [u64; OF_RUN.len()],
     outside: u64,
+    meets: Meets,
     overlaps: u64,
     malformed: u64,
     no_calls: u64,
@@ -137,17 +158,24 @@ impl Tally {
         }
     }
 
-    /// Counts a call and its reply, and compares that with the row due.
+    /// Counts a call and its reply, and compares that with the one due.
     pub fn replied(&mut self, export: Export, rows: &Rows, given: u64, about: impl Fn() -> String) {
         self.answered(export);
         self.replies[export as usize][place(given)] += 1;
         self.overlaps += rows.overlap() as u64;
-        if given != rows.due() {
+        let due = rows.reply();
+        if given != due {
             let rows: Vec<u64> = rows.numbers().collect();
             self.wrong(Fault::Reply, || {
-                format!("rows {:?}, given {}\n{}", rows, given, about())
+                let (due, given) = (tell(due), tell(given));
+                format!("rows {:?}, due {}, given {}\n{}", rows, due, given, about())
             });
         }
+    }
+
+    /// Counts what a callee was given, with lists or without, by the rows that hold.
+    pub fn asked(&mut self, callee: Callee, with_lists: bool, given: &Given, rows: &Rows) {
+        self.meets.count(callee, with_lists, given, rows);
     }
 
     /// Counts a reason that was due in a filter run.
@@ -243,22 +271,31 @@ impl Tally {
     pub fn report(&self) -> String {
         let [reply, content, touched] = self.faults;
         let reasons = Counted::new("filter reasons due", reason::NAMES, &self.reasons);
-        let lines = [reasons].into_iter().chain(self.counted());
+        let named = Counted {
+            title: "refused with 2".to_string(),
+            counts: self.meets.named().collect(),
+        };
+        let lines = [reasons, named].into_iter().chain(self.counted());
         let lines = lines.map(|counted| counted.line());
+        let (ends, pairs) = self.meets.sizes();
         let told = self.told.iter().map(|told| format!("\n{}\n", told));
-        let fewer = self.fewer_than(1);
-        let missing = fewer.iter().map(|name| format!("not reached: {}\n", name));
-        let verdict = match fewer.len() {
+        let missing = self.missing();
+        let not_reached = missing
+            .iter()
+            .map(|name| format!("not reached: {}\n", name));
+        let verdict = match missing.len() {
             0 => String::new(),
             count => format!(", {} not reached", count),
         };
         format!(
-            "{}\n{}{} events with a place outside the lists\n{} calls with two or more refusals at \
-             once\n{} calls with a malformed word, {} with a number of no call\n{} lent ranges, {} \
-             guard bytes compared\n{} wrong replies, {} wrong answers or states, {} bytes \
-             touched\n{}{}{} calls, {} wrong{}\n",
+            "{}\n{}{} ends of bounds and {} pairs of refusals had to be met\n{} events with a place \
+             outside the lists\n{} calls with two or more refusals at once\n{} calls with a malformed \
+             word, {} with a number of no call\n{} lent ranges, {} guard bytes compared\n{} wrong \
+             replies, {} wrong answers or states, {} bytes touched\n{}{}{} calls, {} wrong{}\n",
             self.table(),
             lines.collect::<String>(),
+            ends,
+            pairs,
             self.outside,
             self.overlaps,
             self.malformed,
@@ -269,14 +306,21 @@ impl Tally {
             content,
             touched,
             told.collect::<String>(),
-            missing.collect::<String>(),
+            not_reached.collect::<String>(),
             self.made(),
             self.wrongs(),
             verdict
         )
     }
 
-    /// What has to be met, also where nothing is left to chance, and was met fewer times than this.
+    /// What has to be met in a run, and was not.
+    pub fn missing(&self) -> Vec<String> {
+        let mut missing = self.fewer_than(1);
+        missing.extend(self.meets.missing());
+        missing
+    }
+
+    /// What has to be met, by chance alone too, and was met fewer times than this.
     pub fn fewer_than(&self, times: u64) -> Vec<String> {
         let named = self.counted().into_iter().flat_map(Counted::named);
         let replies = Export::REPLYING.into_iter().flat_map(|export| {

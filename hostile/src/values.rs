@@ -76,7 +76,10 @@ const PATTERNS: [u32; 34] = [
     0x3e99_999a,
 ];
 
-/// All of these numbers and patterns.
+/// Words that no flag has.
+pub const NO_FLAGS: [u64; 9] = [2, 3, 255, 256, 257, 1 << 32, (1 << 32) + 1, 1 << 63, MAX];
+
+/// All numbers and patterns at which something turns.
 pub fn turns() -> impl Iterator<Item = u64> {
     let patterns = PATTERNS.iter().map(|&pattern| pattern as u64);
     TURNS.iter().copied().chain(patterns)

@@ -185,7 +185,7 @@ pub fn pair(words: &[u64], index: usize) -> Option<Option<u64>> {
 /// The numbers acked. Up to three stand in the call; more are words of the lists, from the one on that
 /// the call's first word for a number says. Where they are not all inside the lists there are none: a
 /// bad argument, as any count above three is without lists.
-pub fn acked<'a>(call: &'a Call, lists: &'a [u64]) -> Option<&'a [u64]> {
+pub fn acked<'a>(call: &'a [u64], lists: &'a [u64]) -> Option<&'a [u64]> {
     let (count, start) = (call[call::ACKED_COUNT], call[call::ACKED]);
     if count <= 3 {
         return Some(&call[call::ACKED..call::RECORD][..count as usize]);

@@ -1,4 +1,4 @@
-//! The archive's runs of calls, which are linked, on words.
+//! The archive's runs of calls, which are linked, on words and on bytes.
 
 use guovssalu_sys::table::ANSWER_WORDS;
 use guovssalu_sys::table::CALL_WORDS;
@@ -6,7 +6,7 @@ use guovssalu_sys::table::CALL_WORDS;
 use crate::frame;
 
 /// What the bytes of the answers are before a run.
-const UNTOUCHED: u64 = 0xa5a5_a5a5_a5a5_a5a5;
+pub const UNTOUCHED: u64 = 0xa5a5_a5a5_a5a5_a5a5;
 
 /// Carries out the calls of these words in this state, with lists or by the run
 /// that takes none; the words of the answers and of the state after them. The
@@ -19,10 +19,17 @@ pub fn run(
     let answers = vec![UNTOUCHED; calls.len() / CALL_WORDS * ANSWER_WORDS];
     let mut state = frame::bytes(state);
     let mut answers = frame::bytes(&answers);
-    let calls = frame::bytes(calls);
+    match run_bytes(&mut state, &frame::bytes(calls), lists, &mut answers) {
+        0 => Ok((frame::words(&answers), frame::words(&state))),
+        reply => Err(reply),
+    }
+}
+
+/// A run over these bytes, with lists or by the run that takes none; its reply.
+pub fn run_bytes(state: &mut [u8], calls: &[u8], lists: Option<&[u64]>, answers: &mut [u8]) -> u64 {
     let (state_at, answers_at) = (state.as_mut_ptr(), answers.as_mut_ptr());
-    // SAFETY: vectors and slices, none in another, each with its length.
-    let reply = unsafe {
+    // SAFETY: slices, none in another, each with its length.
+    unsafe {
         match lists {
             Some(lists) => guovssalu_sys::guovssalu_run_lists(
                 state_at,
@@ -43,9 +50,5 @@ pub fn run(
                 answers.len(),
             ),
         }
-    };
-    match reply {
-        0 => Ok((frame::words(&answers), frame::words(&state))),
-        reply => Err(reply),
     }
 }

@@ -198,16 +198,23 @@ fn compare(comparison: &mut Comparison, steps: Vec<Step>) -> Option<Difference> 
 fn conclude(comparison: Comparison, difference: Option<Difference>) -> bool {
     let calls = comparison.calls();
     eprintln!("{}", comparison.given.told());
-    let World { tally, unsent, .. } = &comparison.world;
+    let World {
+        tally,
+        unsent,
+        named,
+        ..
+    } = &comparison.world;
     if !tally.is_empty() {
         for (what, count) in tally.told() {
             eprintln!("{count} x {what}");
         }
     }
     unsent.tell("");
+    named.tell("");
     let Some(difference) = difference else {
         tally.hold();
         unsent.hold();
+        named.hold();
         println!("{calls} calls, 0 differences");
         return true;
     };
@@ -233,6 +240,7 @@ fn tell(difference: &Difference) {
             got,
         } => {
             let step = difference.run.last().unwrap();
+            let (expected, got) = (text::shown(*word, *expected), text::shown(*word, *got));
             let (name, word) = (text::name(step), text::word(step, *word));
             println!("{name}: {word}: expected {expected}, got {got}");
         }

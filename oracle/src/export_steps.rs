@@ -6,12 +6,12 @@ use guovssalu_sys::table::SAMPLES_BYTES;
 use guovssalu_sys::table::SLOPE_BYTES;
 use guovssalu_sys::table::WORD_BYTES;
 
+use crate::bounds::BYTES;
+use crate::bounds::UP_ROUNDS;
 use crate::filter_steps;
 use crate::filter_steps::Plan;
 use crate::frame::MEMORY;
 use crate::frame::MOST_PAIRS;
-use crate::replies::BYTES;
-use crate::replies::UP_ROUNDS;
 use crate::values::Random;
 use crate::windowed;
 use crate::world::Step;

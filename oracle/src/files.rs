@@ -17,6 +17,7 @@ use crate::frame::Answer;
 use crate::frame::Asked;
 use crate::frame::Frame;
 use crate::number_steps::NumberSteps;
+use crate::replies;
 use crate::world::Step;
 use crate::world::World;
 use crate::world::FILLER;
@@ -29,7 +30,7 @@ pub struct Files {
     requests: Vec<u8>,
     answers: Vec<u8>,
     /// How many calls of each number there are, and how many were given each
-    /// reply.
+    /// reply, with the kind and the place that it names.
     pub calls: BTreeMap<u64, u64>,
     pub replies: BTreeMap<u64, u64>,
 }
@@ -110,14 +111,16 @@ impl Files {
             eprintln!("frames: {count:4} x call {call}");
         }
         for (reply, count) in &self.replies {
-            eprintln!("frames: {count:4} x reply {reply}");
+            eprintln!("frames: {count:4} x reply {}", replies::shown(*reply));
         }
         for (what, count) in self.world.tally.told() {
             eprintln!("frames: {count:4} x {what}");
         }
         self.world.unsent.tell("frames: ");
+        self.world.named.tell("frames: ");
         self.world.tally.hold();
         self.world.unsent.hold();
+        self.world.named.hold();
         let (asked, answered) = (self.requests.len(), self.answers.len());
         eprintln!(
             "frames: {} calls, {asked} and {answered} bytes",

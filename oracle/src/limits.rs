@@ -1,8 +1,18 @@
 //! The limits: calls with a number at each limit of document 01, which
-//! are accepted, and outside it, which are refused.
+//! are accepted, and outside it, which are refused; what is refused with 2 names
+//! the number by document 02.
 
 use guovssalu_sys::table::UNSET;
 
+use crate::bounds::BANDWIDTH;
+use crate::bounds::BYTES;
+use crate::bounds::LEAST_GAIN;
+use crate::bounds::LENGTH;
+use crate::bounds::MOMENT;
+use crate::bounds::MOST_BETA;
+use crate::bounds::MOST_GAIN;
+use crate::bounds::TOTAL;
+use crate::bounds::UP_ROUNDS;
 use crate::files::Files;
 use crate::model::field::*;
 use crate::model::Call;
@@ -12,19 +22,17 @@ use crate::model::Sample;
 use crate::model::SendState;
 use crate::model::Start;
 use crate::recovery::gcongestion::Host;
-use crate::replies::BANDWIDTH;
-use crate::replies::BYTES;
-use crate::replies::LEAST_GAIN;
-use crate::replies::LENGTH;
-use crate::replies::MOMENT;
-use crate::replies::MOST_BETA;
-use crate::replies::MOST_GAIN;
-use crate::replies::TOTAL;
-use crate::replies::UP_ROUNDS;
+use crate::run::bad;
 use crate::run::Run;
 use crate::run::ACKED;
 use crate::run::LOST;
 use crate::run::NONE;
+
+/// A call on a number, after the place of the number.
+type Placed<T> = (u64, fn(T) -> Call);
+
+/// What sets a field of a record, after the limit and the kind of the field.
+type Bounded<T> = (u64, u64, fn(&mut T, u64));
 
 /// Adds the calls at the limits.
 pub fn add(files: &mut Files) {
@@ -47,7 +55,7 @@ pub fn add(files: &mut Files) {
 }
 
 /// A state with something in every part of it, at moment 1000.
-fn begin(run: &mut Run) {
+pub fn begin(run: &mut Run) {
     let usual = Host::usual_start();
     run.start(Start {
         moment: 500,
@@ -159,8 +167,8 @@ fn starts(run: &mut Run, usual: Start) {
     };
     most(run, LENGTH, 1, with(|start| &mut start.probe_rtt_period));
     most(run, LENGTH, 1, with(|start| &mut start.probe_base_duration));
-    most(run, LENGTH, 2, with(|start| &mut start.initial_rtt));
-    most(run, MOMENT, 2, with(|start| &mut start.moment));
+    most(run, LENGTH, bad(4, 1), with(|start| &mut start.initial_rtt));
+    most(run, MOMENT, bad(9, 2), with(|start| &mut start.moment));
     run.start(Start {
         full_bw_rounds: u64::MAX,
         queue_rounds: u64::MAX,
@@ -249,34 +257,36 @@ fn sends(run: &mut Run) {
         number: u64::MAX,
         bytes,
     };
-    most(run, BYTES, 2, |in_flight| sent(in_flight, 0, 1000));
-    most(run, BYTES, 2, |bytes| sent(0, bytes, 1000));
+    most(run, BYTES, bad(2, 2), |in_flight| sent(in_flight, 0, 1000));
+    most(run, BYTES, bad(2, 4), |bytes| sent(0, bytes, 1000));
     run.expect(3, sent(0, 0, 999));
-    run.expect(2, sent(BYTES + 1, 0, 999));
+    run.expect(bad(2, 2), sent(BYTES + 1, 0, 999));
     run.call(sent(0, 0, 1000));
-    most(run, MOMENT, 2, |moment| sent(0, 0, moment));
+    most(run, MOMENT, bad(9, 1), |moment| sent(0, 0, moment));
     run.expect(3, sent(0, 0, MOMENT - 1));
 }
 
 fn gains_and_bandwidths(run: &mut Run) {
     begin(run);
-    let calls: [fn(f32) -> Call; 4] = [
-        |gain| Call::PersistentQueue { gain },
-        Call::SetPacingGain,
-        Call::SetCwndGain,
-        |gain| Call::Bdp {
+    let calls: [Placed<f32>; 4] = [
+        (1, |gain| Call::PersistentQueue { gain }),
+        (1, Call::SetPacingGain),
+        (1, Call::SetCwndGain),
+        (2, |gain| Call::Bdp {
             bandwidth: 4_000_000,
             gain,
-        },
+        }),
     ];
-    for call in calls {
-        between(run, LEAST_GAIN, MOST_GAIN, 2, call);
+    for (place, call) in calls {
+        between(run, LEAST_GAIN, MOST_GAIN, bad(7, place), call);
     }
-    most(run, BANDWIDTH, 2, |bandwidth| Call::Bdp {
+    most(run, BANDWIDTH, bad(3, 1), |bandwidth| Call::Bdp {
         bandwidth,
         gain: 1.0,
     });
-    most(run, BANDWIDTH, 2, |bandwidth| Call::Bdp1 { bandwidth });
+    most(run, BANDWIDTH, bad(3, 1), |bandwidth| Call::Bdp1 {
+        bandwidth,
+    });
 }
 
 fn bytes_and_lengths(run: &mut Run, usual: Start) {
@@ -284,68 +294,74 @@ fn bytes_and_lengths(run: &mut Run, usual: Start) {
     let calls: [fn(u64) -> Call; 2] = [Call::SetInflightHi, Call::CapInflightLo];
     for call in calls {
         run.expect(0, call(BYTES));
-        run.expect(2, call(BYTES + 1));
-        run.expect(2, call(UNSET - 1));
+        run.expect(bad(2, 1), call(BYTES + 1));
+        run.expect(bad(2, 1), call(UNSET - 1));
         run.expect(0, call(UNSET));
     }
-    most(run, BYTES, 2, |cwnd| Call::RaiseSlope { cwnd });
+    most(run, BYTES, bad(1, 1), |cwnd| Call::RaiseSlope { cwnd });
     run.call(Call::InflightTooHigh {
         max_loss_events: u64::MAX,
     });
-    most(run, LENGTH, 2, Call::PostponeMinRtt);
+    most(run, LENGTH, bad(4, 1), Call::PostponeMinRtt);
 
-    // A postponed moment at the limit, and past it.
+    // A postponed moment at the limit, and past it; a length that is itself out.
     run.start(Start {
         moment: MOMENT - 10,
         ..usual
     });
-    run.expect(2, Call::PostponeMinRtt(11));
+    run.expect(bad(9, 1), Call::PostponeMinRtt(11));
     run.call(Call::PostponeMinRtt(10));
-    run.expect(2, Call::PostponeMinRtt(1));
+    run.expect(bad(9, 1), Call::PostponeMinRtt(1));
+    run.expect(bad(9, 1), Call::PostponeMinRtt(LENGTH));
+    run.expect(bad(4, 1), Call::PostponeMinRtt(LENGTH + 1));
+    run.expect(bad(4, 1), Call::PostponeMinRtt(u64::MAX));
     run.call(Call::PostponeMinRtt(0));
 }
 
 /// Each phase entry at a moment that is the last accepted one, earlier, later
 /// at the limit, and past it.
 fn entries(run: &mut Run) {
-    let calls: [fn(u64) -> Call; 4] = [
-        |moment| Call::ProbeDown {
+    let calls: [Placed<u64>; 4] = [
+        (3, |moment| Call::ProbeDown {
             too_high: false,
             risky: true,
             moment,
-        },
-        |moment| Call::ProbeCruise { moment },
-        |moment| Call::ProbeRefill { rounds: 2, moment },
-        |moment| Call::ProbeUp {
+        }),
+        (1, |moment| Call::ProbeCruise { moment }),
+        (2, |moment| Call::ProbeRefill { rounds: 2, moment }),
+        (1, |moment| Call::ProbeUp {
             moment,
             cwnd: 26_000,
-        },
+        }),
     ];
-    for call in calls {
+    for (place, call) in calls {
         begin(run);
         run.expect(3, call(0));
         run.expect(3, call(999));
         run.expect(0, call(1000));
-        most(run, MOMENT, 2, call);
+        most(run, MOMENT, bad(9, place), call);
         run.expect(3, call(MOMENT - 1));
     }
 
     begin(run);
-    most(run, UP_ROUNDS, 2, |rounds| Call::ProbeRefill {
+    most(run, UP_ROUNDS, bad(6, 1), |rounds| Call::ProbeRefill {
         rounds,
         moment: 1000,
     });
-    most(run, BYTES, 2, |cwnd| Call::ProbeUp { moment: 1000, cwnd });
-    // The lower number of two.
+    most(run, BYTES, bad(1, 2), |cwnd| Call::ProbeUp {
+        moment: 1000,
+        cwnd,
+    });
+    // The lower row of two.
     run.expect(
-        2,
+        bad(6, 1),
         Call::ProbeRefill {
             rounds: UP_ROUNDS + 1,
             moment: 999,
         },
     );
     run.expect(
-        2,
+        bad(1, 2),
         Call::ProbeUp {
             moment: 999,
             cwnd: BYTES + 1,
@@ -356,64 +372,74 @@ fn entries(run: &mut Run) {
 /// Each number of the record at its limit and past it, for every call that is
 /// given the record.
 fn records(run: &mut Run) {
-    let records: [(u64, fn(&mut Record, u64)); 10] = [
-        (MOMENT, |record, value| record.event_time = value),
-        (BYTES, |record, value| record.prior_cwnd = value),
-        (BYTES, |record, value| record.prior_in_flight = value),
-        (BYTES, |record, value| record.bytes_in_flight = value),
-        (TOTAL, |record, value| record.bytes_acked = value),
-        (TOTAL, |record, value| record.bytes_lost = value),
-        (BANDWIDTH, |record, value| record.bandwidth = Some(value)),
-        (LENGTH, |record, value| record.rtt = Some(value)),
-        (TOTAL, |record, value| record.send_state.total_acked = value),
-        (BYTES, |record, value| {
+    let records: [Bounded<Record>; 10] = [
+        (MOMENT, 9, |record, value| record.event_time = value),
+        (BYTES, 1, |record, value| record.prior_cwnd = value),
+        (BYTES, 2, |record, value| record.prior_in_flight = value),
+        (BYTES, 2, |record, value| record.bytes_in_flight = value),
+        (TOTAL, 5, |record, value| record.bytes_acked = value),
+        (TOTAL, 5, |record, value| record.bytes_lost = value),
+        (BANDWIDTH, 3, |record, value| record.bandwidth = Some(value)),
+        (LENGTH, 4, |record, value| record.rtt = Some(value)),
+        (TOTAL, 5, |record, value| {
+            record.send_state.total_acked = value
+        }),
+        (BYTES, 2, |record, value| {
             record.send_state.bytes_in_flight = value
         }),
     ];
-    for (limit, set) in records {
+    for (limit, kind, set) in records {
         begin(run);
         let event = Call::Event(run.acking(&[]));
-        for (reply, value) in [(2, limit + 1), (0, limit)] {
+        for value in [limit + 1, limit] {
             let mut record = Record {
                 event_time: 1000,
                 ..Record::default()
             };
             set(&mut record, value);
             run.call(Call::Record(record));
-            for call in [
-                event,
-                Call::Finish,
-                Call::ExpireMinRtt,
-                Call::InflightTooHigh { max_loss_events: 0 },
-                Call::BandwidthGrowth,
-            ] {
+            for (place, call) in with_record(event) {
+                let reply = if value > limit { bad(kind, place) } else { 0 };
                 run.expect(reply, call);
             }
         }
     }
 }
 
+/// The calls that are given the record, each with the record's place.
+pub fn with_record(event: Call) -> [(u64, Call); 5] {
+    [
+        (2, event),
+        (1, Call::Finish),
+        (1, Call::ExpireMinRtt),
+        (1, Call::InflightTooHigh { max_loss_events: 0 }),
+        (1, Call::BandwidthGrowth),
+    ]
+}
+
 /// Each number of the sampler's answer at its limit and past it.
 fn samples(run: &mut Run) {
-    let samples: [(u64, fn(&mut Sample, u64)); 10] = [
-        (BANDWIDTH, |sample, value| sample.bandwidth = Some(value)),
-        (BANDWIDTH, |sample, value| sample.send_rate = Some(value)),
-        (BANDWIDTH, |sample, value| sample.ack_rate = Some(value)),
-        (LENGTH, |sample, value| sample.rtt = Some(value)),
-        (BYTES, |sample, value| sample.max_inflight = value),
-        (BYTES, |sample, value| sample.extra_acked = value),
-        (TOTAL, |sample, value| sample.send_state.total_acked = value),
-        (BYTES, |sample, value| {
+    let samples: [Bounded<Sample>; 10] = [
+        (BANDWIDTH, 3, |sample, value| sample.bandwidth = Some(value)),
+        (BANDWIDTH, 3, |sample, value| sample.send_rate = Some(value)),
+        (BANDWIDTH, 3, |sample, value| sample.ack_rate = Some(value)),
+        (LENGTH, 4, |sample, value| sample.rtt = Some(value)),
+        (BYTES, 2, |sample, value| sample.max_inflight = value),
+        (BYTES, 2, |sample, value| sample.extra_acked = value),
+        (TOTAL, 5, |sample, value| {
+            sample.send_state.total_acked = value
+        }),
+        (BYTES, 2, |sample, value| {
             sample.send_state.bytes_in_flight = value
         }),
-        (TOTAL, |sample, value| sample.total_acked = value),
-        (TOTAL, |sample, value| sample.total_lost = value),
+        (TOTAL, 5, |sample, value| sample.total_acked = value),
+        (TOTAL, 5, |sample, value| sample.total_lost = value),
     ];
-    for (limit, set) in samples {
+    for (limit, kind, set) in samples {
         begin(run);
         run.record(Record::default());
         let same = run.acking(&[]);
-        most(run, limit, 2, |value| {
+        most(run, limit, bad(kind, 3), |value| {
             let mut sample = same;
             set(&mut sample, value);
             Call::Event(sample)
@@ -436,7 +462,7 @@ fn orders(run: &mut Run) {
     run.expect(4, totals(acked - 1, lost));
     run.expect(4, totals(acked, lost - 1));
     run.expect(4, totals(0, 0));
-    run.expect(2, totals(acked - 1, TOTAL + 1));
+    run.expect(bad(5, 3), totals(acked - 1, TOTAL + 1));
 
     // An event earlier than the last moment; later calls on its record don't
     // test that.
@@ -446,7 +472,7 @@ fn orders(run: &mut Run) {
     }));
     run.expect(3, totals(acked, lost));
     run.expect(3, totals(acked - 1, lost));
-    run.expect(2, totals(TOTAL + 1, lost));
+    run.expect(bad(5, 3), totals(TOTAL + 1, lost));
     run.call(Call::Finish);
     run.call(Call::ExpireMinRtt);
     run.call(Call::InflightTooHigh { max_loss_events: 0 });
@@ -495,7 +521,7 @@ fn never_sent(run: &mut Run, usual: Start) {
     run.unsent(&[0]);
     run.sent(0, 9, 1300);
     run.expect(
-        2,
+        bad(9, 2),
         Call::Start(Start {
             moment: MOMENT + 1,
             ..usual
@@ -513,7 +539,7 @@ fn never_sent_and_more(run: &mut Run) {
     let unsent = Call::Event(sample);
     run.expect_with(1, SLOT_1, BANDWIDTH + 1, unsent);
     run.expect(
-        2,
+        bad(2, 3),
         Call::Event(Sample {
             max_inflight: BYTES + 1,
             ..sample

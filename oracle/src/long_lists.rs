@@ -7,6 +7,7 @@ use std::time::Duration;
 use std::time::Instant;
 
 use guovssalu_sys::table::call;
+use guovssalu_sys::table::reply::BAD_ARGUMENT;
 use guovssalu_sys::table::sample;
 use guovssalu_sys::table::ANSWER_WORDS;
 use guovssalu_sys::table::ARGUMENTS_IN_CALL;
@@ -21,6 +22,7 @@ use crate::frame::Answer;
 use crate::frame::CallWords;
 use crate::frame::CARRIED;
 use crate::frame::EVENT;
+use crate::lengths::Lengths;
 use crate::list_steps::Acked;
 use crate::list_steps::Lists;
 use crate::list_steps::Said;
@@ -30,6 +32,7 @@ use crate::model::Call;
 use crate::model::Sample;
 use crate::model::State;
 use crate::model::SET_RECORD;
+use crate::places;
 use crate::replies;
 use crate::replies::Given;
 use crate::steps;
@@ -48,7 +51,7 @@ const TOGETHER: u64 = 60;
 
 /// What has to occur, each at least `LEAST` times in `MANY` calls: without it an
 /// error in the order of a list or in its bounds could stay unseen.
-const WANTED: [&str; 14] = [
+const WANTED: [&str; 16] = [
     "a round ends, and not by the last number",
     "a round ends, and not by the first number",
     "a round ends, and by none of the first three of a long list",
@@ -63,6 +66,8 @@ const WANTED: [&str; 14] = [
     "taken, and a word beside a long list was never sent",
     "taken, and a word of the call that doesn't count was never sent",
     "refused with 2 or 1, and the list is outside",
+    "refused with 2 for the list, and another argument is at fault, too",
+    "refused with 2 for another argument, and the list is inside",
 ];
 const LEAST: u64 = 3;
 const MANY: u64 = 20_000;
@@ -76,8 +81,16 @@ const LENGTHS: [(usize, &str); 5] = [
     (usize::MAX, "1,000 to 10,000 numbers"),
 ];
 
-/// What differs, in a call or in a run of calls.
-struct Difference {
+/// What differs.
+enum Difference {
+    /// In a call or in a run of calls.
+    Calls(Box<Differing>),
+    /// In a run that is refused as a whole; told.
+    Run(String),
+}
+
+/// Calls of which an answer or the state after them differs.
+struct Differing {
     /// What was asked.
     how: String,
     before: [u64; CARRIED],
@@ -106,11 +119,12 @@ struct Comparison {
     steps: Mixed,
     events: Calls,
     lists: Lists,
+    lengths: Lengths,
     random: Random,
     together: Together,
     given: Given,
     /// How many lists there were of each of `LENGTHS`.
-    lengths: [u64; LENGTHS.len()],
+    counts: [u64; LENGTHS.len()],
     wanted: Wanted,
 }
 
@@ -124,9 +138,10 @@ impl Comparison {
             events: Calls::new(seeds.next()),
             lists: Lists::new(seeds.next()),
             random: Random::new(seeds.next()),
+            lengths: Lengths::new(seeds.next()),
             together: Together::default(),
             given: Given::default(),
-            lengths: [0; LENGTHS.len()],
+            counts: [0; LENGTHS.len()],
             wanted: Wanted::new(&WANTED),
         }
     }
@@ -209,7 +224,7 @@ impl Comparison {
     /// Makes an event that names a long list where this isn't lent, or not all
     /// of it: it is refused.
     fn without(&mut self, words: &CallWords) -> Result<(), Difference> {
-        let answer = self.world.answer_to(&Step::Words(words.to_vec()));
+        let answer = self.world.refused(words, 0);
         let before = carried(&self.world.state);
         self.ask("guovssalu_run", before, words, None, &answer)?;
         let after = words[sample::ACKED_PACKETS] + words[sample::ACKED_COUNT];
@@ -228,9 +243,8 @@ impl Comparison {
             if let Some(said) = self.lists.inside() {
                 say(&mut inside, &said);
             }
-            let refused = |words: &CallWords| {
-                replies::malformed_with(words, lists, &self.world.state).is_some()
-            };
+            let refused =
+                |words: &CallWords| replies::to_words(words, lists, &self.world.state).is_some();
             if self.random.one_in(2) && refused(&inside) {
                 words = inside;
             } else if !refused(&words) {
@@ -243,17 +257,31 @@ impl Comparison {
     /// Makes a call of these words, which is refused for them.
     fn refused(&mut self, words: &CallWords) -> Result<(), Difference> {
         let lists = self.lists.lent.len();
-        let reply = replies::malformed_with(words, lists, &self.world.state);
-        assert!(reply.is_some(), "these words make a call: {words:?}");
         let before = self.world.state;
-        let answer = self.world.answer_to(&Step::Words(words.to_vec()));
-        let after = words[sample::ACKED_PACKETS].checked_add(words[sample::ACKED_COUNT]);
-        let outside = after.is_none_or(|after| after > lists as u64);
+        let outside = self.is_outside(words);
+        let inside = names_list(words) && !outside;
+        if inside {
+            self.without(words)?;
+        }
+        let answer = self.world.refused(words, lists);
+        self.mark("refused with 2 or 1, and the list is outside", outside);
+        let is_bad = replies::row(answer[REPLY_IN_ANSWER]) == BAD_ARGUMENT;
         self.mark(
-            "refused with 2 or 1, and the list is outside",
-            names_list(words) && outside,
+            "refused with 2 for the list, and another argument is at fault, too",
+            is_bad && outside && places::all(words, lists).count() > 1,
+        );
+        self.mark(
+            "refused with 2 for another argument, and the list is inside",
+            is_bad && inside,
         );
         self.make(carried(&before), words, &answer)
+    }
+
+    /// Whether the call names a list that isn't in the lent words.
+    fn is_outside(&self, words: &CallWords) -> bool {
+        let after = words[sample::ACKED_PACKETS].checked_add(words[sample::ACKED_COUNT]);
+        let lists = self.lists.lent.len() as u64;
+        names_list(words) && after.is_none_or(|after| after > lists)
     }
 
     /// Asks the archive a call in this state that has this answer, and keeps it
@@ -266,13 +294,17 @@ impl Comparison {
     ) -> Result<(), Difference> {
         let lent = Some(&self.lists.lent[..]);
         self.ask("guovssalu_run_lists", before, words, lent, answer)?;
-        // A call that names no list, or is refused with 1 or 2, is answered the
-        // same where no lists are lent.
-        let reply = answer[REPLY_IN_ANSWER];
-        if !names_list(words) || [1, 2].contains(&reply) {
+        // A call that names no list, or one that is outside, is answered the same
+        // where no lists are lent.
+        if !names_list(words) || self.is_outside(words) {
             self.ask("guovssalu_run", before, words, None, answer)?;
         }
-        self.given.add(reply);
+        self.given.add(answer[REPLY_IN_ANSWER]);
+        if self.random.one_in(40) {
+            let Comparison { lengths, lists, .. } = self;
+            let asked = lengths.ask(before, words, &lists.lent);
+            asked.map_err(Difference::Run)?;
+        }
 
         let together = &mut self.together;
         if together.before.is_none() {
@@ -302,14 +334,14 @@ impl Comparison {
         if got.as_deref() == Ok(&answer[..]) {
             return Ok(());
         }
-        Err(Difference {
+        Err(Difference::Calls(Box::new(Differing {
             how: how.to_string(),
             before: *before,
             calls: words.to_vec(),
             lists: shortened(words, lists.unwrap_or(&[])),
             expected: answer.to_vec(),
             got,
-        })
+        })))
     }
 
     /// Makes the calls since the last time in one run, and compares; lends other
@@ -323,14 +355,14 @@ impl Comparison {
         let got = archive::run(&before, &together.calls, Some(&self.lists.lent));
         let got = got.map(|(answers, state)| [answers, state].concat());
         if got.as_ref() != Ok(&expected) {
-            return Err(Difference {
+            return Err(Difference::Calls(Box::new(Differing {
                 how: format!("guovssalu_run_lists, {} calls in one run", together.made),
                 before,
                 calls: together.calls,
                 lists: format!("{} words are lent", self.lists.lent.len()),
                 expected,
                 got,
-            });
+            })));
         }
         self.lists.renew();
         Ok(())
@@ -344,7 +376,7 @@ impl Comparison {
     /// Counts an event with these acked numbers, and marks what it shows.
     fn tally(&mut self, acked: &[u64], said: &Said, before: &State, reply: u64) {
         let length = LENGTHS.iter().position(|(most, _)| acked.len() <= *most);
-        self.lengths[length.unwrap()] += 1;
+        self.counts[length.unwrap()] += 1;
 
         let is_set = before[END_SET] == 1;
         let upto = |number: &u64| is_set && *number <= before[END];
@@ -436,37 +468,43 @@ pub fn run(seed: u64, calls: u64) -> bool {
     let compared = compare();
     let calls = comparison.calls();
     eprintln!("{}", comparison.given.told());
-    for ((_, length), count) in LENGTHS.iter().zip(comparison.lengths) {
+    for ((_, length), count) in LENGTHS.iter().zip(comparison.counts) {
         eprintln!("{count} x {length}");
     }
     comparison.wanted.tell("");
+    comparison.lengths.tell();
     comparison.world.unsent.tell("");
     if let Err(difference) = compared {
-        tell(&difference);
+        match &difference {
+            Difference::Calls(differing) => tell(differing),
+            Difference::Run(told) => println!("{told}"),
+        }
         println!("{calls} calls, a difference");
         return false;
     }
     if calls >= MANY {
         comparison.wanted.demand(LEAST);
     }
+    comparison.lengths.hold();
     comparison.world.unsent.hold();
     println!("{calls} calls, 0 differences");
     true
 }
 
-fn tell(difference: &Difference) {
-    let Difference {
+fn tell(differing: &Differing) {
+    let Differing {
         how,
         before,
         calls,
         lists,
         expected,
         got,
-    } = difference;
+    } = differing;
     let none = Vec::new();
     let got = match got {
         Ok(got) => got,
         Err(reply) => {
+            let reply = replies::shown(*reply);
             println!("{how}: the run's reply: expected 0, got {reply}");
             &none
         }
@@ -478,8 +516,8 @@ fn tell(difference: &Difference) {
             None => (1 + at / ANSWER_WORDS, at % ANSWER_WORDS),
             Some(field) => (answers / ANSWER_WORDS, ANSWER_WORDS + field),
         };
+        let [expected, got] = [expected[at], got[at]].map(|number| text::shown(word, number));
         let word = text::word(&FILLER, word);
-        let (expected, got) = (expected[at], got[at]);
         println!("{how}, call {call}: {word}: expected {expected}, got {got}");
     }
     println!("The state before: {before:?}");

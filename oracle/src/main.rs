@@ -3,13 +3,17 @@
 
 #[cfg(feature = "archive")]
 mod archive;
+mod bounds;
 mod calls;
 mod diff;
 mod export_steps;
+mod faults;
 mod files;
 mod filter_steps;
 mod filters;
 mod frame;
+#[cfg(feature = "archive")]
+mod lengths;
 mod limits;
 mod list;
 #[cfg(feature = "archive")]
@@ -19,8 +23,10 @@ mod long_lists;
 mod malformed;
 mod marks;
 mod model;
+mod named;
 mod number_steps;
 mod numbers;
+mod places;
 mod port;
 mod reasons;
 mod replies;
@@ -78,13 +84,15 @@ Name one folder, into which the lists are written, or one of these:
   serve                    is the original as a port";
 
 /// The seed of the kept frames' chosen calls, how many there are of each kind,
-/// and how often at least each reason, each pair of steps that both act, and
-/// each case of numbers that were sent or never sent occurs.
+/// and how often at least each reason, each pair of steps that both act, each
+/// case of numbers that were sent or never sent, and each argument that can be
+/// named occurs.
 const KEPT_SEED: u64 = 1;
 const KEPT_CALLS: u64 = 100;
 const KEPT_REASONS: u64 = 20;
 const KEPT_PAIRS: u64 = 1;
 const KEPT_UNSENT: u64 = 1;
+const KEPT_NAMED: u64 = 1;
 
 fn main() {
     let arguments: Vec<String> = env::args().skip(1).collect();
@@ -173,17 +181,20 @@ fn kept() -> Files {
     let mut files = Files::new(false);
     sequences::add(&mut files);
     limits::add(&mut files);
+    faults::add(&mut files);
     let mut steps = Steps::new(KEPT_SEED);
     files.take(KEPT_CALLS, |world| steps.next(world));
     files.choose_others(KEPT_SEED, NumberSteps::at_random(KEPT_SEED), KEPT_CALLS);
-    for reply in [0, 1, 2, 3, 4, 5, 7, 10] {
-        assert!(files.replies.contains_key(&reply), "no reply {reply}");
+    for row in [0, 1, 2, 3, 4, 5, 7, 10] {
+        let mut replies = files.replies.keys();
+        assert!(replies.any(|&reply| replies::row(reply) == row), "no {row}");
     }
     for call in text::asked() {
         assert!(files.calls.contains_key(&call), "no call {call}");
     }
     files.world.tally.demand(KEPT_REASONS, KEPT_PAIRS);
     files.world.unsent.demand(KEPT_UNSENT);
+    files.world.named.demand(KEPT_NAMED);
     files
 }
 

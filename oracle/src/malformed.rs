@@ -1,25 +1,27 @@
 //! Steps as `Steps` chooses them, and between them calls that are refused for
-//! their words: malformed ones, and numbers that are no call's.
+//! their words: arguments at fault, one or several at once, malformed parameters,
+//! and numbers that are no call's.
 
-use guovssalu_sys::table::argument::bdp;
-use guovssalu_sys::table::argument::check_persistent_queue;
-use guovssalu_sys::table::argument::enter_probe_down;
-use guovssalu_sys::table::argument::set_cwnd_gain;
-use guovssalu_sys::table::argument::set_pacing_gain;
 use guovssalu_sys::table::call;
-use guovssalu_sys::table::event;
 use guovssalu_sys::table::params;
-use guovssalu_sys::table::sample;
 use guovssalu_sys::table::ARGUMENTS_IN_CALL;
-use guovssalu_sys::table::EVENT_IN_CALL;
 use guovssalu_sys::table::NUMBER_IN_CALL;
 use guovssalu_sys::table::PARAMS_IN_CALL;
+use guovssalu_sys::table::UNSET;
 
+use crate::bounds::BYTES;
+use crate::bounds::LENGTH;
+use crate::bounds::MOMENT;
 use crate::calls::Calls;
 use crate::frame;
 use crate::frame::CallWords;
 use crate::frame::CARRIED;
 use crate::frame::START;
+use crate::model::field::MIN_RTT_TIMESTAMP;
+use crate::model::Call;
+use crate::places;
+use crate::places::Field;
+use crate::places::Held;
 use crate::replies;
 use crate::steps;
 use crate::steps::Steps;
@@ -27,73 +29,18 @@ use crate::values::Random;
 use crate::world::Step;
 use crate::world::World;
 
-/// The forms that a word can miss.
-#[derive(Clone, Copy)]
-enum Form {
-    Flag,
-    /// A number from 0 to 3.
-    Count,
-    Float,
-    /// A flag and the number after it, which is 0 where the flag is.
-    Pair,
-}
-
-use Form::*;
-
-/// The words of the record and of the parameters that have a form.
-const RECORD: [(usize, Form); 6] = [
-    (EVENT_IN_CALL + event::END_OF_ROUND_TRIP, Flag),
-    (EVENT_IN_CALL + event::IS_PROBING_FOR_BANDWIDTH, Flag),
-    (EVENT_IN_CALL + event::SAMPLE_MAX_BANDWIDTH_SET, Pair),
-    (EVENT_IN_CALL + event::SAMPLE_MIN_RTT_SET, Pair),
-    (EVENT_IN_CALL + event::LAST_PACKET_SEND_STATE_IS_VALID, Flag),
-    (
-        EVENT_IN_CALL + event::LAST_PACKET_SEND_STATE_IS_APP_LIMITED,
-        Flag,
-    ),
-];
-const PARAMETERS: [(usize, Form); 7] = [
-    (PARAMS_IN_CALL + params::BETA, Float),
-    (PARAMS_IN_CALL + params::LOSS_THRESHOLD, Float),
-    (PARAMS_IN_CALL + params::INFLIGHT_HI_HEADROOM, Float),
-    (PARAMS_IN_CALL + params::FULL_BW_THRESHOLD, Float),
-    (PARAMS_IN_CALL + params::STARTUP_CWND_GAIN, Float),
-    (PARAMS_IN_CALL + params::STARTUP_PACING_GAIN, Float),
+/// The words of the parameters that can be malformed.
+const PARAMETERS: [Field; 7] = [
+    (PARAMS_IN_CALL + params::BETA, Held::Gain),
+    (PARAMS_IN_CALL + params::LOSS_THRESHOLD, Held::Gain),
+    (PARAMS_IN_CALL + params::INFLIGHT_HI_HEADROOM, Held::Gain),
+    (PARAMS_IN_CALL + params::FULL_BW_THRESHOLD, Held::Gain),
+    (PARAMS_IN_CALL + params::STARTUP_CWND_GAIN, Held::Gain),
+    (PARAMS_IN_CALL + params::STARTUP_PACING_GAIN, Held::Gain),
     (
         PARAMS_IN_CALL + params::IGNORE_APP_LIMITED_FOR_NO_BANDWIDTH_GROWTH,
-        Flag,
+        Held::Flag,
     ),
-];
-const EVENT: [(usize, Form); 8] = [
-    (sample::SAMPLE_MAX_BANDWIDTH_SET, Pair),
-    (sample::SAMPLE_MAX_SEND_RATE_SET, Pair),
-    (sample::SAMPLE_MAX_ACK_RATE_SET, Pair),
-    (sample::SAMPLE_IS_APP_LIMITED, Flag),
-    (sample::SAMPLE_RTT_SET, Pair),
-    (sample::LAST_PACKET_SEND_STATE_IS_VALID, Flag),
-    (sample::LAST_PACKET_SEND_STATE_IS_APP_LIMITED, Flag),
-    (sample::ACKED_COUNT, Count),
-];
-
-/// Calls that use such words, but for a start.
-const CALLS: [u64; 17] = [
-    call::ON_CONGESTION_EVENT_START,
-    call::ON_CONGESTION_EVENT_START,
-    call::ON_CONGESTION_EVENT_START,
-    call::ON_CONGESTION_EVENT_START,
-    call::ON_CONGESTION_EVENT_START,
-    call::ON_CONGESTION_EVENT_FINISH,
-    call::MAYBE_EXPIRE_MIN_RTT,
-    call::IS_INFLIGHT_TOO_HIGH,
-    call::HAS_BANDWIDTH_GROWTH,
-    call::CHECK_PERSISTENT_QUEUE,
-    call::CHECK_PERSISTENT_QUEUE,
-    call::BDP,
-    call::INFLIGHT_HI_WITH_HEADROOM,
-    call::SET_PACING_GAIN,
-    call::SET_CWND_GAIN,
-    call::ENTER_PROBE_DOWN,
-    call::ENTER_PROBE_DOWN,
 ];
 
 /// Numbers that are no call's, and not one of the frames' own: by hand.
@@ -116,35 +63,61 @@ pub struct Mixed {
     steps: Steps,
     random: Random,
     calls: Calls,
+    /// The calls but for a start, each as often as it has fields to be named, and
+    /// once more where it takes the parameters.
+    numbers: Vec<u64>,
 }
 
 impl Mixed {
     pub fn new(seed: u64) -> Self {
         // Streams apart from those of the other steps.
         let mut seeds = Random::new(seed ^ (3 << 61));
+        let calls = call::ALL.into_iter().filter(|number| *number != START);
+        let numbers = calls.flat_map(|number| {
+            let parameters = call::TAKE_PARAMS.contains(&number) as usize;
+            vec![number; fields(number).len() + parameters]
+        });
         Mixed {
             steps: Steps::new(seed),
             random: Random::new(seeds.next()),
             calls: Calls::new(seeds.next()),
+            numbers: numbers.collect(),
         }
     }
 
     /// The step to be taken in this world.
     pub fn next(&mut self, world: &World) -> Step {
         if self.random.one_in(12) {
-            let words = self.words(world);
-            if replies::malformed(&words, &world.state).is_some() {
-                return Step::Words(words.to_vec());
+            if let Some(step) = self.refused(world) {
+                return step;
             }
         }
         self.steps.next(world)
+    }
+
+    /// A call that is refused, mostly.
+    fn refused(&mut self, world: &World) -> Option<Step> {
+        // Where a moment can be postponed past its bound, sometimes that, also by
+        // a length that is itself out.
+        let left = MOMENT.checked_sub(world.state[MIN_RTT_TIMESTAMP]);
+        let left = left.filter(|left| *left < LENGTH && self.random.one_in(3));
+        if let Some(left) = left {
+            let length = match self.random.one_in(2) {
+                true => steps::past(&mut self.random, LENGTH),
+                false => left + 1 + self.random.below(LENGTH - left),
+            };
+            return Some(Step::Call(Call::PostponeMinRtt(length)));
+        }
+        let words = self.words(world);
+        let reply = replies::to_words(&words, 0, &world.state);
+        reply.map(|_| Step::Words(words.to_vec()))
     }
 
     /// The words of a call, mostly such as are refused.
     fn words(&mut self, world: &World) -> CallWords {
         let number = match self.steps.at_end() {
             true => START,
-            false => self.random.pick(&CALLS),
+            false => self.random.pick(&self.numbers),
         };
         let state = steps::within(&world.state);
         let numbers = match number {
@@ -155,15 +128,23 @@ impl Mixed {
         let parameters = world.start.parameters();
         let arguments = &numbers[ARGUMENTS_IN_CALL..];
         let mut words = frame::call(number, arguments, record, &parameters);
-        if self.random.one_in(6) {
-            words[NUMBER_IN_CALL] = self.random.pick(&NO_CALLS);
-        } else {
-            let place = self.place(number);
-            self.malform(&mut words, place);
+        let fields = fields(number);
+        match self.random.below(6) {
+            0 => words[NUMBER_IN_CALL] = self.random.pick(&NO_CALLS),
+            1 if call::TAKE_PARAMS.contains(&number) => {
+                let parameter = self.random.pick(&PARAMETERS);
+                self.malform(&mut words, parameter);
+            }
+            _ if fields.is_empty() => {}
+            _ => {
+                for _ in 0..self.random.pick(&[1, 1, 1, 2, 2, 2, 3, 4]) {
+                    let field = self.random.pick(&fields);
+                    self.spoil(&mut words, field);
+                }
+            }
         }
-        // Something else that is refused, or another malformed word, or
-        // something that the call doesn't use.
-        if self.random.one_in(4) {
+        // Something else that is refused, or something that the call doesn't use.
+        if self.random.one_in(8) {
             let after = words.len() - ARGUMENTS_IN_CALL;
             let at = ARGUMENTS_IN_CALL + self.random.below(after as u64) as usize;
             words[at] = self.random.pick(&[0, 2, 1 << 32, (1 << 62) + 1, u64::MAX]);
@@ -171,42 +152,43 @@ impl Mixed {
         words
     }
 
-    /// A word that the call of this number uses, and its form.
-    fn place(&mut self, number: u64) -> (usize, Form) {
-        let arguments: &[(usize, Form)] = match number {
-            call::ON_CONGESTION_EVENT_START => &EVENT,
-            call::CHECK_PERSISTENT_QUEUE => &[(check_persistent_queue::TARGET_GAIN, Float)],
-            call::SET_PACING_GAIN => &[(set_pacing_gain::PACING_GAIN, Float)],
-            call::SET_CWND_GAIN => &[(set_cwnd_gain::CWND_GAIN, Float)],
-            call::BDP => &[(bdp::GAIN, Float)],
-            call::ENTER_PROBE_DOWN => &[
-                (enter_probe_down::PROBED_TOO_HIGH, Flag),
-                (enter_probe_down::STOPPED_RISKY_PROBE, Flag),
-            ],
-            _ => &[],
-        };
-        let mut places = arguments.to_vec();
-        if call::READ_EVENT.contains(&number) {
-            places.extend(RECORD);
+    /// Puts something out of bounds into a field, or something malformed.
+    fn spoil(&mut self, words: &mut CallWords, field: Field) {
+        let random = &mut self.random;
+        let (at, held) = field;
+        match held {
+            Held::UpTo(most, _) => words[at] = steps::past(random, most),
+            Held::Bound => words[at] = steps::past(random, BYTES).min(UNSET - 1),
+            Held::Gain if random.one_in(2) => words[at] = steps::no_float(random) as u64,
+            Held::Pair(most, _) if random.one_in(2) => {
+                (words[at], words[at + 1]) = (1, steps::past(random, most));
+            }
+            _ => self.malform(words, field),
         }
-        if call::TAKE_PARAMS.contains(&number) {
-            places.extend(PARAMETERS);
-        }
-        self.random.pick(&places)
     }
 
-    fn malform(&mut self, words: &mut CallWords, (at, form): (usize, Form)) {
+    /// Puts words into a field that nobody writes.
+    fn malform(&mut self, words: &mut CallWords, (at, held): Field) {
         let random = &mut self.random;
-        match form {
-            Flag => words[at] = random.pick(&[2, 3, 255, 256, 257, 1 << 32, u64::MAX]),
-            Count => words[at] = random.pick(&[4, 5, 6, 7, 8, 1 << 32, u64::MAX - 3, u64::MAX]),
-            Float => words[at] |= 1 << (32 + random.below(32)),
-            Pair => {
+        match held {
+            Held::UpTo(..) | Held::Bound => {}
+            Held::Flag => words[at] = random.pick(&[2, 3, 255, 256, 257, 1 << 32, u64::MAX]),
+            Held::Acked => {
+                words[at] = random.pick(&[4, 5, 6, 7, 8, 1 << 32, u64::MAX - 3, u64::MAX])
+            }
+            Held::Gain => {
+                if random.one_in(3) {
+                    words[at] = steps::no_float(random) as u64;
+                }
+                words[at] |= 1 << (32 + random.below(32));
+            }
+            Held::Pair(most, _) => {
                 let pairs = [
                     (0, 1),
                     (0, u64::MAX),
                     (2, 0),
                     (2, 5),
+                    (2, most + 1),
                     (257, 5),
                     (1 << 32, 0),
                 ];
@@ -214,4 +196,9 @@ impl Mixed {
             }
         }
     }
+}
+
+/// The fields of a call that can be named.
+fn fields(number: u64) -> Vec<Field> {
+    places::fields(number).map(|(_, field)| field).collect()
 }

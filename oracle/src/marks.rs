@@ -6,6 +6,7 @@ use std::collections::BTreeMap;
 use guovssalu_sys::table::phase;
 use guovssalu_sys::table::UNSET;
 
+use crate::bounds::MOMENT;
 use crate::calls::bdp;
 use crate::model::field::*;
 use crate::model::Call;
@@ -13,7 +14,6 @@ use crate::model::Getter;
 use crate::model::Sample;
 use crate::model::Start;
 use crate::model::State;
-use crate::replies::MOMENT;
 use crate::wanted::Wanted;
 
 /// What has to occur, each at least `LEAST` times. Cases with the same number

@@ -83,8 +83,6 @@ pub mod field {
     pub const EVENT_TIME: usize = STATE_WORDS + event::EVENT_TIME;
     pub const PRIOR_CWND: usize = STATE_WORDS + event::PRIOR_CWND;
     pub const PRIOR_IN_FLIGHT: usize = STATE_WORDS + event::PRIOR_BYTES_IN_FLIGHT;
-    pub const BYTES_IN_FLIGHT: usize = STATE_WORDS + event::BYTES_IN_FLIGHT;
-    pub const BYTES_ACKED: usize = STATE_WORDS + event::BYTES_ACKED;
     pub const BYTES_LOST: usize = STATE_WORDS + event::BYTES_LOST;
     pub const ROUND_ENDED: usize = STATE_WORDS + event::END_OF_ROUND_TRIP;
     pub const PROBING: usize = STATE_WORDS + event::IS_PROBING_FOR_BANDWIDTH;

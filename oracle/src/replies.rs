@@ -1,38 +1,32 @@
 //! The replies of the port, by document 01, "Replies and bounds", and by
 //! document 02 where it changes that: read from their words, apart from the
-//! port's code.
+//! port's code. `places` says which argument a refusal with 2 names.
 
-use guovssalu_sys::table::argument::bdp;
-use guovssalu_sys::table::argument::check_persistent_queue;
-use guovssalu_sys::table::argument::enter_probe_down;
-use guovssalu_sys::table::argument::set_cwnd_gain;
-use guovssalu_sys::table::argument::set_pacing_gain;
-use guovssalu_sys::table::event;
+use std::collections::BTreeMap;
+
 use guovssalu_sys::table::params;
-use guovssalu_sys::table::sample;
+use guovssalu_sys::table::reply::BAD_ARGUMENT;
+use guovssalu_sys::table::reply::OUT_OF_BOUNDS;
 use guovssalu_sys::table::ARGUMENTS_IN_CALL;
-use guovssalu_sys::table::EVENT_IN_CALL;
 use guovssalu_sys::table::NUMBER_IN_CALL;
 use guovssalu_sys::table::PARAMS_IN_CALL;
 use guovssalu_sys::table::UNSET;
 
+use crate::bounds::gain;
+use crate::bounds::BANDWIDTH;
+use crate::bounds::BYTES;
+use crate::bounds::LEAST_GAIN;
+use crate::bounds::LENGTH;
+use crate::bounds::MOMENT;
+use crate::bounds::MOST_BETA;
+use crate::bounds::TOTAL;
+use crate::bounds::UP_ROUNDS;
 use crate::model::field::*;
 use crate::model::Call;
-use crate::model::Sample;
-use crate::model::SendState;
 use crate::model::Start;
 use crate::model::State;
-
-/// The bounds, inclusive.
-pub const BYTES: u64 = 1 << 40;
-pub const BANDWIDTH: u64 = 1 << 40;
-pub const TOTAL: u64 = 1 << 62;
-pub const MOMENT: u64 = 1 << 62;
-pub const LENGTH: u64 = 1 << 36;
-pub const UP_ROUNDS: u64 = 30;
-pub const LEAST_GAIN: f32 = 1.0 / 1024.0;
-pub const MOST_GAIN: f32 = 8.0;
-pub const MOST_BETA: f32 = 1023.0 / 1024.0;
+use crate::places;
+use crate::places::NO_CALL;
 
 /// The state that a refused start leaves is that of this one: "a fresh one at
 /// moment 0 with round trip 0, both gains 1 and the app-limited option off".
@@ -53,33 +47,61 @@ pub const REFUSED_START: Start = Start {
     ignore_app_limited: false,
 };
 
-/// How many calls were given each reply.
+/// The row of a reply in the table: what is left without the kind and the place.
+pub fn row(reply: u64) -> u64 {
+    reply & 0xff
+}
+
+/// The kind of bound that a reply names, and the place of the argument; 0 where
+/// the row isn't 2.
+pub fn named(reply: u64) -> (u64, u64) {
+    (reply >> 8 & 0xff, reply >> 16)
+}
+
+/// A reply as it is read: `5`, or `2.9 at 1`.
+pub fn shown(reply: u64) -> String {
+    match (row(reply), named(reply)) {
+        (row, (0, 0)) => row.to_string(),
+        (row, (kind, place)) => format!("{row}.{kind} at {place}"),
+    }
+}
+
+/// How many calls were given each reply: by the row, and in row 2 by the kind.
 #[derive(Default)]
-pub struct Given([u64; 11]);
+pub struct Given(BTreeMap<(u64, u64), u64>);
 
 impl Given {
     pub fn add(&mut self, reply: u64) {
-        self.0[reply as usize] += 1;
+        let (kind, _) = named(reply);
+        *self.0.entry((row(reply), kind)).or_default() += 1;
     }
 
     /// How many calls there were.
     pub fn calls(&self) -> u64 {
-        self.0.iter().sum()
+        self.0.values().sum()
     }
 
     pub fn told(&self) -> String {
-        let refused = [1, 2, 3, 4, 5, 7, 10].map(|reply| format!("{reply}: {}", self.0[reply]));
-        format!(
-            "{} accepted; refused with {}",
-            self.0[0],
-            refused.join(", ")
-        )
+        let count = |row: u64| -> u64 {
+            let of_row = self.0.range((row, 0)..(row + 1, 0));
+            of_row.map(|(_, count)| count).sum()
+        };
+        let kinds = self.0.range((BAD_ARGUMENT, 1)..(BAD_ARGUMENT + 1, 0));
+        let kinds = kinds.map(|((row, kind), count)| format!("{row}.{kind}: {count}"));
+        let kinds: Vec<String> = kinds.collect();
+        let refused = [1, 2, 3, 4, 5, 7, 10].map(|row| match row {
+            BAD_ARGUMENT if !kinds.is_empty() => {
+                format!("{row}: {} ({})", count(row), kinds.join(", "))
+            }
+            _ => format!("{row}: {}", count(row)),
+        });
+        format!("{} accepted; refused with {}", count(0), refused.join(", "))
     }
 }
 
-/// The number of the reply to a call in a state, after a start with these
-/// parameters or with the start's own: the first row of the table that holds,
-/// or 0. Row 10 is asked after 4 and before 5.
+/// The reply to a call in a state, after a start with these parameters or with
+/// the start's own: the first row of the table that holds, or 0. Row 10 is asked
+/// after 4 and before 5.
 pub fn reply(call: &Call, state: &State, start: &Start) -> u64 {
     match call {
         Call::Event(sample) => reply_with(call, sample.acked(), state, start),
@@ -89,12 +111,13 @@ pub fn reply(call: &Call, state: &State, start: &Start) -> u64 {
 
 /// The same; an event has these acked numbers in place of its own.
 pub fn reply_with(call: &Call, acked: &[u64], state: &State, start: &Start) -> u64 {
-    let moment = moment(call, state);
     if !stored(call, state) || takes_parameters(call) && !parameters(start) {
-        1
-    } else if !arguments(call, state) || moment.is_some_and(|moment| moment > MOMENT) {
-        2
-    } else if moment.is_some_and(|moment| moment < state[LAST_MOMENT]) {
+        return OUT_OF_BOUNDS;
+    }
+    if let Some(fault) = places::of_call(&places::words_of(call, state, start), state) {
+        return fault.reply();
+    }
+    if moment(call, state).is_some_and(|moment| moment < state[LAST_MOMENT]) {
         3
     } else if total_falls(call, state) {
         4
@@ -107,63 +130,29 @@ pub fn reply_with(call: &Call, acked: &[u64], state: &State, start: &Start) -> u
     }
 }
 
-/// The number of the reply to a call that is refused for its words, none where
-/// they make a call, in a run that is lent no lists. By docs/LAYOUT.md a
-/// malformed argument is a bad one, and so is a number that is no call's: 2. A
+/// The reply to a call that is refused for its words, whatever the state is, in a
+/// run that is lent lists of so many words; none where it isn't. By docs/LAYOUT.md
+/// a malformed argument is a bad one, and so is a number that is no call's: 2. A
 /// malformed parameter is one out of bounds: 1, as where another number of row 1
 /// is out of its bounds.
-pub fn malformed(words: &[u64], state: &State) -> Option<u64> {
-    malformed_with(words, 0, state)
-}
-
-/// The same in a run that is lent lists of so many words. More than three acked
-/// numbers stand in the lists, from the index on that stands in the call; where
-/// the lists don't have them all, it is a bad argument.
-pub fn malformed_with(words: &[u64], lists: usize, state: &State) -> Option<u64> {
+pub fn to_words(words: &[u64], lists: usize, state: &State) -> Option<u64> {
     let start = REFUSED_START.with_parameters(&words[PARAMS_IN_CALL..]);
     let (number, arguments) = (words[NUMBER_IN_CALL], &words[ARGUMENTS_IN_CALL..]);
     let Some(call) = Call::of(number, arguments, &start) else {
-        return Some(if model(state) { 2 } else { 1 });
+        let reply = NO_CALL.reply();
+        return Some(if model(state) { reply } else { OUT_OF_BOUNDS });
     };
-    let flag = |at: &usize| words[*at] > 1;
-    let float = |at: &usize| words[*at] >> 32 != 0;
-    let pair = |at: &usize| words[*at] != 1 && words[*at..][..2] != [0, 0];
-    let argument = match call {
-        Call::Event(_) => {
-            let pairs = [
-                sample::SAMPLE_MAX_BANDWIDTH_SET,
-                sample::SAMPLE_MAX_SEND_RATE_SET,
-                sample::SAMPLE_MAX_ACK_RATE_SET,
-                sample::SAMPLE_RTT_SET,
-            ];
-            let flags = [
-                sample::SAMPLE_IS_APP_LIMITED,
-                sample::LAST_PACKET_SEND_STATE_IS_VALID,
-                sample::LAST_PACKET_SEND_STATE_IS_APP_LIMITED,
-            ];
-            let count = words[sample::ACKED_COUNT] as u128;
-            let after = words[sample::ACKED_PACKETS] as u128 + count;
-            let outside = count > 3 && after > lists as u128;
-            pairs.iter().any(pair) || flags.iter().any(flag) || outside
-        }
-        Call::PersistentQueue { .. } => float(&check_persistent_queue::TARGET_GAIN),
-        Call::SetPacingGain(_) => float(&set_pacing_gain::PACING_GAIN),
-        Call::SetCwndGain(_) => float(&set_cwnd_gain::CWND_GAIN),
-        Call::Bdp { .. } => float(&bdp::GAIN),
-        Call::ProbeDown { .. } => {
-            flag(&enter_probe_down::PROBED_TOO_HIGH) || flag(&enter_probe_down::STOPPED_RISKY_PROBE)
-        }
-        _ => false,
-    };
-    let flags = [
-        event::END_OF_ROUND_TRIP,
-        event::IS_PROBING_FOR_BANDWIDTH,
-        event::LAST_PACKET_SEND_STATE_IS_VALID,
-        event::LAST_PACKET_SEND_STATE_IS_APP_LIMITED,
-    ];
-    let pairs = [event::SAMPLE_MAX_BANDWIDTH_SET, event::SAMPLE_MIN_RTT_SET];
-    let record = flags.iter().any(|at| flag(&(EVENT_IN_CALL + at)))
-        || pairs.iter().any(|at| pair(&(EVENT_IN_CALL + at)));
+    let formed = parameters_formed(&words[PARAMS_IN_CALL..]);
+    let parameter = takes_parameters(&call) && !(formed && parameters(&start));
+    let fault = places::of_words(words, lists);
+    if parameter || fault.is_some() && !stored(&call, state) {
+        return Some(OUT_OF_BOUNDS);
+    }
+    fault.map(|fault| fault.reply())
+}
+
+/// Whether the words of the parameters are such as are written.
+fn parameters_formed(words: &[u64]) -> bool {
     let floats = [
         params::BETA,
         params::LOSS_THRESHOLD,
@@ -172,26 +161,8 @@ pub fn malformed_with(words: &[u64], lists: usize, state: &State) -> Option<u64>
         params::STARTUP_CWND_GAIN,
         params::STARTUP_PACING_GAIN,
     ];
-    let option = PARAMS_IN_CALL + params::IGNORE_APP_LIMITED_FOR_NO_BANDWIDTH_GROWTH;
-    let given = floats.iter().any(|at| float(&(PARAMS_IN_CALL + at))) || flag(&option);
-    let parameter = takes_parameters(&call) && given;
-    if !argument && !(takes_record(&call) && record) && !parameter {
-        return None;
-    }
-    let row_1 = parameter || reply(&call, state, &start) == 1;
-    Some(if row_1 { 1 } else { 2 })
-}
-
-/// Whether the call is given the current event's record.
-fn takes_record(call: &Call) -> bool {
-    matches!(
-        call,
-        Call::Event(_)
-            | Call::Finish
-            | Call::ExpireMinRtt
-            | Call::InflightTooHigh { .. }
-            | Call::BandwidthGrowth
-    )
+    let option = params::IGNORE_APP_LIMITED_FOR_NO_BANDWIDTH_GROWTH;
+    floats.iter().all(|&at| words[at] >> 32 == 0) && words[option] <= 1
 }
 
 /// Whether the stored numbers that the call is given are within their bounds:
@@ -275,67 +246,6 @@ fn parameters(start: &Start) -> bool {
         && gain(start.pacing_gain)
         && start.probe_rtt_period <= LENGTH
         && start.probe_base_duration <= LENGTH
-}
-
-fn gain(gain: f32) -> bool {
-    (LEAST_GAIN..=MOST_GAIN).contains(&gain)
-}
-
-/// Whether every argument but the moment is within its bounds.
-fn arguments(call: &Call, state: &State) -> bool {
-    match *call {
-        Call::Start(start) => start.moment <= MOMENT && start.initial_rtt <= LENGTH,
-        Call::Sent {
-            in_flight, bytes, ..
-        } => in_flight <= BYTES && bytes <= BYTES,
-        Call::Event(sample) => self::sample(&sample) && stored_record(state),
-        _ if takes_record(call) => stored_record(state),
-        Call::PersistentQueue { gain } | Call::SetPacingGain(gain) | Call::SetCwndGain(gain) => {
-            self::gain(gain)
-        }
-        Call::Bdp { bandwidth, gain } => bandwidth <= BANDWIDTH && self::gain(gain),
-        Call::Bdp1 { bandwidth } => bandwidth <= BANDWIDTH,
-        Call::SetInflightHi(bytes) | Call::CapInflightLo(bytes) => bytes <= BYTES || bytes == UNSET,
-        Call::PostponeMinRtt(length) => {
-            length <= LENGTH && state[MIN_RTT_TIMESTAMP] + length <= MOMENT
-        }
-        Call::ProbeRefill { rounds, .. } => rounds <= UP_ROUNDS,
-        Call::ProbeUp { cwnd, .. } | Call::RaiseSlope { cwnd } => cwnd <= BYTES,
-        _ => true,
-    }
-}
-
-fn sample(sample: &Sample) -> bool {
-    let bandwidth = |bandwidth: Option<u64>| bandwidth.is_none_or(|it| it <= BANDWIDTH);
-    bandwidth(sample.bandwidth)
-        && bandwidth(sample.send_rate)
-        && bandwidth(sample.ack_rate)
-        && sample.rtt.is_none_or(|rtt| rtt <= LENGTH)
-        && sample.max_inflight <= BYTES
-        && sample.extra_acked <= BYTES
-        && send_state(&sample.send_state)
-        && sample.total_acked <= TOTAL
-        && sample.total_lost <= TOTAL
-}
-
-/// A send state is tested also where it isn't valid.
-fn send_state(state: &SendState) -> bool {
-    state.total_acked <= TOTAL && state.bytes_in_flight <= BYTES
-}
-
-/// Whether the current record, an argument of the calls on an event, is within
-/// its bounds.
-fn stored_record(state: &State) -> bool {
-    state[EVENT_TIME] <= MOMENT
-        && state[PRIOR_CWND] <= BYTES
-        && state[PRIOR_IN_FLIGHT] <= BYTES
-        && state[BYTES_IN_FLIGHT] <= BYTES
-        && state[BYTES_ACKED] <= TOTAL
-        && state[BYTES_LOST] <= TOTAL
-        && state[SAMPLE] <= BANDWIDTH
-        && state[RTT] <= LENGTH
-        && state[STATE_ACKED] <= TOTAL
-        && state[STATE_IN_FLIGHT] <= BYTES
 }
 
 /// The moment that the call is given, if its order counts: sends, events and

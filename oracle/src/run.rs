@@ -15,8 +15,14 @@ use crate::model::Sample;
 use crate::model::SendState;
 use crate::model::Start;
 use crate::model::State;
+use crate::places;
 use crate::recovery::gcongestion::Host;
 use crate::world::Step;
+
+/// The reply that names a bound of this kind, and an argument by its place.
+pub const fn bad(kind: u64, place: u64) -> u64 {
+    2 + 256 * kind + 65_536 * place
+}
 
 pub struct Run<'a> {
     files: &'a mut Files,
@@ -42,13 +48,40 @@ impl<'a> Run<'a> {
         self.expect(0, call)
     }
 
-    /// Makes a call to which the port replies this number; its answer. The
-    /// reply is read a second time from the documents' table.
+    /// Makes a call to which the port replies this; its answer. The reply is read
+    /// a second time from the documents' tables.
     pub fn expect(&mut self, reply: u64, call: Call) -> u64 {
+        self.put_back();
+        self.make(reply, call)
+    }
+
+    /// Takes a step to which the port replies this.
+    pub fn expect_step(&mut self, reply: u64, step: Step) {
+        self.put_back();
+        let answer = self.files.step(&step).expect("the port is asked");
+        assert_eq!(
+            answer[REPLY_IN_ANSWER], reply,
+            "the port's reply to {step:?}"
+        );
+        self.state = self.files.world.state;
+    }
+
+    /// Makes the call with other words at some places, for which it is refused with
+    /// this.
+    pub fn expect_words(&mut self, reply: u64, call: Call, others: &[(usize, u64)]) {
+        self.put_back();
+        let mut words = places::words_of(&call, &self.state, &self.files.world.start);
+        for &(at, other) in others {
+            words[at] = other;
+        }
+        self.expect_step(reply, Step::Words(words.to_vec()));
+    }
+
+    /// Puts the number back in whose place another one stands.
+    fn put_back(&mut self) {
         if let Some(held) = self.held.take() {
             self.put(vec![held]);
         }
-        self.make(reply, call)
     }
 
     /// The same, with `value` in place of the number at `field`, which the call

@@ -2,6 +2,11 @@
 
 use guovssalu_sys::table::UNSET;
 
+use crate::bounds::BANDWIDTH;
+use crate::bounds::BYTES;
+use crate::bounds::LENGTH;
+use crate::bounds::MOMENT;
+use crate::bounds::TOTAL;
 use crate::calls::Calls;
 use crate::files::Files;
 use crate::model::field::*;
@@ -12,11 +17,6 @@ use crate::model::Sample;
 use crate::model::SendState;
 use crate::model::Start;
 use crate::recovery::gcongestion::Host;
-use crate::replies::BANDWIDTH;
-use crate::replies::BYTES;
-use crate::replies::LENGTH;
-use crate::replies::MOMENT;
-use crate::replies::TOTAL;
 use crate::run::Run;
 use crate::run::ACKED;
 use crate::run::LOST;

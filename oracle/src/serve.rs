@@ -66,10 +66,10 @@ fn answer(world: &mut World, words: &[u64]) -> Option<Answer> {
     Some(world.answer_to(&step))
 }
 
-/// Whether the words are of the model, and make no call.
+/// Whether the words are of the model, and the call is refused for them.
 fn is_refused(world: &World, words: &[u64]) -> bool {
     let others = [WINDOWED_FILTER, NUMBERS, SUMMED];
-    !others.contains(&words[NUMBER_IN_CALL]) && replies::malformed(words, &world.state).is_some()
+    !others.contains(&words[NUMBER_IN_CALL]) && replies::to_words(words, 0, &world.state).is_some()
 }
 
 /// The step of a call's words, if it is one; takes what is handed in with it.

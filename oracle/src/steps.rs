@@ -11,6 +11,15 @@ use guovssalu_sys::table::ARGUMENTS_IN_CALL;
 use guovssalu_sys::table::MOST_ACKED;
 use guovssalu_sys::table::UNSET;
 
+use crate::bounds::BANDWIDTH;
+use crate::bounds::BYTES;
+use crate::bounds::LEAST_GAIN;
+use crate::bounds::LENGTH;
+use crate::bounds::MOMENT;
+use crate::bounds::MOST_BETA;
+use crate::bounds::MOST_GAIN;
+use crate::bounds::TOTAL;
+use crate::bounds::UP_ROUNDS;
 use crate::calls;
 use crate::calls::Calls;
 use crate::frame::CARRIED;
@@ -22,15 +31,6 @@ use crate::model::Start;
 use crate::model::State;
 use crate::recovery::gcongestion::Host;
 use crate::replies;
-use crate::replies::BANDWIDTH;
-use crate::replies::BYTES;
-use crate::replies::LEAST_GAIN;
-use crate::replies::LENGTH;
-use crate::replies::MOMENT;
-use crate::replies::MOST_BETA;
-use crate::replies::MOST_GAIN;
-use crate::replies::TOTAL;
-use crate::replies::UP_ROUNDS;
 use crate::values::bits;
 use crate::values::Random;
 use crate::world::Step;
@@ -281,7 +281,7 @@ impl Steps {
             (event::LAST_PACKET_SEND_STATE_BYTES_IN_FLIGHT, BYTES),
         ];
         let (at, limit) = self.random.pick(&limits);
-        numbers[at] = self.past(limit);
+        numbers[at] = past(&mut self.random, limit);
         if [event::SAMPLE_MAX_BANDWIDTH, event::SAMPLE_MIN_RTT].contains(&at) {
             numbers[at - 1] = 1;
         }
@@ -301,65 +301,31 @@ impl Steps {
         };
         let mut parameters = start.parameters();
         match self.random.below(10) {
-            0 => start.moment = self.past(MOMENT),
-            1 => start.initial_rtt = self.past(LENGTH),
-            2 => parameters[params::PROBE_RTT_PERIOD] = self.past(LENGTH),
-            3 => parameters[params::PROBE_BW_PROBE_BASE_DURATION] = self.past(LENGTH),
-            at => parameters[FLOATS[at as usize - 4]] = self.no_float() as u64,
+            0 => start.moment = past(&mut self.random, MOMENT),
+            1 => start.initial_rtt = past(&mut self.random, LENGTH),
+            2 => parameters[params::PROBE_RTT_PERIOD] = past(&mut self.random, LENGTH),
+            3 => {
+                let duration = past(&mut self.random, LENGTH);
+                parameters[params::PROBE_BW_PROBE_BASE_DURATION] = duration;
+            }
+            at => parameters[FLOATS[at as usize - 4]] = no_float(&mut self.random) as u64,
         }
         if self.random.one_in(8) {
-            start.moment = self.past(MOMENT);
+            start.moment = past(&mut self.random, MOMENT);
         }
         Call::Start(start.with_parameters(&parameters))
     }
 
     /// A number that is outside the bounds of many arguments.
     fn outside(&mut self, state: &State) -> u64 {
-        match self.random.below(10) {
-            0 => state[LAST_MOMENT].saturating_sub(1 + self.random.below(2)),
-            1 => UP_ROUNDS + 1 + self.random.below(2),
-            2..=4 => self.no_float() as u64,
-            5 | 6 => self.past(LENGTH),
-            7 => self.past(MOMENT),
-            _ => self.past(BYTES),
-        }
-    }
-
-    /// A number past this limit, or the largest.
-    fn past(&mut self, limit: u64) -> u64 {
-        match self.random.below(6) {
-            0 => u64::MAX,
-            1 => u64::MAX - 1,
-            2 => limit + self.random.of_length(20),
-            _ => limit + 1,
-        }
-    }
-
-    /// Bits of a float that is outside the bounds of gains and of most
-    /// parameters.
-    fn no_float(&mut self) -> u32 {
-        let outside = [
-            0,
-            1,
-            0x8000_0000,
-            0x8000_0001,
-            bits(LEAST_GAIN) - 1,
-            bits(MOST_GAIN) + 1,
-            bits(MOST_BETA) + 1,
-            bits(1.0) + 1,
-            bits(1.0) - 1,
-            bits(-1.0),
-            bits(f32::MAX),
-            bits(f32::INFINITY),
-            bits(f32::NEG_INFINITY),
-            0x7fc0_0000,
-            0xffc0_0000,
-            0x7f80_0001,
-            0xffbf_ffff,
-        ];
-        match self.random.one_in(4) {
-            true => self.random.next() as u32,
-            false => self.random.pick(&outside),
+        let random = &mut self.random;
+        match random.below(10) {
+            0 => state[LAST_MOMENT].saturating_sub(1 + random.below(2)),
+            1 => UP_ROUNDS + 1 + random.below(2),
+            2..=4 => no_float(random) as u64,
+            5 | 6 => past(random, LENGTH),
+            7 => past(random, MOMENT),
+            _ => past(random, BYTES),
         }
     }
 
@@ -433,13 +399,51 @@ impl Steps {
                 true => state[BYTES_LOST_IN_ROUND] = state[TOTAL_LOST] + 1,
                 false => state[MAX_DELIVERED] = state[TOTAL_ACKED] + 1,
             },
-            UpTo(limit) => state[field] = self.past(limit),
-            Bound => state[field] = self.past(BYTES).min(UNSET - 1),
-            Gain => state[field] = self.no_float() as u64,
+            UpTo(limit) => state[field] = past(&mut self.random, limit),
+            Bound => state[field] = past(&mut self.random, BYTES).min(UNSET - 1),
+            Gain => state[field] = no_float(&mut self.random) as u64,
         }
         if let Some(set) = set {
             state[set] = 1;
         }
+    }
+}
+
+/// A number past this limit, or the largest.
+pub fn past(random: &mut Random, limit: u64) -> u64 {
+    match random.below(6) {
+        0 => u64::MAX,
+        1 => u64::MAX - 1,
+        2 => limit + random.of_length(20),
+        _ => limit + 1,
+    }
+}
+
+/// Bits of a float that is outside the bounds of gains and of most parameters,
+/// mostly.
+pub fn no_float(random: &mut Random) -> u32 {
+    let outside = [
+        0,
+        1,
+        0x8000_0000,
+        0x8000_0001,
+        bits(LEAST_GAIN) - 1,
+        bits(MOST_GAIN) + 1,
+        bits(MOST_BETA) + 1,
+        bits(1.0) + 1,
+        bits(1.0) - 1,
+        bits(-1.0),
+        bits(f32::MAX),
+        bits(f32::INFINITY),
+        bits(f32::NEG_INFINITY),
+        0x7fc0_0000,
+        0xffc0_0000,
+        0x7f80_0001,
+        0xffbf_ffff,
+    ];
+    match random.one_in(4) {
+        true => random.next() as u32,
+        false => random.pick(&outside),
     }
 }
 

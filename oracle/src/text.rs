@@ -113,6 +113,14 @@ pub fn word(step: &Step, word: usize) -> String {
     }
 }
 
+/// A number in the word of an answer, as it is read.
+pub fn shown(word: usize, number: u64) -> String {
+    match word {
+        REPLY_IN_ANSWER => replies::shown(number),
+        _ => number.to_string(),
+    }
+}
+
 /// The name of the step's call.
 pub fn name(step: &Step) -> &'static str {
     let number = numbers(step)[0];
@@ -211,8 +219,8 @@ fn parse(call: &str, arguments: &[&str]) -> Result<Step, String> {
     if !fits {
         return Err("the number of arguments, or an index, doesn't fit.".to_string());
     }
-    if number == WORDS && replies::malformed(&parsed, &[0; FIELDS]).is_none() {
-        return Err("the words are those of a call, which has a name.".to_string());
+    if number == WORDS && replies::to_words(&parsed, 0, &[0; FIELDS]).is_none() {
+        return Err("the words are those of a call that isn't refused for them.".to_string());
     }
     let step = step(number, &parsed);
     if numbers(&step)[1..][..parsed.len()] != parsed {

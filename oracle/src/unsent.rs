@@ -158,7 +158,7 @@ impl Unsent {
         );
         self.mark(
             "refused with 2, and a number was never sent",
-            reply == 2 && never_sent,
+            replies::row(reply) == 2 && never_sent,
         );
         self.mark(
             "refused with 3, and a number was never sent",

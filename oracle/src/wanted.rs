@@ -2,15 +2,20 @@
 
 use std::collections::BTreeMap;
 
-pub struct Wanted(BTreeMap<&'static str, u64>);
+pub struct Wanted(BTreeMap<String, u64>);
 
 impl Wanted {
-    pub fn new(all: &[&'static str]) -> Self {
-        Wanted(all.iter().map(|&what| (what, 0)).collect())
+    pub fn new<T: ToString>(all: &[T]) -> Self {
+        Wanted(all.iter().map(|what| (what.to_string(), 0)).collect())
+    }
+
+    /// Counts `what`, wanted or not.
+    pub fn count(&mut self, what: String) {
+        *self.0.entry(what).or_default() += 1;
     }
 
     /// Counts `what` if it holds; stops if it is none of them.
-    pub fn mark(&mut self, what: &'static str, holds: bool) {
+    pub fn mark(&mut self, what: &str, holds: bool) {
         *self.0.get_mut(what).expect(what) += u64::from(holds);
     }
 
@@ -19,6 +24,14 @@ impl Wanted {
         for (what, count) in &self.0 {
             eprintln!("{of}{count:4} x {what}");
         }
+    }
+
+    /// How many things there are, and the one that occurs least often, with how
+    /// often it does.
+    pub fn rarest(&self) -> (usize, &str, u64) {
+        let rarest = self.0.iter().min_by_key(|(_, &count)| count);
+        let (what, &count) = rarest.expect("nothing is wanted");
+        (self.0.len(), what, count)
     }
 
     /// Stops if one occurs less often than this.

@@ -10,6 +10,7 @@ use guovssalu_sys::table::PAIR_WORDS;
 use guovssalu_sys::table::WORD_BYTES;
 
 use crate::frame;
+use crate::places;
 use crate::recovery::gcongestion::WindowedFilter;
 
 /// A windowed filter: its window, whether it is full, and sample and time of
@@ -197,7 +198,7 @@ pub fn operate(filter: &mut Filter, op: u64, x: u64, y: u64) {
 pub fn run(window: u64, pairs: &[u8], lent: usize) -> (u64, Vec<u64>, Vec<Updated>) {
     let none = |reply| (reply, Vec::new(), Vec::new());
     if pairs.len() % PAIR_BYTES != 0 {
-        return none(reply::BAD_ARGUMENT);
+        return none(places::PAIRS_LENGTH.reply());
     }
     let mut filter = [0; 8];
     operate(&mut filter, 0, window, 0);

@@ -4,7 +4,6 @@
 use guovssalu_sys::table::reason;
 use guovssalu_sys::table::reply;
 use guovssalu_sys::table::ANSWER_WORDS;
-use guovssalu_sys::table::ARGUMENTS_IN_CALL;
 use guovssalu_sys::table::EVENT_IN_ANSWER;
 use guovssalu_sys::table::EVENT_IN_CALL;
 use guovssalu_sys::table::NUMBER_IN_CALL;
@@ -13,6 +12,8 @@ use guovssalu_sys::table::REPLY_IN_ANSWER;
 use guovssalu_sys::table::SLOPE_BYTES;
 use guovssalu_sys::table::VALUE_IN_ANSWER;
 
+use crate::bounds::BYTES;
+use crate::bounds::UP_ROUNDS;
 use crate::frame;
 use crate::frame::Answer;
 use crate::frame::Asked;
@@ -37,6 +38,8 @@ use crate::model::Sample;
 use crate::model::Start;
 use crate::model::State;
 use crate::model::FIELDS;
+use crate::named::Named;
+use crate::places;
 use crate::reasons::Tally;
 use crate::recovery::gcongestion::Host;
 use crate::replies;
@@ -53,7 +56,7 @@ const UNTOUCHED: u8 = 165;
 pub enum Step {
     /// A call, or what sets the record.
     Call(Call),
-    /// A call that is refused for its words, which are these.
+    /// A call that is refused for its words, which are these: in every state.
     Words(Vec<u64>),
     /// Puts numbers into the state and, from its length on, the parameters.
     Put(Vec<(usize, u64)>),
@@ -90,6 +93,8 @@ pub struct World {
     pub tally: Tally,
     /// What the events so far show of numbers that were never sent.
     pub unsent: Unsent,
+    /// What the refusals with 2 so far have named.
+    pub named: Named,
 }
 
 impl World {
@@ -103,6 +108,7 @@ impl World {
             filter: [0; 8],
             tally: Tally::default(),
             unsent: Unsent::new(),
+            named: Named::new(),
         };
         world.host.put(&world.state, &usual);
         world
@@ -126,29 +132,26 @@ impl World {
 
     /// The words in which the port is asked the step, if it is.
     fn words(&self, step: &Step) -> Option<CallWords> {
-        let record = &self.state[CARRIED..];
-        let words = |numbers: &[u64], start: &Start| {
-            frame::call(
-                numbers[NUMBER_IN_CALL],
-                &numbers[ARGUMENTS_IN_CALL..],
-                record,
-                &start.parameters(),
-            )
+        let words = |number: u64, arguments: &[u64]| {
+            let parameters = self.start.parameters();
+            frame::call(number, arguments, &self.state[CARRIED..], &parameters)
         };
         match step {
             Step::Put(_) | Step::Call(Call::Record(_)) => None,
-            Step::Call(call @ Call::Start(start)) => Some(words(&call.numbers(), start)),
-            Step::Call(call) => Some(words(&call.numbers(), &self.start)),
+            Step::Call(call @ Call::Start(start)) => {
+                Some(places::words_of(call, &self.state, start))
+            }
+            Step::Call(call) => Some(places::words_of(call, &self.state, &self.start)),
             Step::Words(words) => words[..].try_into().ok(),
             Step::Filter { op, x, y } => {
-                let numbers = [&[WINDOWED_FILTER, *op, *x, *y], &self.filter[..]].concat();
-                Some(words(&numbers, &self.start))
+                let arguments = [&[*op, *x, *y], &self.filter[..]].concat();
+                Some(words(WINDOWED_FILTER, &arguments))
             }
             Step::Numbers {
                 function,
                 first,
                 other,
-            } => Some(words(&[NUMBERS, *function, *first, *other], &self.start)),
+            } => Some(words(NUMBERS, &[*function, *first, *other])),
             Step::FilterRun {
                 window,
                 length,
@@ -170,7 +173,7 @@ impl World {
     pub fn answer_to(&mut self, step: &Step) -> Answer {
         match step {
             Step::Call(call) => self.call(call),
-            Step::Words(words) => self.refused(words),
+            Step::Words(words) => self.refused(words, 0),
             Step::Put(_) => unreachable!("numbers are put apart"),
             Step::Filter { op: 2, x, y } => {
                 let updated = windowed::update(&mut self.filter, *x, *y);
@@ -205,6 +208,7 @@ impl World {
                 let pairs = &frame::bytes(words)[..*length as usize];
                 let (reply, words, updates) = windowed::run(*window, pairs, *lent as usize);
                 self.tally.add(&updates);
+                self.named.look_at_filter_run(reply);
                 memory(reply, &words)
             }
             Step::Slope {
@@ -213,6 +217,7 @@ impl World {
                 lent,
             } => {
                 let (reply, numbers) = slope(*rounds, *window, *lent);
+                self.named.look_at_slope(*window, reply);
                 memory(reply, &numbers)
             }
         }
@@ -250,14 +255,23 @@ impl World {
         self.answer(reply, 0, &self.state[CARRIED..])
     }
 
-    /// Takes a call that is refused for its words. The record comes back as it
-    /// is, and the parameters of the next calls are still those of the start.
-    fn refused(&mut self, words: &[u64]) -> Answer {
-        let reply = replies::malformed(words, &self.state);
-        let reply = reply.expect("the words make no call");
+    /// Takes a call that is refused for its words, in a run that is lent lists of
+    /// so many words. The record comes back as it is, and the parameters of the
+    /// next calls are still those of the start.
+    pub fn refused(&mut self, words: &[u64], lists: usize) -> Answer {
+        let reply = replies::to_words(words, lists, &self.state);
+        let reply = reply.expect("the call isn't refused for its words");
+        self.named.look(words, lists, &self.state, reply);
         match words[NUMBER_IN_CALL] {
             START => {
-                self.look(&Call::Start(replies::REFUSED_START), &[], reply);
+                let World {
+                    state,
+                    start,
+                    unsent,
+                    ..
+                } = self;
+                let refused = Call::Start(replies::REFUSED_START);
+                unsent.look(&refused, &[], state, start, reply);
                 self.start_refused();
                 self.answer(reply, 0, &[])
             }
@@ -272,9 +286,11 @@ impl World {
             state,
             start,
             unsent,
+            named,
             ..
         } = self;
         unsent.look(call, acked, state, start, reply);
+        named.look(&places::words_of(call, state, start), 0, state, reply);
     }
 
     /// Leaves what a refused start does.
@@ -378,11 +394,11 @@ fn memory(reply: u64, written: &[u64]) -> Answer {
 /// bytes that the original's cycle has after it.
 fn slope(rounds: u64, window: u64, lent: u64) -> (u64, Vec<u64>) {
     let none = |reply| (reply, Vec::new());
-    if rounds > replies::UP_ROUNDS {
+    if rounds > UP_ROUNDS {
         return none(reply::OUT_OF_BOUNDS);
     }
-    if window > replies::BYTES {
-        return none(reply::BAD_ARGUMENT);
+    if window > BYTES {
+        return none(places::SLOPE_WINDOW.reply());
     }
     if lent < SLOPE_BYTES as u64 {
         return none(reply::SHORT_OUTPUT);

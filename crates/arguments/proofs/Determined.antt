@@ -20,5 +20,8 @@ one-event-event-words κ a x y s t p q = p ∙ sym q
 pub one-sample-sample-from : OneReply sample.sample_from.Reads.Learnt
 one-sample-sample-from κ a x y s t p q = p ∙ sym q
 
+pub one-sample-acked-fits : OneReply sample.acked_fits.Reads.Learnt
+one-sample-acked-fits κ a x y s t p q = p ∙ sym q
+
 pub one-sample-greatest-acked : OneReply sample.greatest_acked.Reads.Learnt
 one-sample-greatest-acked κ a x y s t p q = p ∙ sym q

@@ -46,7 +46,7 @@ fn sample_fits(n: &[u64; 49], lists: &[u64]) -> bool
 }
 
 // Whether there are as many acked numbers as the count says: up to three in the call, more in the lists.
-fn acked_fits(n: &[u64; 49], lists: &[u64]) -> bool
+pub fn acked_fits(n: &[u64; 49], lists: &[u64]) -> bool
     requires { ⌜ length (now n) ≡ 49 ⌝ }
     ensures { λ r. ⌜ r ≡ ackedFits (now (n .entry) ++ now (lists .entry)) ⌝ }
 {

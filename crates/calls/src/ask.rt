@@ -20,8 +20,26 @@ use units::Bandwidth;
 use words::word::flag_word;
 use words::word::float_word;
 
+// The row of a call's reply, and its answer.
+pub struct Answer {
+    pub row: u64,
+    pub value: u64,
+}
+
 // Calls 10 to 13 and 23 to 38; `n` is a bandwidth. Any other number is refused.
-pub fn ask(model: NetworkModel, params: Params, call: u64, n: u64, gain: f32) -> Number
+pub fn ask(model: NetworkModel, params: Params, call: u64, n: u64, gain: f32) -> Answer
+    ensures row { λ r. ⌜ r .row ≡ askOf call n gain model params .number ⌝ }
+    ensures value { λ r. ⌜ r .value ≡ settled (askOf call n gain model params .number) (askOf call n gain model params .value) 0 ⌝ }
+{
+    let read = ask_one(model, params, call, n, gain);
+    let reply = read.reply;
+    Answer {
+        row: reply.row(),
+        value: read.value,
+    }
+}
+
+fn ask_one(model: NetworkModel, params: Params, call: u64, n: u64, gain: f32) -> Number
     ensures reply { λ r. ⌜ number (r .reply) ≡ askOf call n gain model params .number ⌝ }
     ensures value { λ r. ⌜ r .value ≡ settled (askOf call n gain model params .number) (askOf call n gain model params .value) 0 ⌝ }
 {

@@ -9,8 +9,27 @@ use state::NetworkModel;
 use state::network_model::Changed;
 use units::Duration;
 
+// The row of a call's reply, and the model after it.
+pub struct Left {
+    pub row: u64,
+    pub model: NetworkModel,
+}
+
 // Calls 8 and 14 to 22; `gain` is n's f32. Any other number is refused.
-pub fn change(model: NetworkModel, call: u64, n: u64, gain: f32) -> Changed
+pub fn change(model: NetworkModel, call: u64, n: u64, gain: f32) -> Left
+    ensures row { λ r. ⌜ r .row ≡ changeOf call n gain model .number ⌝ }
+    ensures model { λ r. ⌜ r .model ≡ settled (changeOf call n gain model .number) (changeOf call n gain model .next) model ⌝ }
+{
+    let changed = change_one(model, call, n, gain);
+    let reply = changed.reply;
+    let next = changed.model;
+    Left {
+        row: reply.row(),
+        model: next,
+    }
+}
+
+fn change_one(model: NetworkModel, call: u64, n: u64, gain: f32) -> Changed
     ensures reply { λ r. ⌜ number (r .reply) ≡ changeOf call n gain model .number ⌝ }
     ensures model { λ r. ⌜ r .model ≡ settled (changeOf call n gain model .number) (changeOf call n gain model .next) model ⌝ }
 {

@@ -20,8 +20,39 @@ use units::Moment;
 use words::word::flag_fits;
 use words::word::or_outside;
 
+// The row of a call's reply, and the model and the cycle after it.
+pub struct Reached {
+    pub row: u64,
+    pub model: NetworkModel,
+    pub cycle: Cycle,
+}
+
 // Calls 40 to 45, with the numbers that they are given. Any other number is refused.
 pub fn enter(
+    model: NetworkModel,
+    cycle: Cycle,
+    params: Params,
+    call: u64,
+    a: u64,
+    b: u64,
+    c: u64,
+) -> Reached
+    ensures row { λ r. ⌜ r .row ≡ enterOf call a b c model cycle params .number ⌝ }
+    ensures model { λ r. ⌜ r .model ≡ settled (enterOf call a b c model cycle params .number) (enterOf call a b c model cycle params .model) model ⌝ }
+    ensures cycle { λ r. ⌜ r .cycle ≡ settled (enterOf call a b c model cycle params .number) (enterOf call a b c model cycle params .cycle) cycle ⌝ }
+{
+    let entered = enter_one(model, cycle, params, call, a, b, c);
+    let reply = entered.reply;
+    let next = entered.model;
+    let after = entered.cycle;
+    Reached {
+        row: reply.row(),
+        model: next,
+        cycle: after,
+    }
+}
+
+fn enter_one(
     model: NetworkModel,
     cycle: Cycle,
     params: Params,

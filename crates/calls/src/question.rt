@@ -13,8 +13,37 @@ use state::answers::Flag;
 use state::congestion_event::CongestionEvent;
 use state::network_model::Changed;
 
+// The row of a call's reply, the model after it, and its answer.
+pub struct Judgement {
+    pub row: u64,
+    pub model: NetworkModel,
+    pub yes: bool,
+}
+
 // Calls 5 to 7 and 9; `limit` is the call's number, `gain` its f32. Any other number is refused.
 pub fn judge(
+    model: NetworkModel,
+    params: Params,
+    event: CongestionEvent,
+    call: u64,
+    limit: u64,
+    gain: f32,
+) -> Judgement
+    ensures row { λ r. ⌜ r .row ≡ judgeOf call limit gain model params event .number ⌝ }
+    ensures model { λ r. ⌜ r .model ≡ settled (judgeOf call limit gain model params event .number) (judgeOf call limit gain model params event .next) model ⌝ }
+    ensures yes { λ r. ⌜ r .yes ≡ settled (judgeOf call limit gain model params event .number) (judgeOf call limit gain model params event .yes) false ⌝ }
+{
+    let decided = judge_one(model, params, event, call, limit, gain);
+    let reply = decided.reply;
+    let next = decided.model;
+    Judgement {
+        row: reply.row(),
+        model: next,
+        yes: decided.yes,
+    }
+}
+
+fn judge_one(
     model: NetworkModel,
     params: Params,
     event: CongestionEvent,

@@ -3,17 +3,12 @@ ghost use mathlib.Core.Path.{_≡_};
 ghost use Rattle.units.specs.Reply.{number};
 ghost use Rattle.calls.specs.Unknown.{unknownNumber};
 use state::NetworkModel;
-use state::refusals::Rows;
-use state::refusals::refusal;
+use state::faults::NO_CALL;
 use units::Reply;
 
 // The reply to it.
 pub(crate) fn unknown(model: NetworkModel) -> Reply
     ensures { λ r. ⌜ number r ≡ unknownNumber model ⌝ }
 {
-    refusal(Rows {
-        stored: !model.ok(),
-        argument: true,
-        ..Rows::NONE
-    })
+    model.given(false, NO_CALL)
 }

@@ -17,11 +17,11 @@ pub one-event-start :
 one-event-start κ a x y s t p q = (p .0 ∙ sym (q .0), p .1 ∙ sym (q .1))
 
 pub one-event-finish :
-    (κ : Lfts 2) (a : Dens κ call.event_finish.Kinds.ps) (x y : resT call.event_finish.Kinds.r κ .Denot) (s t : AtExit (endedOf 2 call.event_finish.Kinds.ps call.event_finish.Kinds.r) κ) →
-    call.event_finish.Reads.Learnt κ a x s → call.event_finish.Reads.Learnt κ a y t → (x ≡ y) × (now (s .1 .1 .1 .1 .0) ≡ now (t .1 .1 .1 .1 .0))
+    (κ : Lfts 3) (a : Dens κ call.event_finish.Kinds.ps) (x y : resT call.event_finish.Kinds.r κ .Denot) (s t : AtExit (endedOf 3 call.event_finish.Kinds.ps call.event_finish.Kinds.r) κ) →
+    call.event_finish.Reads.Learnt κ a x s → call.event_finish.Reads.Learnt κ a y t → (x ≡ y) × (now (s .1 .1 .1 .1 .1 .0) ≡ now (t .1 .1 .1 .1 .1 .0))
 one-event-finish κ a x y s t p q = (p .0 ∙ sym (q .0), p .1 ∙ sym (q .1))
 
 pub one-other :
-    (κ : Lfts 2) (a : Dens κ call.other.Kinds.ps) (x y : resT call.other.Kinds.r κ .Denot) (s t : AtExit (endedOf 2 call.other.Kinds.ps call.other.Kinds.r) κ) →
-    call.other.Reads.Learnt κ a x s → call.other.Reads.Learnt κ a y t → (x ≡ y) × (now (s .1 .1 .1 .1 .0) ≡ now (t .1 .1 .1 .1 .0))
+    (κ : Lfts 3) (a : Dens κ call.other.Kinds.ps) (x y : resT call.other.Kinds.r κ .Denot) (s t : AtExit (endedOf 3 call.other.Kinds.ps call.other.Kinds.r) κ) →
+    call.other.Reads.Learnt κ a x s → call.other.Reads.Learnt κ a y t → (x ≡ y) × (now (s .1 .1 .1 .1 .1 .0) ≡ now (t .1 .1 .1 .1 .1 .0))
 one-other κ a x y s t p q = (p .0 ∙ sym (q .0), p .1 ∙ sym (q .1))

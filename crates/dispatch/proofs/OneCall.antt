@@ -3,7 +3,10 @@ use Prim.Native.Nat.{ℕ}
 use mathlib.Core.Bool.{Bool, true, false, cond}
 use mathlib.Core.List.{List}
 use mathlib.Core.Path.{_≡_, refl}
+use native.Mathlib.Omega.{arith}
 use lib.Dec.{eqb, leb}
+use Rattle.units.specs.Reply.{replyWord}
+use Rattle.state.specs.Faults.{named, replied}
 use lib.ListN.{length, getD}
 use Rattle.state.specs.declared.network_model.NetworkModel.{NetworkModel}
 use Rattle.state.specs.Answers.{settled}
@@ -38,3 +41,12 @@ left-by k n e next old given p q = rw (p, q) (go (eqb n 0))
     go : (t : Bool) → cond t (eventWords (cond t next old)) given ≡ cond t (eventWords next) given
     go true = refl
     go false = refl
+
+-- ---- the word of a reply, by its row
+pub plain-word : (row x : ℕ) → eqb row 2 ≡ false → row ≡ replied row x
+unfolding named
+plain-word row x h = rw h (omega arith)
+
+pub blamed-word : (row x : ℕ) → row ≡ 2 → replyWord 2 x ≡ replied row x
+unfolding named
+blamed-word row x h = rw h

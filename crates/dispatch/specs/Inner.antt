@@ -8,7 +8,8 @@ use Rattle.state.specs.declared.network_model.NetworkModel.{NetworkModel}
 use Rattle.state.specs.declared.cycle.Cycle.{Cycle}
 use Rattle.words.specs.Word.{word}
 use Rattle.dispatch.specs.declared.outcome.Outcome.{Outcome}
-use Rattle.dispatch.specs.Outcome.{isJudged, isAsked, startOutcome, judgeOutcome, askOutcome, enterOutcome, changeOutcome}
+use Rattle.state.specs.Faults.{first, replied, sentFaults}
+use Rattle.dispatch.specs.Outcome.{sendNumber, isJudged, isAsked, startOutcome, judgeOutcome, askOutcome, enterOutcome, changeOutcome}
 
 -- all calls but 1, 3 and 4
 unfoldable pub otherOutcome : List ℕ → NetworkModel → Cycle → Outcome
@@ -17,3 +18,7 @@ otherOutcome w m y =
     (cond (isJudged (word w 0)) (judgeOutcome w m y)
     (cond (isAsked (word w 0)) (askOutcome w m y)
     (cond (leb 40 (word w 0)) (enterOutcome w m y) (changeOutcome w m y))))
+
+-- the word of a send's reply, from the words that it reads
+unfoldable pub sendWord : List ℕ → NetworkModel → ℕ
+sendWord w m = replied (sendNumber w m) (first (sentFaults (record { 0 = word w 1 }) (word w 2) (word w 4)))

@@ -108,12 +108,11 @@ fn judged(model: NetworkModel, cycle: Cycle, n: &[u64; 49]) -> Outcome
         n[1],
         float_of(n[1]),
     );
-    let reply = decided.reply;
     let next = decided.model;
     Outcome {
         model: next,
         cycle,
-        reply: reply.row(),
+        reply: decided.row,
         value: flag_word(decided.yes),
         event: no_event(),
     }
@@ -123,11 +122,10 @@ fn asked(model: NetworkModel, cycle: Cycle, n: &[u64; 49]) -> Outcome
     ensures { λ r. ⌜ r ≡ askOutcome (now (n .entry)) model cycle ⌝ }
 {
     let answer = ask(model, params_from(n), n[0], n[1], float_of(n[2]));
-    let reply = answer.reply;
     Outcome {
         model,
         cycle,
-        reply: reply.row(),
+        reply: answer.row,
         value: answer.value,
         event: no_event(),
     }
@@ -137,13 +135,12 @@ fn entered(model: NetworkModel, cycle: Cycle, n: &[u64; 49]) -> Outcome
     ensures { λ r. ⌜ r ≡ enterOutcome (now (n .entry)) model cycle ⌝ }
 {
     let entered = enter(model, cycle, params_from(n), n[0], n[1], n[2], n[3]);
-    let reply = entered.reply;
     let next = entered.model;
     let after = entered.cycle;
     Outcome {
         model: next,
         cycle: after,
-        reply: reply.row(),
+        reply: entered.row,
         value: 0,
         event: no_event(),
     }
@@ -153,12 +150,11 @@ fn changed(model: NetworkModel, cycle: Cycle, n: &[u64; 49]) -> Outcome
     ensures { λ r. ⌜ r ≡ changeOutcome (now (n .entry)) model cycle ⌝ }
 {
     let changed = change(model, n[0], n[1], float_of(n[1]));
-    let reply = changed.reply;
     let next = changed.model;
     Outcome {
         model: next,
         cycle,
-        reply: reply.row(),
+        reply: changed.row,
         value: 0,
         event: no_event(),
     }

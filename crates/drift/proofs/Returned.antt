@@ -55,22 +55,22 @@ both-made s t k got next turned entered p r q = q ∙ (λ i. record { model = p 
 -- ---- the calls, by what their contracts say
 made-other : (c : Other) (s t : State) → MadeOther c s t → t ≡ settled (otherNumber c s) (otherNext c s) s
 unfolding otherNumber otherNext
-made-other (Calls.sent time inflight packet bytes) s t r = let q = said _ _ _ t r in model-made s t _ _ _ (q .3 .1) (q .4)
-made-other (Calls.finish e) s t r = let q = said _ _ _ t r in model-made s t _ _ _ (q .3 .1) (q .4)
+made-other (Calls.sent time inflight packet bytes) s t r = let q = said _ _ _ t r in model-made s t _ _ _ (q .3 .1 .0) (q .4)
+made-other (Calls.finish e) s t r = let q = said _ _ _ t r in model-made s t _ _ _ (q .3 .1 .0) (q .4)
 made-other (Calls.expire p e) s t r = let q = said _ _ _ t r in model-made s t _ _ _ (q .3 .1 .0) (q .4)
 made-other (Calls.growth p e) s t r = let q = said _ _ _ t r in model-made s t _ _ _ (q .3 .1 .0) (q .4)
-made-other (Calls.queue p gain) s t r = let q = said _ _ _ t r in model-made s t _ _ _ (q .3 .1) (q .4)
+made-other (Calls.queue p gain) s t r = let q = said _ _ _ t r in model-made s t _ _ _ (q .3 .1 .0) (q .4)
 made-other Calls.restart s t r = let q = said _ _ _ t r in model-made s t _ _ _ (q .3 .1) (q .4)
 made-other Calls.reached s t r = let q = said _ _ _ t r in model-made s t _ _ _ (q .3 .1) (q .4)
-made-other (Calls.pacing gain) s t r = let q = said _ _ _ t r in model-made s t _ _ _ (q .3 .1) (q .4)
-made-other (Calls.cwnd gain) s t r = let q = said _ _ _ t r in model-made s t _ _ _ (q .3 .1) (q .4)
-made-other (Calls.high bytes) s t r = let q = said _ _ _ t r in model-made s t _ _ _ (q .3 .1) (q .4)
+made-other (Calls.pacing gain) s t r = let q = said _ _ _ t r in model-made s t _ _ _ (q .3 .1 .0) (q .4)
+made-other (Calls.cwnd gain) s t r = let q = said _ _ _ t r in model-made s t _ _ _ (q .3 .1 .0) (q .4)
+made-other (Calls.high bytes) s t r = let q = said _ _ _ t r in model-made s t _ _ _ (q .3 .1 .0) (q .4)
 made-other Calls.advance s t r = let q = said _ _ _ t r in model-made s t _ _ _ (q .3 .1) (q .4)
-made-other (Calls.postpone d) s t r = let q = said _ _ _ t r in model-made s t _ _ _ (q .3 .1) (q .4)
-made-other (Calls.down p hi risky time) s t r = let q = said _ _ _ t r in both-made s t _ _ _ _ _ (q .3 .1 .0) (q .3 .1 .1) (q .4)
-made-other (Calls.up time window) s t r = let q = said _ _ _ t r in both-made s t _ _ _ _ _ (q .3 .1 .0) (q .3 .1 .1) (q .4)
+made-other (Calls.postpone d) s t r = let q = said _ _ _ t r in model-made s t _ _ _ (q .3 .1 .0) (q .4)
+made-other (Calls.down p hi risky time) s t r = let q = said _ _ _ t r in both-made s t _ _ _ _ _ (q .3 .1 .0) (q .3 .1 .1 .0) (q .4)
+made-other (Calls.up time window) s t r = let q = said _ _ _ t r in both-made s t _ _ _ _ _ (q .3 .1 .0) (q .3 .1 .1 .0) (q .4)
 made-other Calls.exit s t r = let q = said _ _ _ t r in both-made s t _ _ _ _ _ (q .3 .1 .0) (q .3 .1 .1) (q .4)
-made-other (Calls.slope window) s t r = let q = said _ _ _ t r in cycle-made s t _ _ _ (q .3 .1) (q .4)
+made-other (Calls.slope window) s t r = let q = said _ _ _ t r in cycle-made s t _ _ _ (q .3 .1 .0) (q .4)
 
 event-same : {m m′ : NetworkModel} {p p′ : Params} {e e′ : CongestionEvent} {y y′ : CongestionEventSample} {l l′ : List ℕ} → m ≡ m′ → p ≡ p′ → e ≡ e′ → y ≡ y′ → l ≡ l′
     → settled (eventNumber m p e y l) (modelNext m p e y l) m ≡ settled (eventNumber m′ p′ e′ y′ l′) (modelNext m′ p′ e′ y′ l′) m′
@@ -83,11 +83,11 @@ event-made p e y acked s t r =
 made : (c : Call) (s t : State) → Made c s t → t ≡ after c s
 unfolding after numberOf nextOf
 made (Calls.event p e y acked) s t r = event-made p e y acked s t r
-made (Calls.cap bytes) s t r = let q = said _ _ _ t r in model-made s t _ _ _ (q .3 .1) (q .4)
+made (Calls.cap bytes) s t r = let q = said _ _ _ t r in model-made s t _ _ _ (q .3 .1 .0) (q .4)
 made Calls.clearInflight s t r = let q = said _ _ _ t r in model-made s t _ _ _ (q .3 .1) (q .4)
 made Calls.clearBandwidth s t r = let q = said _ _ _ t r in model-made s t _ _ _ (q .3 .1) (q .4)
-made (Calls.cruise time) s t r = let q = said _ _ _ t r in both-made s t _ _ _ _ _ (q .3 .1 .0) (q .3 .1 .1) (q .4)
-made (Calls.refill rounds time) s t r = let q = said _ _ _ t r in both-made s t _ _ _ _ _ (q .3 .1 .0) (q .3 .1 .1) (q .4)
+made (Calls.cruise time) s t r = let q = said _ _ _ t r in both-made s t _ _ _ _ _ (q .3 .1 .0) (q .3 .1 .1 .0) (q .4)
+made (Calls.refill rounds time) s t r = let q = said _ _ _ t r in both-made s t _ _ _ _ _ (q .3 .1 .0) (q .3 .1 .1 .0) (q .4)
 made (Calls.other c) s t r = made-other c s t r
 
 ran : (calls : List Call) (s t : State) → Ran calls s t → t ≡ run calls s
@@ -102,7 +102,7 @@ begun : (p : Params) (rtt : Duration) (time : Moment) (s : State) → Begun p rt
 unfolding started
 begun p rtt time s r =
     let m = r .5 in
-    let model : s .model ≡ startModel p rtt time = m .1 ∙ r .4 .1 ∙ start-same (λ i. m .0 i .0) (λ i. m .0 i .1 .0) (λ i. m .0 i .1 .1 .0) in
+    let model : s .model ≡ startModel p rtt time = m .1 ∙ r .4 .1 .0 ∙ start-same (λ i. m .0 i .0) (λ i. m .0 i .1 .0) (λ i. m .0 i .1 .1 .0) in
     λ i. record { model = model i; cycle = s .cycle }
 
 -- what holds of a start and of where its run ends, over the definitions, holds of the code

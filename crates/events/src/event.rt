@@ -3,11 +3,12 @@ ghost use mathlib.Core.Path.{_≡_};
 ghost use mathlib.Core.Bool.{true, false};
 ghost use Prim.Native.Nat.{_+_, _-_, _^_, _<_};
 ghost use lib.Dec.{ltb, eqb};
-ghost use Rattle.units.specs.Reply.{number};
+ghost use Rattle.units.specs.Reply.{number, fault};
 ghost use Rattle.filters.specs.RoundTripCounter.{listed};
 ghost use Rattle.state.specs.Answers.{settled};
+ghost use Rattle.state.specs.Faults.{first, named, startedFaults, eventFaults, wholeRecord, wholeSample};
 ghost use Rattle.state.specs.NetworkModel.{modelOk};
-ghost use Rattle.events.specs.Event.{cwndlimitedAfter, stateAfter, isChanged, maxbwAfter, bandwidthAfter, minrttAfter, rttAfter, deliveredBy, roundAfter, raisedBandwidth, latestRaised, seedOf, startOf, newestOf, latestAfter, eventAfter, eventNext, maxbwNext, roundNext, adaptLowerBounds, modelAfter, modelNext, isLower, isUnsent, isFull, eventNumber, finishNumber, finishNext};
+ghost use Rattle.events.specs.Event.{cwndlimitedAfter, stateAfter, isChanged, maxbwAfter, bandwidthAfter, minrttAfter, rttAfter, deliveredBy, roundAfter, raisedBandwidth, latestRaised, seedOf, startOf, newestOf, latestAfter, eventAfter, eventNext, maxbwNext, roundNext, adaptLowerBounds, modelAfter, modelNext, isLower, isUnsent, isFull, eventRows, eventNumber, finishNumber, finishNext};
 use filters::MaxBandwidthFilter;
 use filters::MinRttFilter;
 use filters::RoundTripCounter;
@@ -21,12 +22,16 @@ use state::bounds::UNSET;
 use state::congestion_event::CongestionEvent;
 use state::congestion_event::CongestionEventSample;
 use state::congestion_event::SendTimeState;
+use state::faults::RecordFits;
+use state::faults::SampleFits;
+use state::faults::started_fault;
 use state::network_model::Changed;
 use state::parts::Latest;
 use state::parts::Lower;
 use state::parts::Rates;
 use state::parts::Round;
 use state::refusals::Rows;
+use state::refusals::first_row;
 use state::refusals::refusal;
 use units::Bandwidth;
 use units::MaybeBandwidth;
@@ -59,12 +64,31 @@ pub fn on_congestion_event_start(
     ensures event { λ r. ⌜ r .event ≡ settled (eventNumber model params event sample (now (acked .entry)))
         (eventNext model event sample (now (acked .entry)))
         event ⌝ }
+    ensures fault { λ r. ⌜ fault (r .reply) ≡ named (eventNumber model params event sample (now (acked .entry)))
+        (first (startedFaults true wholeRecord event wholeSample sample)) ⌝ }
 {
     let most = greatest_of(acked);
-    start_tested(model, model.ok(), params, event, sample, most)
+    let fine = model.ok();
+    let reply = event_reply(model, fine, params, event, sample, most);
+    let happened = start_tested(model, fine, params, event, sample, most);
+    let next = happened.model;
+    let after = happened.event;
+    Started {
+        reply,
+        model: next,
+        event: after,
+    }
 }
 
-// The same, where it is known whether the model is within its bounds, and which of the acked numbers is the greatest.
+// The row of an event's reply, the model after it, and the record.
+pub struct Happened {
+    pub row: u64,
+    pub model: NetworkModel,
+    pub event: CongestionEvent,
+}
+
+// The same for a run, where it is known whether the model is within its bounds, and which of the acked numbers is the
+// greatest.
 pub fn start_tested(
     model: NetworkModel,
     fine: bool,
@@ -72,9 +96,9 @@ pub fn start_tested(
     event: CongestionEvent,
     sample: CongestionEventSample,
     most: MaybeNumber,
-) -> Started
+) -> Happened
     requires { ⌜ fine ≡ modelOk model ⌝ }
-    ensures reply { λ r. ⌜ number (r .reply) ≡ eventNumber model params event sample (listed most) ⌝ }
+    ensures row { λ r. ⌜ r .row ≡ eventNumber model params event sample (listed most) ⌝ }
     ensures model { λ r. ⌜ r .model ≡ settled (eventNumber model params event sample (listed most))
         (modelNext model params event sample (listed most))
         model ⌝ }
@@ -82,18 +106,18 @@ pub fn start_tested(
         (eventNext model event sample (listed most))
         event ⌝ }
 {
-    let reply = event_reply(model, fine, params, event, sample, most);
+    let row = event_row(model, fine, params, event, sample, most);
     let mut next = model;
     let mut after = event;
-    if reply.is_done() {
+    if row == 0 {
         let rounds = model.rounds;
         let answer = rounds.on_greatest_acked(most);
         let counter = answer.counter;
         after = event_after(model, event, sample, answer.ended);
         next = model_after(model, params, after, sample, counter);
     }
-    Started {
-        reply,
+    Happened {
+        row,
         model: next,
         event: after,
     }
@@ -111,17 +135,50 @@ fn event_reply(
 ) -> Reply
     requires { ⌜ fine ≡ modelOk model ⌝ }
     ensures { λ r. ⌜ number r ≡ eventNumber model params event sample (listed most) ⌝ }
+    ensures { λ r. ⌜ fault r ≡ named (eventNumber model params event sample (listed most))
+        (first (startedFaults true wholeRecord event wholeSample sample)) ⌝ }
+{
+    let rows = event_rows(model, fine, params, event, sample, most);
+    let whole = RecordFits::WHOLE;
+    let complete = SampleFits::WHOLE;
+    refusal(rows, started_fault(true, whole, event, complete, sample))
+}
+
+fn event_row(
+    model: NetworkModel,
+    fine: bool,
+    params: Params,
+    event: CongestionEvent,
+    sample: CongestionEventSample,
+    most: MaybeNumber,
+) -> u64
+    requires { ⌜ fine ≡ modelOk model ⌝ }
+    ensures { λ r. ⌜ r ≡ eventNumber model params event sample (listed most) ⌝ }
+{
+    first_row(event_rows(model, fine, params, event, sample, most))
+}
+
+fn event_rows(
+    model: NetworkModel,
+    fine: bool,
+    params: Params,
+    event: CongestionEvent,
+    sample: CongestionEventSample,
+    most: MaybeNumber,
+) -> Rows
+    requires { ⌜ fine ≡ modelOk model ⌝ }
+    ensures { λ r. ⌜ r ≡ eventRows model params event sample (listed most) ⌝ }
 {
     let moment = model.moment;
     let time = event.time;
-    refusal(Rows {
+    Rows {
         stored: !(fine & params.ok()),
         argument: !(event.ok() & sample.ok()),
         earlier: time.is_before(moment),
         lower: is_lower(model, sample),
         unsent: is_unsent(model, most),
         full: is_full(model, sample, most),
-    })
+    }
 }
 
 fn is_lower(model: NetworkModel, sample: CongestionEventSample) -> bool
@@ -484,31 +541,56 @@ fn newest_of(was: u64, sample: u64) -> u64
 pub fn on_congestion_event_finish(model: NetworkModel, event: CongestionEvent) -> Changed
     ensures reply { λ r. ⌜ number (r .reply) ≡ finishNumber model event ⌝ }
     ensures model { λ r. ⌜ r .model ≡ settled (finishNumber model event) (finishNext model event) model ⌝ }
+    ensures fault { λ r. ⌜ fault (r .reply) ≡ named (finishNumber model event)
+        (first (eventFaults wholeRecord event)) ⌝ }
 {
-    finish_tested(model, model.ok(), event)
+    let fine = model.ok();
+    let reply = finish_reply(model, fine, event);
+    let finished = finish_tested(model, fine, event);
+    let next = finished.model;
+    Changed { reply, model: next }
 }
 
-// The same, where it is known whether the model is within its bounds.
-pub fn finish_tested(model: NetworkModel, fine: bool, event: CongestionEvent) -> Changed
+// The row of a finish's reply, and the model after it.
+pub struct Finished {
+    pub row: u64,
+    pub model: NetworkModel,
+}
+
+// The same for a run, where it is known whether the model is within its bounds.
+pub fn finish_tested(model: NetworkModel, fine: bool, event: CongestionEvent) -> Finished
     requires { ⌜ fine ≡ modelOk model ⌝ }
-    ensures reply { λ r. ⌜ number (r .reply) ≡ finishNumber model event ⌝ }
+    ensures row { λ r. ⌜ r .row ≡ finishNumber model event ⌝ }
     ensures model { λ r. ⌜ r .model ≡ settled (finishNumber model event) (finishNext model event) model ⌝ }
 {
-    let reply = finish_reply(model, fine, event);
+    let row = finish_row(model, fine, event);
     let mut next = model;
-    if reply.is_done() & event.ended {
+    if (row == 0) & event.ended {
         next.round = Round::new();
     }
-    Changed { reply, model: next }
+    Finished { row, model: next }
+}
+
+fn finish_row(model: NetworkModel, fine: bool, event: CongestionEvent) -> u64
+    requires { ⌜ fine ≡ modelOk model ⌝ }
+    ensures { λ r. ⌜ r ≡ finishNumber model event ⌝ }
+{
+    first_row(Rows {
+        stored: !fine,
+        argument: !event.ok(),
+        ..Rows::NONE
+    })
 }
 
 fn finish_reply(model: NetworkModel, fine: bool, event: CongestionEvent) -> Reply
     requires { ⌜ fine ≡ modelOk model ⌝ }
     ensures { λ r. ⌜ number r ≡ finishNumber model event ⌝ }
+    ensures { λ r. ⌜ fault r ≡ named (finishNumber model event) (first (eventFaults wholeRecord event)) ⌝ }
 {
-    refusal(Rows {
+    let rows = Rows {
         stored: !fine,
         argument: !event.ok(),
         ..Rows::NONE
-    })
+    };
+    refusal(rows, event.fault(1, RecordFits::WHOLE))
 }

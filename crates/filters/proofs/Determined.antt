@@ -1,7 +1,11 @@
 -- Any two replies that the contract of a public function allows coincide: a line for each, about what its contract says (`Reads.Learnt`).
-use mathlib.Core.Path.{_≡_, sym, _∙_}
+use Prim.Native.Nat.{ℕ}
+use mathlib.Core.List.{List}
+use mathlib.Core.Path.{_≡_, refl, sym, _∙_}
+use lib.Dec.{eqb}
+use denote.Ref.{now}
 use Rattle.numbers.specs.OneReply.{OneReply}
-use Rattle.units.proofs.reply.Number.{number-injective}
+use Rattle.units.proofs.reply.Number.{number-injective, no-argument}
 use Rattle.filters.specs.declared.windowed_filter.Estimates.{Estimates}
 use Rattle.filters.specs.declared.windowed_filter.Reason.{Reason}
 use Rattle.filters.specs.declared.windowed_filter.Stepped.{Stepped}
@@ -10,7 +14,9 @@ use Rattle.units.specs.declared.reply.Reply.{Reply}
 use Rattle.filters.specs.declared.windowed_filter.WindowedFilter.{WindowedFilter}
 use Rattle.filters.specs.declared.round_trip_counter.RoundTripCounter.{RoundTripCounter}
 use Rattle.filters.specs.declared.round_trip_counter.Acked.{Acked}
-use mathlib.Core.Bool.{Bool}
+use mathlib.Core.Bool.{Bool, false}
+use Rattle.filters.specs.RoundTripCounter.{listed, roundsFull, roundsNumber}
+use Rattle.filters.specs.WindowedFilter.{isAfter, windowedNumber}
 use Rattle.filters.proofs.max_bandwidth_filter.MaxBandwidthFilter as max-bandwidth-filter-maxbandwidthfilter
 use Rattle.filters.proofs.min_rtt_filter.MinRttFilter as min-rtt-filter-minrttfilter
 use Rattle.filters.proofs.round_trip_counter.RoundTripCounter as round-trip-counter-roundtripcounter
@@ -33,6 +39,15 @@ pub acked :
     {a a′ : Reply} {b b′ : RoundTripCounter} {c c′ : Bool} → a ≡ a′ → b ≡ b′ → c ≡ c′ →
     _≡_ {A = Acked} (record { reply = a; counter = b; ended = c }) (record { reply = a′; counter = b′; ended = c′ })
 acked p q r = cc
+
+-- neither replies with a 2
+no-full : (c : RoundTripCounter) (acked : List ℕ) → eqb (roundsNumber c acked) 2 ≡ false
+unfolding roundsNumber
+no-full c acked = no-argument (roundsFull c acked) 5 refl
+
+no-earlier : (f : WindowedFilter) (t : ℕ) → eqb (windowedNumber f t) 2 ≡ false
+unfolding windowedNumber
+no-earlier f t = no-argument (isAfter (f .held) t) 3 refl
 
 pub one-max-bandwidth-filter-maxbandwidthfilter-new : OneReply max-bandwidth-filter-maxbandwidthfilter.new.Reads.Learnt
 one-max-bandwidth-filter-maxbandwidthfilter-new κ a x y s t p q = p ∙ sym q
@@ -68,10 +83,10 @@ pub one-round-trip-counter-roundtripcounter-on-packet-sent : OneReply round-trip
 one-round-trip-counter-roundtripcounter-on-packet-sent κ a x y s t p q = p ∙ sym q
 
 pub one-round-trip-counter-roundtripcounter-on-packets-acked : OneReply round-trip-counter-roundtripcounter.on_packets_acked.Reads.Learnt
-one-round-trip-counter-roundtripcounter-on-packets-acked κ a x y s t p q = acked (number-injective _ _ (p .0 ∙ sym (q .0))) (p .1 .0 ∙ sym (q .1 .0)) (p .1 .1 ∙ sym (q .1 .1))
+one-round-trip-counter-roundtripcounter-on-packets-acked κ a x y s t p q = acked (number-injective _ _ _ (no-full (a .0) (now (a .1 .0))) (p .0) (q .0)) (p .1 .0 ∙ sym (q .1 .0)) (p .1 .1 ∙ sym (q .1 .1))
 
 pub one-round-trip-counter-roundtripcounter-on-greatest-acked : OneReply round-trip-counter-roundtripcounter.on_greatest_acked.Reads.Learnt
-one-round-trip-counter-roundtripcounter-on-greatest-acked κ a x y s t p q = acked (number-injective _ _ (p .0 ∙ sym (q .0))) (p .1 .0 ∙ sym (q .1 .0)) (p .1 .1 ∙ sym (q .1 .1))
+one-round-trip-counter-roundtripcounter-on-greatest-acked κ a x y s t p q = acked (number-injective _ _ _ (no-full (a .0) (listed (a .1 .0))) (p .0) (q .0)) (p .1 .0 ∙ sym (q .1 .0)) (p .1 .1 ∙ sym (q .1 .1))
 
 pub one-round-trip-counter-greatest-of : OneReply round-trip-counter-greatest-of.Reads.Learnt
 one-round-trip-counter-greatest-of κ a x y s t p q = p ∙ sym q
@@ -98,7 +113,7 @@ pub one-windowed-filter-windowedfilter-get-third-best : OneReply windowed-filter
 one-windowed-filter-windowedfilter-get-third-best κ a x y s t p q = p ∙ sym q
 
 pub one-windowed-filter-windowedfilter-update : OneReply windowed-filter-windowedfilter.update.Reads.Learnt
-one-windowed-filter-windowedfilter-update κ a x y s t p q = updated (number-injective _ _ (p .0 ∙ sym (q .0))) (p .1 .0 ∙ sym (q .1 .0)) (p .1 .1 ∙ sym (q .1 .1))
+one-windowed-filter-windowedfilter-update κ a x y s t p q = updated (number-injective _ _ _ (no-earlier (a .0) (a .1 .1 .0)) (p .0) (q .0)) (p .1 .0 ∙ sym (q .1 .0)) (p .1 .1 ∙ sym (q .1 .1))
 
 pub one-windowed-filter-held-updated : OneReply windowed-filter-held.updated.Reads.Learnt
 one-windowed-filter-held-updated κ a x y s t p q = stepped (p .0 ∙ sym (q .0)) (p .1 ∙ sym (q .1))

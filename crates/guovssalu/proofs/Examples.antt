@@ -7,6 +7,7 @@ use Rattle.filters.specs.WindowedFilter.{isReplaced, raised, shifted, lingers, 
 use Rattle.filters.specs.RoundTripCounter.{roundsSent}
 use Rattle.state.specs.Answers.{settled}
 use Rattle.state.specs.Bounds.{within}
+use Rattle.state.specs.Faults.{named}
 use Rattle.state.specs.Params.{paramsOk}
 use Rattle.state.specs.Parts.{roundOk, roundSent}
 use Rattle.state.specs.NetworkModel.{modelTests, withRounds, withRound, withMoment, withBegun, modelNew, startNumber, startModel}
@@ -19,7 +20,7 @@ use Rattle.words.specs.Words.{numberAt, lowBytes, wordsAt, allBytes}
 use Rattle.layout.specs.NetworkModel.{modelFrom, modelWords}
 use Rattle.layout.specs.Cycle.{cycleFrom, cycleWords}
 use Rattle.arguments.specs.Params.{paramsFrom}
-use Rattle.dispatch.specs.OneCall.{answerWords}
+use Rattle.dispatch.specs.OneCall.{callWord, answerWords}
 use Rattle.dispatch.specs.Outcome.{startOutcome, sendOutcome, outcomeOf}
 use Rattle.guovssalu.specs.Examples.{exportExamples, startExamples}
 use Rattle.pairs.specs.Pairs.{afterPair, refuses, samples, pairWords, runWords, runRow}
@@ -34,5 +35,5 @@ unfolding all exportExamples isReplaced raised shifted lingers renewed aged wind
 export-examples = refl
 
 pub start-examples : all startExamples ≡ true
-unfolding all startExamples Ieee.ofBits Ieee.toBits Ieee.le roundsSent settled within rowOf paramsOk roundOk roundSent modelTests withRounds withRound withMoment withBegun modelNew startNumber startModel cycleNew stayFrom freshNumber freshCycle sentNumber sentNext numberAt lowBytes wordsAt allBytes modelFrom modelWords cycleFrom cycleWords paramsFrom answerWords startOutcome sendOutcome outcomeOf sameWords isState encodesNone outcomeAt answersTo leftBy answersFrom wordsLeft modelRow answersOut stateOut orShort answered
+unfolding all startExamples Ieee.ofBits Ieee.toBits Ieee.le roundsSent settled within rowOf paramsOk roundOk roundSent modelTests withRounds withRound withMoment withBegun modelNew startNumber startModel cycleNew stayFrom freshNumber freshCycle sentNumber sentNext numberAt lowBytes wordsAt allBytes modelFrom modelWords cycleFrom cycleWords paramsFrom callWord named answerWords startOutcome sendOutcome outcomeOf sameWords isState encodesNone outcomeAt answersTo leftBy answersFrom wordsLeft modelRow answersOut stateOut orShort answered
 start-examples = refl

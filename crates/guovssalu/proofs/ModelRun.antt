@@ -31,9 +31,10 @@ use Rattle.dispatch.proofs.RoundTrip.{round-trip}
 use Rattle.words.proofs.Back.{float-fits}
 use Rattle.dispatch.specs.declared.outcome.Outcome.{Outcome}
 use Rattle.dispatch.specs.Outcome.{noEvent, sendNumber, sendLeaves, eventStartNumber, eventStartLeaves, eventStartWords, eventFinishNumber, eventFinishLeaves, sendOutcome, eventOutcome, finishOutcome, outcomeOf}
-use Rattle.dispatch.specs.Inner.{otherOutcome}
+use Rattle.dispatch.specs.Inner.{sendWord, otherOutcome}
 use Rattle.guovssalu.specs.ModelRun.{stateIn, callsIn, outcomeAt, answersTo, leftBy, wordsLeft, modelRow}
-use Rattle.dispatch.specs.OneCall.{ownAt, callAt, answerWords}
+use Rattle.places.specs.Places.{numberFaults, otherFaults, faultsOf}
+use Rattle.dispatch.specs.OneCall.{ownAt, callAt, callWord, answerWords}
 use Rattle.guovssalu.proofs.Rows.{done-room, done-first}
 use Rattle.dispatch.proofs.Alike.{send-alike, finish-alike, other-alike}
 use Rattle.dispatch.proofs.OneCall.{either, length-other}
@@ -66,9 +67,9 @@ pub length-words-left : (state src lists : List ℕ) → length (wordsLeft state
 unfolding wordsLeft
 length-words-left state src lists = length-left (modelFrom (stateIn state)) (cycleFrom (stateIn state)) src lists 0 (callsIn src)
 
-pub length-answer : (m : NetworkModel) (y : Cycle) (src lists : List ℕ) (at : ℕ) → length (allBytes (answerWords (outcomeAt m y src lists at))) ≡ 144
+pub length-answer : (m : NetworkModel) (y : Cycle) (src lists : List ℕ) (at : ℕ) → length (allBytes (answerWords (callAt src lists at) m (outcomeAt m y src lists at))) ≡ 144
 unfolding answerWords
-length-answer m y src lists at = length-allBytes (answerWords (outcomeAt m y src lists at)) ∙ rw (length-event m y src lists at)
+length-answer m y src lists at = length-allBytes (answerWords (callAt src lists at) m (outcomeAt m y src lists at)) ∙ rw (length-event m y src lists at)
 
 -- ---- calls
 module _ (src lists : List ℕ) (i count : ℕ) (h : i < count) where
@@ -88,14 +89,14 @@ module _ (src lists : List ℕ) (i count : ℕ) (h : i < count) where
   -- its answer, written
   pub write-answer :
       (m : NetworkModel) (y : Cycle) (l : List ℕ) {end : List ℕ} → sets l (144 * i) (allBytes (answersTo m y src lists (392 * i) (count - i))) ≡ end →
-      sets (sets l (144 * i) (allBytes (answerWords (outcomeAt m y src lists (392 * i))))) (144 * (i + 1)) (allBytes (answersTo (outcomeAt m y src lists (392 * i) .model) (outcomeAt m y src lists (392 * i) .cycle) src lists (392 * (i + 1)) (count - (i + 1)))) ≡ end
+      sets (sets l (144 * i) (allBytes (answerWords (callAt src lists (392 * i)) m (outcomeAt m y src lists (392 * i))))) (144 * (i + 1)) (allBytes (answersTo (outcomeAt m y src lists (392 * i) .model) (outcomeAt m y src lists (392 * i) .cycle) src lists (392 * (i + 1)) (count - (i + 1)))) ≡ end
   unfolding answersTo
   write-answer m y l e =
       let t = outcomeAt m y src lists (392 * i) in
-      let answer = allBytes (answerWords t) in
+      let answer = allBytes (answerWords (callAt src lists (392 * i)) m t) in
       let more = answersTo (t .model) (t .cycle) src lists (392 * i + 392) (count - (i + 1)) in
       let step : 144 * (i + 1) ≡ 144 * i + length answer = rw (length-answer m y src lists (392 * i)) (omega arith) in
-      rw (next, step) (sets-append l (144 * i) answer (allBytes more) ∙ ap (sets l (144 * i)) (sym (allBytes-append (answerWords t) more)) ∙ rw left at e)
+      rw (next, step) (sets-append l (144 * i) answer (allBytes more) ∙ ap (sets l (144 * i)) (sym (allBytes-append (answerWords (callAt src lists (392 * i)) m t) more)) ∙ rw left at e)
 
 -- beta is read as an f32
 beta-fits : (w : List ℕ) → T (fits binary32 (paramsFrom w .beta))
@@ -111,7 +112,7 @@ other-at w m y f g h = rw (ne-eqb _ 1 f, ne-eqb _ 3 g, ne-eqb _ 4 h)
 module _ (m : NetworkModel) (y : Cycle) (src lists : List ℕ) (at : ℕ) (out : List ℕ) (to : ℕ) (out′ : List ℕ) (m′ : NetworkModel) (y′ : Cycle) (fine′ : Bool) where
   abbrev pub Carried : Type 0
   Carried =
-      (out′ ≡ sets out to (allBytes (answerWords (outcomeAt m y src lists at))))
+      (out′ ≡ sets out to (allBytes (answerWords (callAt src lists at) m (outcomeAt m y src lists at))))
       × (m′ ≡ outcomeAt m y src lists at .model)
       × (y′ ≡ outcomeAt m y src lists at .cycle)
       × (fine′ ≡ modelOk m′)
@@ -131,20 +132,25 @@ module _ (m : NetworkModel) (y : Cycle) (src lists : List ℕ) (at : ℕ) (out :
   still p same f = f ∙ sym (ap modelOk p ∙ same)
 
   -- an outcome that is the call's
-  carried : {t : Outcome} → t ≡ outcomeAt m y src lists at → out′ ≡ sets out to (allBytes (answerWords t)) → m′ ≡ t .model → y′ ≡ t .cycle → fine′ ≡ modelOk m′ → Carried
-  carried e r p q f = (r ∙ ap (λ (t : Outcome). sets out to (allBytes (answerWords t))) e, p ∙ ap (λ (t : Outcome). t .model) e, q ∙ ap (λ (t : Outcome). t .cycle) e, f)
+  carried : {t : Outcome} → t ≡ outcomeAt m y src lists at → out′ ≡ sets out to (allBytes (answerWords (callAt src lists at) m t)) → m′ ≡ t .model → y′ ≡ t .cycle → fine′ ≡ modelOk m′ → Carried
+  carried e r p q f = (r ∙ ap (λ (t : Outcome). sets out to (allBytes (answerWords (callAt src lists at) m t))) e, p ∙ ap (λ (t : Outcome). t .model) e, q ∙ ap (λ (t : Outcome). t .cycle) e, f)
 
-  pub by-send : wordAt src at ≡ 1 → m′ ≡ sendLeaves (ownAt src at) m → y′ ≡ y → fine′ ≡ modelOk m → out′ ≡ sets out to (allBytes (sendNumber (ownAt src at) m ∷ 0 ∷ noEvent)) → Carried
+  -- what a send's four words are at fault for
+  send-word : wordAt src at ≡ 1 → sendWord (ownAt src at) m ≡ callWord (callAt src lists at) m (sendNumber (ownAt src at) m)
+  unfolding sendWord callWord faultsOf otherFaults numberFaults
+  send-word e = rw (number-at e, alike 1 refl, alike 2 refl, alike 4 refl)
+
+  pub by-send : wordAt src at ≡ 1 → m′ ≡ sendLeaves (ownAt src at) m → y′ ≡ y → fine′ ≡ modelOk m → out′ ≡ sets out to (allBytes (sendWord (ownAt src at) m ∷ 0 ∷ noEvent)) → Carried
   unfolding outcomeAt outcomeOf sendOutcome answerWords
   by-send e p q f r =
       let is : sendOutcome (ownAt src at) m y ≡ outcomeAt m y src lists at = rw (number-at e) (sym (send-alike (callAt src lists at) (ownAt src at) alike m y)) in
-      carried is r p q (still p (sent-same m _ _ _ _) f)
+      carried is (r ∙ ap (λ (n : ℕ). sets out to (allBytes (n ∷ 0 ∷ noEvent))) (send-word e)) p q (still p (sent-same m _ _ _ _) f)
 
-  pub by-start : wordAt src at ≡ 3 → m′ ≡ eventStartLeaves (callAt src lists at) m → y′ ≡ y → fine′ ≡ modelOk m → out′ ≡ sets out to (allBytes (eventStartNumber (callAt src lists at) m ∷ 0 ∷ eventStartWords (callAt src lists at) m)) → Carried
+  pub by-start : wordAt src at ≡ 3 → m′ ≡ eventStartLeaves (callAt src lists at) m → y′ ≡ y → fine′ ≡ modelOk m → out′ ≡ sets out to (allBytes (callWord (callAt src lists at) m (eventStartNumber (callAt src lists at) m) ∷ 0 ∷ eventStartWords (callAt src lists at) m)) → Carried
   unfolding outcomeAt outcomeOf eventOutcome answerWords
   by-start e p q f r = rw (number-at e) (r, p, q, still p (start-same m _ _ _ _ (beta-fits (callAt src lists at))) f)
 
-  pub by-end : wordAt src at ≡ 4 → m′ ≡ eventFinishLeaves (ownAt src at) m → y′ ≡ y → fine′ ≡ modelOk m → out′ ≡ sets out to (allBytes (eventFinishNumber (ownAt src at) m ∷ 0 ∷ noEvent)) → Carried
+  pub by-end : wordAt src at ≡ 4 → m′ ≡ eventFinishLeaves (ownAt src at) m → y′ ≡ y → fine′ ≡ modelOk m → out′ ≡ sets out to (allBytes (callWord (callAt src lists at) m (eventFinishNumber (ownAt src at) m) ∷ 0 ∷ noEvent)) → Carried
   unfolding outcomeAt outcomeOf finishOutcome answerWords
   by-end e p q f r =
       let is : finishOutcome (ownAt src at) m y ≡ outcomeAt m y src lists at = rw (number-at e) (sym (finish-alike (callAt src lists at) (ownAt src at) alike m y)) in
@@ -152,7 +158,7 @@ module _ (m : NetworkModel) (y : Cycle) (src lists : List ℕ) (at : ℕ) (out :
 
   pub by-other :
       {n : ℕ} {t : Outcome} → n ≡ wordAt src at → (n ≡ 1 → ⊥) → (n ≡ 3 → ⊥) → (n ≡ 4 → ⊥) →
-      t ≡ otherOutcome (ownAt src at) m y → m′ ≡ t .model → y′ ≡ t .cycle → fine′ ≡ modelOk (t .model) → out′ ≡ sets out to (allBytes (answerWords (otherOutcome (ownAt src at) m y))) → Carried
+      t ≡ otherOutcome (ownAt src at) m y → m′ ≡ t .model → y′ ≡ t .cycle → fine′ ≡ modelOk (t .model) → out′ ≡ sets out to (allBytes (answerWords (callAt src lists at) m (otherOutcome (ownAt src at) m y))) → Carried
   unfolding outcomeAt
   by-other e f g h k p q b r =
       let w = callAt src lists at in

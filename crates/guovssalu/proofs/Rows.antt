@@ -2,11 +2,12 @@
 use Prim.Native.Nat.{ℕ}
 use mathlib.Core.Bool.{Bool, true, false, not, cond, _&&_, true≢false}
 use mathlib.Core.List.{List}
-use mathlib.Core.Path.{_≡_, refl, sym, ap, _∙_}
+use mathlib.Core.Path.{_≡_, refl, sym, ap, ap₂, _∙_}
 use borrow.Author.Tests.{not-true, not-false, eqb-true}
 use lib.Dec.{eqb}
 use lib.Seq.{sets}
 use Rattle.words.specs.Words.{allBytes}
+use Rattle.units.specs.Reply.{replyWord}
 use Rattle.state.specs.Refusals.{orShort}
 use Rattle.guovssalu.specs.Reply.{answered}
 
@@ -29,21 +30,24 @@ done-first row short h = eqb-true row 0 (go (eqb row 0) refl h)
     go true e g = e
     go false e g = g
 
--- a reply's number n, by its row, and whether it is done
-module _ {row n : ℕ} {done : Bool} (is : n ≡ row) (test : done ≡ eqb n 0) where
+-- a reply's number n and its fault f, by its row and what it names, and whether it is done
+module _ {row n f g : ℕ} {done : Bool} (is : (n ≡ row) × (f ≡ g)) (test : done ≡ eqb n 0) where
   row-done : eqb row 0 ≡ done
-  row-done = ap (λ (k : ℕ). eqb k 0) (sym is) ∙ sym test
+  row-done = ap (λ (k : ℕ). eqb k 0) (sym (is .0)) ∙ sym test
+
+  said : {r : ℕ} → r ≡ replyWord n f → r ≡ replyWord row g
+  said e = e ∙ ap₂ (λ (i j : ℕ). replyWord i j) (is .0) (is .1)
 
   pub done-row : not done ≡ false → eqb row 0 ≡ true
   done-row h = row-done ∙ not-false done h
 
   -- a call that stops there
-  pub refused : {r : ℕ} (answer out : List ℕ) → r ≡ n → not done ≡ true → (r ≡ row) × (out ≡ answered row answer out)
+  pub refused : {r : ℕ} (answer out : List ℕ) → r ≡ replyWord n f → not done ≡ true → (r ≡ replyWord row g) × (out ≡ answered row answer out)
   unfolding answered
-  refused answer out e h = (e ∙ is, rw (row-done, not-true done h))
+  refused answer out e h = (said e, rw (row-done, not-true done h))
 
   -- a call that goes on, and writes its answer
   pub written :
-      {r : ℕ} {left : List ℕ} (answer out : List ℕ) → r ≡ n → not done ≡ false → left ≡ sets out 0 (allBytes answer) → (r ≡ row) × (left ≡ answered row answer out)
+      {r : ℕ} {left : List ℕ} (answer out : List ℕ) → r ≡ replyWord n f → not done ≡ false → left ≡ sets out 0 (allBytes answer) → (r ≡ replyWord row g) × (left ≡ answered row answer out)
   unfolding answered
-  written answer out e h w = (e ∙ is, rw (row-done, not-false done h) w)
+  written answer out e h w = (said e, rw (row-done, not-false done h) w)

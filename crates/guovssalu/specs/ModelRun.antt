@@ -1,14 +1,15 @@
 -- The exported runs of the model: calls, carried out in order on a state in lent bytes (docs/LAYOUT.md), with lists
--- from which a call can take numbers, or with none. `modelRow` is what they reply, whatever the lists are; `answersOut`
--- and `stateOut` are the bytes that they leave; one call is `outcomeOf` in crates/dispatch/specs/Outcome.antt. A run in
--- bytes that begins with a start is worked out in Examples.antt (`startExamples`), four with events, one of them with
--- lists, in crates/theorems/specs/Examples.antt.
+-- from which a call can take numbers, or with none. `modelReply` is what they reply, whatever the lists are, `modelRow`
+-- its row; `answersOut` and `stateOut` are the bytes that they leave; one call is `outcomeOf` in
+-- crates/dispatch/specs/Outcome.antt. A run in bytes that begins with a start is worked out in Examples.antt
+-- (`startExamples`), four with events, one of them with lists, in crates/theorems/specs/Examples.antt.
 use Prim.Native.Nat.{ℕ, zero, suc, _+_, _*_, _/_, _%_}
 use mathlib.Core.Bool.{Bool, false, not, _&&_, _||_}
-use mathlib.Core.List.{List, [], _++_}
+use mathlib.Core.List.{List, [], _∷_, _++_}
 use lib.Dec.{ltb, eqb}
 use lib.ListN.{length}
 use Rattle.state.specs.declared.network_model.NetworkModel.{NetworkModel}
+use Rattle.state.specs.Faults.{listLength, unless, first, replied}
 use Rattle.state.specs.Refusals.{noRows, stored, argument, firstOf, orShort}
 use Rattle.state.specs.declared.cycle.Cycle.{Cycle}
 use Rattle.words.specs.Words.{wordsAt}
@@ -44,7 +45,8 @@ outcomeAt m y src lists at = outcomeOf (callAt src lists at) m y
 unfoldable pub answersTo : NetworkModel → Cycle → (src lists : List ℕ) → ℕ → ℕ → List ℕ
 answersTo m y src lists at zero = []
 answersTo m y src lists at (suc n) =
-    let t = outcomeAt m y src lists at in answerWords t ++ answersTo (t .model) (t .cycle) src lists (at + 392) n
+    let t = outcomeAt m y src lists at in
+    answerWords (callAt src lists at) m t ++ answersTo (t .model) (t .cycle) src lists (at + 392) n
 
 -- the words of the state that they leave
 unfoldable pub leftBy : NetworkModel → Cycle → (src lists : List ℕ) → ℕ → ℕ → List ℕ
@@ -65,6 +67,16 @@ unfoldable pub modelRow : (state src : List ℕ) (room : ℕ) → ℕ
 modelRow state src room =
     let uneven = not (eqb (length state) 408) || not (eqb (length src % 392) 0) in
     orShort (firstOf (stored (encodesNone state) (argument uneven noRows))) (ltb room (144 * callsIn src))
+
+-- document 02, request b: a state or calls of a wrong length are a list length, 2.8, at place 1 and at place 2; lists
+-- are free, and answers that are short are row 7's
+unfoldable pub lengthFaults : (state src : List ℕ) → List ℕ
+lengthFaults state src =
+    unless (eqb (length state) 408) 1 listLength ∷ unless (eqb (length src % 392) 0) 2 listLength ∷ []
+
+-- what they reply, in one word
+unfoldable pub modelReply : (state src : List ℕ) (room : ℕ) → ℕ
+modelReply state src room = replied (modelRow state src room) (first (lengthFaults state src))
 
 unfoldable pub answersOut : (state src lists out : List ℕ) → List ℕ
 answersOut state src lists out = answered (modelRow state src (length out)) (answersFrom state src lists) out

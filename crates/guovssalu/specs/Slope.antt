@@ -6,6 +6,7 @@ use mathlib.Core.List.{List, [], _∷_}
 use lib.ListN.{length}
 use lib.Dec.{ltb}
 use Rattle.state.specs.Bounds.{bytesOk}
+use Rattle.state.specs.Faults.{aWindow, unless, first, replied}
 use Rattle.state.specs.Refusals.{noRows, stored, argument, firstOf, orShort}
 use Rattle.state.specs.Cycle.{roundsOk}
 use Rattle.phases.specs.Slope.{nextRounds, upBytes}
@@ -16,6 +17,13 @@ use Rattle.guovssalu.specs.Reply.{answered}
 unfoldable pub slopeRow : (rounds window room : ℕ) → ℕ
 slopeRow rounds window room =
     orShort (firstOf (stored (not (roundsOk rounds)) (argument (not (bytesOk window)) noRows))) (ltb room 16)
+
+-- document 02, request b: the window is 2.1, at place 2
+unfoldable pub windowFaults : (window : ℕ) → List ℕ
+windowFaults window = unless (bytesOk window) 2 aWindow ∷ []
+
+unfoldable pub slopeReply : (rounds window room : ℕ) → ℕ
+slopeReply rounds window room = replied (slopeRow rounds window room) (first (windowFaults window))
 
 -- the next rounds, then probe_up_bytes
 unfoldable pub slopeWords : (rounds window : ℕ) → List ℕ

@@ -3,9 +3,10 @@ ghost use mathlib.Core.Path.{_≡_};
 ghost use Prim.Native.Nat.{_*_, _≤_};
 ghost use lib.ListN.{length};
 ghost use lib.Seq.{sets};
-ghost use Rattle.units.specs.Reply.{number};
+ghost use Rattle.units.specs.Reply.{number, fault};
+ghost use Rattle.state.specs.Faults.{first, named};
 ghost use Rattle.words.specs.Words.{allBytes};
-ghost use Rattle.guovssalu.specs.ModelRun.{stateIn, encodesNone, callsIn, noLists, answersTo, leftBy, modelRow, stateOut, answersOut};
+ghost use Rattle.guovssalu.specs.ModelRun.{stateIn, encodesNone, callsIn, noLists, answersTo, leftBy, modelRow, lengthFaults, modelReply, stateOut, answersOut};
 use dispatch::one_call::event_finish;
 use dispatch::one_call::event_start;
 use dispatch::one_call::other;
@@ -16,6 +17,9 @@ use layout::network_model::model_from;
 use layout::state_words::state_words;
 use state::Cycle;
 use state::NetworkModel;
+use state::faults::LIST_LENGTH;
+use state::faults::first_of;
+use state::faults::unless;
 use state::refusals::Rows;
 use state::refusals::or_short;
 use state::refusals::refusal;
@@ -25,11 +29,11 @@ use words::get_words;
 use words::put_words;
 
 // Carries out the calls in order, answers each and leaves the new state: 1 for bytes that encode no
-// state, 2 for a length that is none of a state's or of whole calls, 7 for answers under 144 bytes a
-// call.
+// state, 2.8 for a length that is none of a state's, at place 1, or of whole calls, at place 2, 7 for
+// answers under 144 bytes a call.
 #[no_mangle]
 pub extern "C" fn guovssalu_run(state: &mut [u8], calls: &[u8], answers: &mut [u8]) -> u64
-    ensures { λ r. ⌜ r ≡ modelRow (now (state .entry)) (now (calls .entry)) (length (now (answers .entry))) ⌝ }
+    ensures { λ r. ⌜ r ≡ modelReply (now (state .entry)) (now (calls .entry)) (length (now (answers .entry))) ⌝ }
     ensures { λ _. ⌜ now (state .exit) ≡ stateOut (now (state .entry)) (now (calls .entry)) noLists (now (answers .entry)) ⌝ }
     ensures { λ _. ⌜ now (answers .exit) ≡ answersOut (now (state .entry)) (now (calls .entry)) noLists (now (answers .entry)) ⌝ }
 {
@@ -46,13 +50,13 @@ pub extern "C" fn guovssalu_run_lists(
     lists: &[u64],
     answers: &mut [u8],
 ) -> u64
-    ensures { λ r. ⌜ r ≡ modelRow (now (state .entry)) (now (calls .entry)) (length (now (answers .entry))) ⌝ }
+    ensures { λ r. ⌜ r ≡ modelReply (now (state .entry)) (now (calls .entry)) (length (now (answers .entry))) ⌝ }
     ensures { λ _. ⌜ now (state .exit) ≡ stateOut (now (state .entry)) (now (calls .entry)) (now (lists .entry)) (now (answers .entry)) ⌝ }
     ensures { λ _. ⌜ now (answers .exit) ≡ answersOut (now (state .entry)) (now (calls .entry)) (now (lists .entry)) (now (answers .entry)) ⌝ }
 {
     let reply = model_reply(state, calls, answers.len());
     if !reply.is_done() {
-        return reply.row();
+        return reply.word();
     }
     let words = state_in(state);
     let left = run_calls(
@@ -63,18 +67,23 @@ pub extern "C" fn guovssalu_run_lists(
         answers,
     );
     put_words(state, 0, &left);
-    reply.row()
+    reply.word()
 }
 
 fn model_reply(state: &[u8], calls: &[u8], room: usize) -> Reply
     ensures { λ r. ⌜ number r ≡ modelRow (now (state .entry)) (now (calls .entry)) room ⌝ }
+    ensures { λ r. ⌜ fault r ≡ named (modelRow (now (state .entry)) (now (calls .entry)) room)
+        (first (lengthFaults (now (state .entry)) (now (calls .entry)))) ⌝ }
 {
-    let uneven = (state.len() != 408) | (calls.len() % 392 != 0);
-    let reply = refusal(Rows {
+    let whole = state.len() == 408;
+    let even = calls.len() % 392 == 0;
+    let rows = Rows {
         stored: encodes_none(state),
-        argument: uneven,
+        argument: !whole | !even,
         ..Rows::NONE
-    });
+    };
+    let faults = [unless(whole, 1, LIST_LENGTH), unless(even, 2, LIST_LENGTH)];
+    let reply = refusal(rows, first_of(&faults));
     or_short(reply, room < 144 * (calls.len() / 392))
 }
 
@@ -125,9 +134,9 @@ fn run_calls(
         } else if call == 3 {
             m = event_start(m, fine, calls, at, lists, answers, to);
         } else if call == 4 {
-            m = event_finish(m, fine, calls, at, answers, to);
+            m = event_finish(m, fine, calls, at, lists, answers, to);
         } else {
-            let outcome = other(m, y, calls, at, answers, to);
+            let outcome = other(m, y, calls, at, lists, answers, to);
             m = outcome.model;
             y = outcome.cycle;
             fine = m.ok();

@@ -1,14 +1,17 @@
 // The slope of the probing cycle, on numbers.
 ghost use mathlib.Core.Path.{_≡_};
 ghost use lib.ListN.{length};
-ghost use Rattle.units.specs.Reply.{number};
+ghost use Rattle.units.specs.Reply.{number, fault};
+ghost use Rattle.state.specs.Faults.{first, named};
 ghost use Rattle.state.specs.Cycle.{roundsOk};
-ghost use Rattle.guovssalu.specs.Slope.{slopeRow, slopeWords, slopeOut};
+ghost use Rattle.guovssalu.specs.Slope.{slopeRow, windowFaults, slopeReply, slopeWords, slopeOut};
 ghost use Rattle.guovssalu.specs.Inner.{countIn};
 use phases::slope::slope_raised;
 use state::Cycle;
 use state::bounds::bytes_ok;
 use state::cycle::Slope;
+use state::faults::WINDOW;
+use state::faults::unless;
 use state::refusals::Rows;
 use state::refusals::or_short;
 use state::refusals::refusal;
@@ -16,33 +19,36 @@ use units::MaybeNumber;
 use units::Reply;
 use words::put_words;
 
-// The next rounds and probe_up_bytes, as two words of the output: 1 for rounds over 30, 2 for a
-// window above 2^40, 7 for an output under 16 bytes.
+// The next rounds and probe_up_bytes, as two words of the output: 1 for rounds over 30, 2.1 at
+// place 2 for a window above 2^40, 7 for an output under 16 bytes.
 #[no_mangle]
 pub extern "C" fn guovssalu_raise_inflight_high_slope(
     rounds: u64,
     window: u64,
     out: &mut [u8],
 ) -> u64
-    ensures { λ r. ⌜ r ≡ slopeRow rounds window (length (now (out .entry))) ⌝ }
+    ensures { λ r. ⌜ r ≡ slopeReply rounds window (length (now (out .entry))) ⌝ }
     ensures { λ _. ⌜ now (out .exit) ≡ slopeOut rounds window (now (out .entry)) ⌝ }
 {
     let reply = slope_reply(rounds, window, out.len());
     if !reply.is_done() {
-        return reply.row();
+        return reply.word();
     }
     put_words(out, 0, &slope_words(rounds, window));
-    reply.row()
+    reply.word()
 }
 
 fn slope_reply(rounds: u64, window: u64, room: usize) -> Reply
     ensures { λ r. ⌜ number r ≡ slopeRow rounds window room ⌝ }
+    ensures { λ r. ⌜ fault r ≡ named (slopeRow rounds window room) (first (windowFaults window)) ⌝ }
 {
-    let reply = refusal(Rows {
+    let fine = bytes_ok(window);
+    let rows = Rows {
         stored: !rounds_ok(rounds),
-        argument: !bytes_ok(window),
+        argument: !fine,
         ..Rows::NONE
-    });
+    };
+    let reply = refusal(rows, unless(fine, 2, WINDOW));
     or_short(reply, room < 16)
 }
 

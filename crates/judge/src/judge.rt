@@ -3,9 +3,10 @@ ghost use mathlib.Core.Path.{_≡_};
 ghost use mathlib.Core.Bool.{true, false};
 ghost use Prim.Native.Nat.{_+_, _-_, _*_, _^_};
 ghost use lib.Dec.{ltb, eqb};
-ghost use Rattle.units.specs.Reply.{number};
+ghost use Rattle.units.specs.Reply.{number, fault};
 ghost use Rattle.filters.specs.MaxBandwidthFilter.{maxGet};
 ghost use Rattle.state.specs.Answers.{settled};
+ghost use Rattle.state.specs.Faults.{first, named, eventFaults, gainFaults, wholeRecord};
 ghost use Rattle.judge.specs.Judge.{judgedNumber, isGiven, isDue, isExpired, minrttExpired, expireNext, isTooHigh, hasGrown, countsFlat, flatAfter, growthFlat, growthAfter, growthFull, growthNext, isQueueing, queueAfter, queueNumber, queueNext};
 use filters::MinRttFilter;
 use state::NetworkModel;
@@ -14,6 +15,8 @@ use state::answers::Flag;
 use state::bounds::gain_ok;
 use state::congestion_event::CongestionEvent;
 use state::congestion_event::SendTimeState;
+use state::faults::RecordFits;
+use state::faults::gain_fault;
 use state::network_model::Changed;
 use state::parts::Growth;
 use state::parts::Round;
@@ -44,6 +47,8 @@ pub fn maybe_expire_min_rtt(model: NetworkModel, params: Params, event: Congesti
     ensures yes { λ r. ⌜ r .yes ≡ settled (judgedNumber model params event false)
         (isExpired (event .rtt) (event .time) (model .minrtt) (params .period))
         false ⌝ }
+    ensures fault { λ r. ⌜ fault (r .reply) ≡ named (judgedNumber model params event false)
+        (first (eventFaults wholeRecord event)) ⌝ }
 {
     let rtt = event.rtt;
     let yes = is_given(rtt) & is_due(event.time, model.minrtt, params.period);
@@ -113,6 +118,8 @@ pub fn is_inflight_too_high(
     ensures yes { λ r. ⌜ r .yes ≡ settled (judgedNumber model params event false)
         (isTooHigh (model .round) (event .state) limit (params .loss))
         false ⌝ }
+    ensures fault { λ r. ⌜ fault (r .reply) ≡ named (judgedNumber model params event false)
+        (first (eventFaults wholeRecord event)) ⌝ }
 {
     let round = model.round;
     let state = event.state;
@@ -143,6 +150,8 @@ pub fn has_bandwidth_growth(model: NetworkModel, params: Params, event: Congesti
     ensures yes { λ r. ⌜ r .yes ≡ settled (judgedNumber model params event (growthFull model params event))
         (hasGrown (model .growth) (maxGet (model .maxbw)) params)
         false ⌝ }
+    ensures fault { λ r. ⌜ fault (r .reply) ≡ named (judgedNumber model params event (growthFull model params event))
+        (first (eventFaults wholeRecord event)) ⌝ }
 {
     let full = growth_full(model, params, event);
     let reply = judged_reply(model, params, event, full);
@@ -237,6 +246,7 @@ fn counts_flat(growth: Growth, state: SendTimeState) -> bool
 pub fn check_persistent_queue(model: NetworkModel, params: Params, gain: f32) -> Changed
     ensures reply { λ r. ⌜ number (r .reply) ≡ queueNumber model params gain ⌝ }
     ensures model { λ r. ⌜ r .model ≡ settled (queueNumber model params gain) (queueNext model params gain) model ⌝ }
+    ensures fault { λ r. ⌜ fault (r .reply) ≡ named (queueNumber model params gain) (first (gainFaults true gain)) ⌝ }
 {
     let queueing = is_queueing(model, gain);
     let reply = queue_reply(model, params, gain, queueing);
@@ -254,14 +264,16 @@ pub fn check_persistent_queue(model: NetworkModel, params: Params, gain: f32) ->
 fn queue_reply(model: NetworkModel, params: Params, gain: f32, queueing: bool) -> Reply
     requires { ⌜ queueing ≡ isQueueing model gain ⌝ }
     ensures { λ r. ⌜ number r ≡ queueNumber model params gain ⌝ }
+    ensures { λ r. ⌜ fault r ≡ named (queueNumber model params gain) (first (gainFaults true gain)) ⌝ }
 {
     let full = queueing & (model.growth.queueing == FULL);
-    refusal(Rows {
+    let rows = Rows {
         stored: !(model.ok() & params.ok()),
         argument: !gain_ok(gain),
         full,
         ..Rows::NONE
-    })
+    };
+    refusal(rows, gain_fault(true, gain))
 }
 
 fn is_queueing(model: NetworkModel, gain: f32) -> bool
@@ -302,13 +314,19 @@ fn queue_after(growth: Growth, queueing: bool, params: Params) -> Growth
 
 fn judged_reply(model: NetworkModel, params: Params, event: CongestionEvent, full: bool) -> Reply
     ensures { λ r. ⌜ number r ≡ judgedNumber model params event full ⌝ }
+    ensures { λ r. ⌜ fault r ≡ named (judgedNumber model params event full) (first (eventFaults wholeRecord event)) ⌝ }
 {
-    refusal(Rows {
+    let given = event.ok();
+    let rows = Rows {
         stored: !(model.ok() & params.ok()),
-        argument: !event.ok(),
+        argument: !given,
         full,
         ..Rows::NONE
-    })
+    };
+    if given {
+        return refusal(rows, 0);
+    }
+    refusal(rows, event.fault(1, RecordFits::WHOLE))
 }
 
 fn decide(reply: Reply, model: NetworkModel, next: NetworkModel, yes: bool) -> Decided

@@ -5,5 +5,6 @@ pub mod Tested
 pub mod Phases
 pub mod Contracts
 pub mod Replies
+pub mod Named
 pub mod Reasons
 pub mod Examples

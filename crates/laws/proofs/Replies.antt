@@ -97,11 +97,11 @@ answered-both {X} {Y} {reply} {a} {x} {x′} {b} {y} {y′} r p q t = answered r
 answers : EveryAnswer
 unfolding storedNumber givenNumber headroomNumber judgedNumber
 answers = record {
-  bdp = λ m b gain κ x s p. answered _ (p .0) (p .1);
-  bdp1 = λ m b κ x s p. answered _ (p .0) (p .1);
+  bdp = λ m b gain κ x s p. answered _ (p .0) (p .1 .0);
+  bdp1 = λ m b κ x s p. answered _ (p .0) (p .1 .0);
   bdp0 = λ m κ x s p. answered _ (p .0) (p .1);
   inflightHiWithHeadroom = λ m q κ x s p. answered _ (p .0) (p .1);
-  isInflightTooHigh = λ m q e limit κ x s p. answered _ (p .0) (p .1);
+  isInflightTooHigh = λ m q e limit κ x s p. answered _ (p .0) (p .1 .0);
   bandwidthEstimate = λ m κ x s p. answered _ (p .0) (p .1);
   maxBandwidth = λ m κ x s p. answered _ (p .0) (p .1);
   minRtt = λ m κ x s p. answered _ (p .0) (p .1);
@@ -123,40 +123,40 @@ answers = record {
 changes : EveryChange
 unfolding startNumber startModel storedNumber givenNumber sentNumber postponeNumber
 changes = record {
-  start = λ q rtt t κ x s p. answered _ (p .0) (p .1);
-  sent = λ m t inflight packet bytes κ x s p. answered _ (p .0) (p .1);
+  start = λ q rtt t κ x s p. answered _ (p .0) (p .1 .0);
+  sent = λ m t inflight packet bytes κ x s p. answered _ (p .0) (p .1 .0);
   restart = λ m κ x s p. answered _ (p .0) (p .1);
   reached = λ m κ x s p. answered _ (p .0) (p .1);
-  pacing = λ m gain κ x s p. answered _ (p .0) (p .1);
-  cwnd = λ m gain κ x s p. answered _ (p .0) (p .1);
-  high = λ m bytes κ x s p. answered _ (p .0) (p .1);
-  cap = λ m bytes κ x s p. answered _ (p .0) (p .1);
+  pacing = λ m gain κ x s p. answered _ (p .0) (p .1 .0);
+  cwnd = λ m gain κ x s p. answered _ (p .0) (p .1 .0);
+  high = λ m bytes κ x s p. answered _ (p .0) (p .1 .0);
+  cap = λ m bytes κ x s p. answered _ (p .0) (p .1 .0);
   clearInflight = λ m κ x s p. answered _ (p .0) (p .1);
   clearBandwidth = λ m κ x s p. answered _ (p .0) (p .1);
   advance = λ m κ x s p. answered _ (p .0) (p .1);
-  postpone = λ m d κ x s p. answered _ (p .0) (p .1);
+  postpone = λ m d κ x s p. answered _ (p .0) (p .1 .0);
 }
 
 events : EveryEvent
 unfolding eventNumber finishNumber judgedNumber growthFull queueNumber
 events = record {
-  starts = λ κ a x s p. answered-both _ (p .0) (p .1 .0) (p .1 .1);
-  finish = λ m e κ x s p. answered _ (p .0) (p .1);
-  expire = λ m q e κ x s p. answered-both _ (p .0) (p .1 .0) (p .1 .1);
-  growth = λ m q e κ x s p. answered-both _ (p .0) (p .1 .0) (p .1 .1);
-  queue = λ m q gain κ x s p. answered _ (p .0) (p .1);
+  starts = λ κ a x s p. answered-both _ (p .0) (p .1 .0) (p .1 .1 .0);
+  finish = λ m e κ x s p. answered _ (p .0) (p .1 .0);
+  expire = λ m q e κ x s p. answered-both _ (p .0) (p .1 .0) (p .1 .1 .0);
+  growth = λ m q e κ x s p. answered-both _ (p .0) (p .1 .0) (p .1 .1 .0);
+  queue = λ m q gain κ x s p. answered _ (p .0) (p .1 .0);
 }
 
 entries : EveryPhase
 unfolding freshNumber freshCycle entryNumber exitNumber slopeNumber
 entries = record {
-  fresh = λ t κ x s p. answered _ (p .0) (p .1);
-  down = λ m c q high risky t κ x s p. answered-both _ (p .0) (p .1 .0) (p .1 .1);
-  cruise = λ m c t κ x s p. answered-both _ (p .0) (p .1 .0) (p .1 .1);
-  refill = λ m c upRounds t κ x s p. answered-both _ (p .0) (p .1 .0) (p .1 .1);
-  up = λ m c t window κ x s p. answered-both _ (p .0) (p .1 .0) (p .1 .1);
+  fresh = λ t κ x s p. answered _ (p .0) (p .1 .0);
+  down = λ m c q high risky t κ x s p. answered-both _ (p .0) (p .1 .0) (p .1 .1 .0);
+  cruise = λ m c t κ x s p. answered-both _ (p .0) (p .1 .0) (p .1 .1 .0);
+  refill = λ m c upRounds t κ x s p. answered-both _ (p .0) (p .1 .0) (p .1 .1 .0);
+  up = λ m c t window κ x s p. answered-both _ (p .0) (p .1 .0) (p .1 .1 .0);
   exit = λ m c κ x s p. answered-both _ (p .0) (p .1 .0) (p .1 .1);
-  slope = λ c window κ x s p. answered _ (p .0) (p .1);
+  slope = λ c window κ x s p. answered _ (p .0) (p .1 .0);
 }
 
 -- what a refusing test leaves: of the windowed filter; of the count of rounds, and whether one ended

@@ -3,3 +3,4 @@ pub mod Examples
 pub mod Laws
 pub mod Reasons
 pub mod Replies
+pub mod Named

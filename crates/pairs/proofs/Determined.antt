@@ -5,11 +5,11 @@ use denote.Ref.{now}
 use denote.Triple.Clauses.{AtExit}
 use borrow.Fn.Kinds.{Dens, resT, endedOf}
 use Rattle.numbers.specs.OneReply.{OneReply}
-use Rattle.units.proofs.reply.Number.{number-injective}
+use Rattle.state.proofs.Determined.{one-reply}
 use Rattle.pairs.proofs.pairs as pairs
 
 pub one-run-reply : OneReply pairs.run_reply.Reads.Learnt
-one-run-reply κ a x y s t p q = number-injective _ _ (p ∙ sym q)
+one-run-reply κ a x y s t p q = one-reply (p .0) (q .0) (p .1) (q .1)
 
 pub one-write-run :
     (κ : Lfts 2) (a : Dens κ pairs.write_run.Kinds.ps) (x y : resT pairs.write_run.Kinds.r κ .Denot) (s t : AtExit (endedOf 2 pairs.write_run.Kinds.ps pairs.write_run.Kinds.r) κ) →

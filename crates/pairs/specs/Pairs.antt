@@ -12,6 +12,7 @@ use Rattle.units.specs.declared.maybe.MaybeNumber.the-variants as Number
 use Rattle.filters.specs.declared.windowed_filter.WindowedFilter.{WindowedFilter}
 use Rattle.filters.specs.Reason.{reasonNumber, windowedReason}
 use Rattle.filters.specs.WindowedFilter.{windowedNew, windowedNumber, windowedUpdate, bestOf, secondOf, thirdOf}
+use Rattle.state.specs.Faults.{listLength, unless}
 use Rattle.state.specs.Refusals.{noRows, argument, earlier, firstOf, orShort}
 use Rattle.words.specs.Words.{wordAt}
 
@@ -55,3 +56,8 @@ runRow window src room =
     let uneven = not (eqb (length src % 16) 0) in
     let refused = refuses (windowedNew window) src 0 (pairs src) in
     orShort (firstOf (argument uneven (earlier refused noRows))) (ltb room (32 * pairs src))
+
+-- document 02, request b: such bytes are a list length, 2.8, at place 2. The window, place 1, is free, and the output,
+-- place 3, is row 7's
+unfoldable pub pairsFaults : (src : List ℕ) → List ℕ
+pairsFaults src = unless (eqb (length src % 16) 0) 2 listLength ∷ []

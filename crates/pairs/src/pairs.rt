@@ -4,15 +4,18 @@ ghost use mathlib.Core.Path.{_≡_};
 ghost use Prim.Native.Nat.{_+_, _*_, _≤_};
 ghost use lib.ListN.{length};
 ghost use lib.Seq.{sets};
-ghost use Rattle.units.specs.Reply.{number};
+ghost use Rattle.units.specs.Reply.{number, fault};
+ghost use Rattle.state.specs.Faults.{first, named};
 ghost use Rattle.filters.specs.WindowedFilter.{windowedNew};
 ghost use Rattle.words.specs.Words.{allBytes};
-ghost use Rattle.pairs.specs.Pairs.{pairs, refuses, runWords, runRow};
+ghost use Rattle.pairs.specs.Pairs.{pairs, refuses, runWords, runRow, pairsFaults};
 ghost use Rattle.pairs.specs.Inner.{timesFall, pairAt, steppedWords};
 use filters::WindowedFilter;
 use filters::windowed_filter::Held;
 use filters::windowed_filter::Sample;
 use filters::windowed_filter::Stepped;
+use state::faults::LIST_LENGTH;
+use state::faults::unless;
 use state::refusals::Rows;
 use state::refusals::or_short;
 use state::refusals::refusal;
@@ -20,16 +23,18 @@ use units::Reply;
 use words::get_word;
 use words::put_words;
 
-// The reply to a run: 2, 3 or 7.
+// The reply to a run: 2.8 at place 2, 3 or 7.
 pub fn run_reply(window: u64, src: &[u8], room: usize) -> Reply
     ensures { λ r. ⌜ number r ≡ runRow window (now (src .entry)) room ⌝ }
+    ensures { λ r. ⌜ fault r ≡ named (runRow window (now (src .entry)) room) (first (pairsFaults (now (src .entry)))) ⌝ }
 {
-    let uneven = src.len() % 16 != 0;
-    let reply = refusal(Rows {
-        argument: uneven,
+    let even = src.len() % 16 == 0;
+    let rows = Rows {
+        argument: !even,
         earlier: is_refused(window, src),
         ..Rows::NONE
-    });
+    };
+    let reply = refusal(rows, unless(even, 2, LIST_LENGTH));
     or_short(reply, room < 32 * (src.len() / 16))
 }
 

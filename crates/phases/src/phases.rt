@@ -1,9 +1,10 @@
 // The calls on model and cycle side by side: the phase entries, the exit from Down, the slope.
 ghost use mathlib.Core.Path.{_≡_};
 ghost use mathlib.Core.Bool.{true};
-ghost use Rattle.units.specs.Reply.{number};
+ghost use Rattle.units.specs.Reply.{number, fault};
 ghost use Rattle.state.specs.Answers.{settled};
 ghost use Rattle.state.specs.Bounds.{lengthOk};
+ghost use Rattle.state.specs.Faults.{first, named, downFaults, nowFaults, refillFaults, upFaults, slopeFaults};
 ghost use Rattle.state.specs.NetworkModel.{withMoment};
 ghost use Rattle.phases.specs.Phases.{entryNumber, exitNumber, exitModel, exitCycle, isDown, leftModel, leftCycle, slopeNumber, slopeCycle, restartedAt, downNumber, downCycle, cycleIn, cappedByHigh, cruiseNumber, cruiseModel, cruiseCycle, refillNumber, refillModel, refilled, refillCycle, upNumber, upCycle};
 use crate::slope::slope_raised;
@@ -18,6 +19,11 @@ use state::cycle::Last;
 use state::cycle::Slope;
 use state::cycle::Stay;
 use state::cycle::Wait;
+use state::faults::down_fault;
+use state::faults::now_fault;
+use state::faults::refill_fault;
+use state::faults::slope_fault;
+use state::faults::up_fault;
 use state::refusals::Rows;
 use state::refusals::refusal;
 use units::Duration;
@@ -35,25 +41,29 @@ pub struct Entered {
 
 // ---- what the calls share
 
-// The reply of an entry: whether parameters and arguments are within their bounds, and the moment.
+// The reply of an entry: whether parameters and arguments are within their bounds, the moment, and the fault that an
+// argument would have.
 fn entry_reply(
     model: NetworkModel,
     cycle: Cycle,
     params: bool,
     argument: bool,
     now: Moment,
+    blamed: u32,
 ) -> Reply
     ensures { λ r. ⌜ number r ≡ entryNumber model cycle params argument now ⌝ }
+    ensures { λ r. ⌜ fault r ≡ named (entryNumber model cycle params argument now) blamed ⌝ }
 {
     let moment = model.moment;
     let stored = model.ok() & cycle.ok() & params;
     let given = moment_ok(now) & argument;
-    refusal(Rows {
+    let rows = Rows {
         stored: !stored,
         argument: !given,
         earlier: now.is_before(moment),
         ..Rows::NONE
-    })
+    };
+    refusal(rows, blamed)
 }
 
 // What a call leaves: the next model and cycle where it is done, these where it is refused.
@@ -131,10 +141,11 @@ fn exit_reply(model: NetworkModel, cycle: Cycle) -> Reply
     ensures { λ r. ⌜ number r ≡ exitNumber model cycle ⌝ }
 {
     let stored = model.ok() & cycle.ok();
-    refusal(Rows {
+    let rows = Rows {
         stored: !stored,
         ..Rows::NONE
-    })
+    };
+    refusal(rows, 0)
 }
 
 fn exit_model(model: NetworkModel, cycle: Cycle) -> NetworkModel
@@ -202,6 +213,7 @@ fn left_cycle(cycle: Cycle) -> Cycle
 pub fn raise_inflight_high_slope(cycle: Cycle, window: u64) -> CycleChanged
     ensures reply { λ r. ⌜ number (r .reply) ≡ slopeNumber cycle window ⌝ }
     ensures cycle { λ r. ⌜ r .cycle ≡ settled (slopeNumber cycle window) (slopeCycle cycle window) cycle ⌝ }
+    ensures fault { λ r. ⌜ fault (r .reply) ≡ named (slopeNumber cycle window) (first (slopeFaults window)) ⌝ }
 {
     let reply = slope_reply(cycle, window);
     if reply.is_done() {
@@ -216,12 +228,14 @@ pub fn raise_inflight_high_slope(cycle: Cycle, window: u64) -> CycleChanged
 
 fn slope_reply(cycle: Cycle, window: u64) -> Reply
     ensures { λ r. ⌜ number r ≡ slopeNumber cycle window ⌝ }
+    ensures { λ r. ⌜ fault r ≡ named (slopeNumber cycle window) (first (slopeFaults window)) ⌝ }
 {
-    refusal(Rows {
+    let rows = Rows {
         stored: !cycle.ok(),
         argument: !bytes_ok(window),
         ..Rows::NONE
-    })
+    };
+    refusal(rows, slope_fault(window))
 }
 
 fn slope_cycle(cycle: Cycle, window: u64) -> Cycle
@@ -250,6 +264,8 @@ pub fn enter_probe_down(
     ensures cycle { λ r. ⌜ r .cycle ≡ settled (downNumber model cycle params now)
         (downCycle cycle params high risky now)
         cycle ⌝ }
+    ensures fault { λ r. ⌜ fault (r .reply) ≡ named (downNumber model cycle params now)
+        (first (downFaults true true now)) ⌝ }
 {
     let reply = down_reply(model, cycle, params, now);
     if reply.is_done() {
@@ -269,8 +285,10 @@ pub fn enter_probe_down(
 
 fn down_reply(model: NetworkModel, cycle: Cycle, params: Params, now: Moment) -> Reply
     ensures { λ r. ⌜ number r ≡ downNumber model cycle params now ⌝ }
+    ensures { λ r. ⌜ fault r ≡ named (downNumber model cycle params now) (first (downFaults true true now)) ⌝ }
 {
-    entry_reply(model, cycle, params.ok(), true, now)
+    let blamed = down_fault(true, true, now);
+    entry_reply(model, cycle, params.ok(), true, now, blamed)
 }
 
 fn down_cycle(cycle: Cycle, params: Params, high: bool, risky: bool, now: Moment) -> Cycle
@@ -305,8 +323,9 @@ pub fn enter_probe_cruise(model: NetworkModel, cycle: Cycle, now: Moment) -> Ent
     ensures reply { λ r. ⌜ number (r .reply) ≡ cruiseNumber model cycle now ⌝ }
     ensures model { λ r. ⌜ r .model ≡ settled (cruiseNumber model cycle now) (cruiseModel model cycle now) model ⌝ }
     ensures cycle { λ r. ⌜ r .cycle ≡ settled (cruiseNumber model cycle now) (cruiseCycle cycle now) cycle ⌝ }
+    ensures fault { λ r. ⌜ fault (r .reply) ≡ named (cruiseNumber model cycle now) (first (nowFaults now)) ⌝ }
 {
-    let reply = entry_reply(model, cycle, true, true, now);
+    let reply = entry_reply(model, cycle, true, true, now, now_fault(now));
     settle(
         reply,
         model,
@@ -345,8 +364,11 @@ pub fn enter_probe_refill(model: NetworkModel, cycle: Cycle, rounds: u64, now: M
     ensures cycle { λ r. ⌜ r .cycle ≡ settled (refillNumber model cycle rounds now)
         (refillCycle cycle rounds now)
         cycle ⌝ }
+    ensures fault { λ r. ⌜ fault (r .reply) ≡ named (refillNumber model cycle rounds now)
+        (first (refillFaults rounds now)) ⌝ }
 {
-    let reply = entry_reply(model, cycle, true, rounds <= Cycle::MOST_ROUNDS, now);
+    let given = rounds <= Cycle::MOST_ROUNDS;
+    let reply = entry_reply(model, cycle, true, given, now, refill_fault(rounds, now));
     settle(
         reply,
         model,
@@ -395,6 +417,7 @@ pub fn enter_probe_up(model: NetworkModel, cycle: Cycle, now: Moment, window: u6
     ensures reply { λ r. ⌜ number (r .reply) ≡ upNumber model cycle now window ⌝ }
     ensures model { λ r. ⌜ r .model ≡ settled (upNumber model cycle now window) (restartedAt model now) model ⌝ }
     ensures cycle { λ r. ⌜ r .cycle ≡ settled (upNumber model cycle now window) (upCycle cycle now window) cycle ⌝ }
+    ensures fault { λ r. ⌜ fault (r .reply) ≡ named (upNumber model cycle now window) (first (upFaults now window)) ⌝ }
 {
     let reply = up_reply(model, cycle, now, window);
     settle(
@@ -408,8 +431,10 @@ pub fn enter_probe_up(model: NetworkModel, cycle: Cycle, now: Moment, window: u6
 
 fn up_reply(model: NetworkModel, cycle: Cycle, now: Moment, window: u64) -> Reply
     ensures { λ r. ⌜ number r ≡ upNumber model cycle now window ⌝ }
+    ensures { λ r. ⌜ fault r ≡ named (upNumber model cycle now window) (first (upFaults now window)) ⌝ }
 {
-    entry_reply(model, cycle, true, bytes_ok(window), now)
+    let blamed = up_fault(now, window);
+    entry_reply(model, cycle, true, bytes_ok(window), now, blamed)
 }
 
 fn up_cycle(cycle: Cycle, now: Moment, window: u64) -> Cycle

@@ -1,11 +1,12 @@
 // The calls that only answer.
 ghost use mathlib.Core.Path.{_≡_};
-ghost use mathlib.Core.Bool.{_&&_, false};
+ghost use mathlib.Core.Bool.{_&&_, true, false};
 ghost use Prim.Native.Nat.{_*_, _-_, _^_};
-ghost use Rattle.units.specs.Reply.{number};
+ghost use Rattle.units.specs.Reply.{number, fault};
 ghost use Rattle.filters.specs.MaxBandwidthFilter.{maxGet};
 ghost use Rattle.state.specs.Answers.{settled, zeroBandwidth, zeroLength, zeroMoment, zeroGain};
 ghost use Rattle.state.specs.Bounds.{bandwidthOk, gainOk};
+ghost use Rattle.state.specs.Faults.{first, named, bdpFaults, bdp1Faults};
 ghost use Rattle.state.specs.NetworkModel.{one, storedNumber, givenNumber, bdpOf, headroomNumber};
 ghost use Rattle.reads.specs.Reads.{estimateOf, headroomOf};
 use state::NetworkModel;
@@ -19,6 +20,8 @@ use state::answers::Number;
 use state::bounds::UNSET;
 use state::bounds::bandwidth_ok;
 use state::bounds::gain_ok;
+use state::faults::bdp_fault;
+use state::faults::bdp1_fault;
 use units::Bandwidth;
 use units::MaybeBandwidth;
 
@@ -37,9 +40,12 @@ pub fn bdp(model: NetworkModel, bandwidth: Bandwidth, gain: f32) -> Number
     ensures value { λ r. ⌜ r .value ≡ settled (givenNumber model (bandwidthOk bandwidth && gainOk gain))
         (bdpOf model bandwidth gain)
         0 ⌝ }
+    ensures fault { λ r. ⌜ fault (r .reply) ≡ named (givenNumber model (bandwidthOk bandwidth && gainOk gain))
+        (first (bdpFaults bandwidth true gain)) ⌝ }
 {
+    let blamed = bdp_fault(bandwidth, true, gain);
     Number::of(
-        model.given(bandwidth_ok(bandwidth) & gain_ok(gain)),
+        model.given(bandwidth_ok(bandwidth) & gain_ok(gain), blamed),
         model.bdp_of(bandwidth, gain),
     )
 }
@@ -50,9 +56,12 @@ pub fn bdp1(model: NetworkModel, bandwidth: Bandwidth) -> Number
     ensures value { λ r. ⌜ r .value ≡ settled (givenNumber model (bandwidthOk bandwidth))
         (bdpOf model bandwidth one)
         0 ⌝ }
+    ensures fault { λ r. ⌜ fault (r .reply) ≡ named (givenNumber model (bandwidthOk bandwidth))
+        (first (bdp1Faults bandwidth)) ⌝ }
 {
+    let blamed = bdp1_fault(bandwidth);
     Number::of(
-        model.given(bandwidth_ok(bandwidth)),
+        model.given(bandwidth_ok(bandwidth), blamed),
         model.bdp_of(bandwidth, 1.0),
     )
 }

@@ -1,7 +1,7 @@
 -- Any two replies that the contract of a public function allows coincide: a line for each, about what its contract says (`Reads.Learnt`).
 use mathlib.Core.Path.{_≡_, sym, _∙_}
 use Rattle.numbers.specs.OneReply.{OneReply}
-use Rattle.units.proofs.reply.Number.{number-injective}
+use Rattle.units.proofs.reply.Number.{number-injective, reply-injective}
 use Rattle.state.specs.declared.network_model.NetworkModel.{NetworkModel}
 use Rattle.units.specs.declared.reply.Reply.{Reply}
 use Rattle.state.specs.declared.network_model.Changed.{Changed}
@@ -10,7 +10,12 @@ use Rattle.state.specs.declared.cycle.CycleChanged.{CycleChanged}
 use Rattle.state.specs.declared.answers.Number.{Number}
 use Prim.Native.Nat.{ℕ}
 use Rattle.state.specs.declared.answers.Flag.{Flag}
-use mathlib.Core.Bool.{Bool}
+use mathlib.Core.Bool.{Bool, false, not, _&&_}
+use Rattle.units.specs.Reply as Replies
+use Rattle.state.specs.declared.params.Params.{Params}
+use Rattle.state.specs.NetworkModel.{modelOk, storedNumber, headroomNumber}
+use Rattle.state.specs.Params.{paramsOk}
+use Rattle.state.proofs.FirstFault.{no-two}
 use lib.Ieee.{Float}
 use Rattle.state.specs.declared.answers.GainRead.{GainRead}
 use Rattle.units.specs.declared.bandwidth.Bandwidth.{Bandwidth}
@@ -30,6 +35,7 @@ use Rattle.state.proofs.congestion_event.CongestionEvent as congestion-
 use Rattle.state.proofs.congestion_event.CongestionEventSample as congestion-event-sample
 use Rattle.state.proofs.cycle.Stay as cycle-stay
 use Rattle.state.proofs.cycle.Cycle as cycle-cycle
+use Rattle.state.proofs.faults as faults
 use Rattle.state.proofs.network_model.NetworkModel as network-model-networkmodel
 use Rattle.state.proofs.params.Params as params-params
 use Rattle.state.proofs.parts.Round as parts-round
@@ -76,6 +82,18 @@ pub momentread :
     _≡_ {A = MomentRead} (record { reply = a; moment = b }) (record { reply = a′; moment = b′ })
 momentread p q = cc
 
+-- a reply by its number and its fault; by its number alone where that is of a call that is given nothing
+pub one-reply : {r s : Reply} {n f : ℕ} → Replies.number r ≡ n → Replies.number s ≡ n → Replies.fault r ≡ f → Replies.fault s ≡ f → r ≡ s
+one-reply {r} {s} p q e g = reply-injective r s (p ∙ sym q) (e ∙ sym g)
+
+pub by-stored : {r s : Reply} (m : NetworkModel) → Replies.number r ≡ storedNumber m → Replies.number s ≡ storedNumber m → r ≡ s
+unfolding storedNumber
+by-stored {r} {s} m p q = number-injective r s (storedNumber m) (no-two (not (modelOk m)) false false false false) p q
+
+pub by-stored-with : {r s : Reply} (m : NetworkModel) (p : Params) → Replies.number r ≡ headroomNumber m p → Replies.number s ≡ headroomNumber m p → r ≡ s
+unfolding headroomNumber
+by-stored-with {r} {s} m p h k = number-injective r s (headroomNumber m p) (no-two (not (modelOk m && paramsOk p)) false false false false) h k
+
 pub one-answers-number-of : OneReply answers-number.of.Reads.Learnt
 one-answers-number-of κ a x y s t p q = number (p .0 ∙ sym (q .0)) (p .1 ∙ sym (q .1))
 
@@ -119,10 +137,13 @@ pub one-bounds-gain-ok : OneReply bounds.gain_ok.Reads.Learnt
 one-bounds-gain-ok κ a x y s t p q = p ∙ sym q
 
 pub one-refusals-or-short : OneReply refusals.or_short.Reads.Learnt
-one-refusals-or-short κ a x y s t p q = number-injective _ _ (p ∙ sym q)
+one-refusals-or-short κ a x y s t p q = reply-injective x y (p .0 ∙ sym (q .0)) (p .1 ∙ sym (q .1))
+
+pub one-refusals-first-row : OneReply refusals.first_row.Reads.Learnt
+one-refusals-first-row κ a x y s t p q = p ∙ sym q
 
 pub one-refusals-refusal : OneReply refusals.refusal.Reads.Learnt
-one-refusals-refusal κ a x y s t p q = number-injective _ _ (p ∙ sym q)
+one-refusals-refusal κ a x y s t p q = reply-injective x y (p .0 ∙ sym (q .0)) (p .1 ∙ sym (q .1))
 
 pub one-congestion-event-record-ok : OneReply congestion-event-record.ok.Reads.Learnt
 one-congestion-event-record-ok κ a x y s t p q = p ∙ sym q
@@ -130,11 +151,62 @@ one-congestion-event-record-ok κ a x y s t p q = p ∙ sym q
 pub one-congestion-event-sample-ok : OneReply congestion-event-sample.ok.Reads.Learnt
 one-congestion-event-sample-ok κ a x y s t p q = p ∙ sym q
 
+pub one-faults-unless : OneReply faults.unless.Reads.Learnt
+one-faults-unless κ a x y s t p q = p ∙ sym q
+
+pub one-faults-first-of : OneReply faults.first_of.Reads.Learnt
+one-faults-first-of κ a x y s t p q = p ∙ sym q
+
+pub one-faults-start-fault : OneReply faults.start_fault.Reads.Learnt
+one-faults-start-fault κ a x y s t p q = p ∙ sym q
+
+pub one-faults-sent-fault : OneReply faults.sent_fault.Reads.Learnt
+one-faults-sent-fault κ a x y s t p q = p ∙ sym q
+
+pub one-faults-started-fault : OneReply faults.started_fault.Reads.Learnt
+one-faults-started-fault κ a x y s t p q = p ∙ sym q
+
+pub one-faults-gain-fault : OneReply faults.gain_fault.Reads.Learnt
+one-faults-gain-fault κ a x y s t p q = p ∙ sym q
+
+pub one-faults-bdp-fault : OneReply faults.bdp_fault.Reads.Learnt
+one-faults-bdp-fault κ a x y s t p q = p ∙ sym q
+
+pub one-faults-bdp1-fault : OneReply faults.bdp1_fault.Reads.Learnt
+one-faults-bdp1-fault κ a x y s t p q = p ∙ sym q
+
+pub one-faults-limit-fault : OneReply faults.limit_fault.Reads.Learnt
+one-faults-limit-fault κ a x y s t p q = p ∙ sym q
+
+pub one-faults-postpone-fault : OneReply faults.postpone_fault.Reads.Learnt
+one-faults-postpone-fault κ a x y s t p q = p ∙ sym q
+
+pub one-faults-down-fault : OneReply faults.down_fault.Reads.Learnt
+one-faults-down-fault κ a x y s t p q = p ∙ sym q
+
+pub one-faults-now-fault : OneReply faults.now_fault.Reads.Learnt
+one-faults-now-fault κ a x y s t p q = p ∙ sym q
+
+pub one-faults-refill-fault : OneReply faults.refill_fault.Reads.Learnt
+one-faults-refill-fault κ a x y s t p q = p ∙ sym q
+
+pub one-faults-up-fault : OneReply faults.up_fault.Reads.Learnt
+one-faults-up-fault κ a x y s t p q = p ∙ sym q
+
+pub one-faults-slope-fault : OneReply faults.slope_fault.Reads.Learnt
+one-faults-slope-fault κ a x y s t p q = p ∙ sym q
+
+pub one-congestion-event-record-fault : OneReply congestion-event-record.fault.Reads.Learnt
+one-congestion-event-record-fault κ a x y s t p q = p ∙ sym q
+
+pub one-congestion-event-sample-fault : OneReply congestion-event-sample.fault.Reads.Learnt
+one-congestion-event-sample-fault κ a x y s t p q = p ∙ sym q
+
 pub one-cycle-stay-from : OneReply cycle-stay.from.Reads.Learnt
 one-cycle-stay-from κ a x y s t p q = p ∙ sym q
 
 pub one-cycle-cycle-new : OneReply cycle-cycle.new.Reads.Learnt
-one-cycle-cycle-new κ a x y s t p q = cyclechanged (number-injective _ _ (p .0 ∙ sym (q .0))) (p .1 ∙ sym (q .1))
+one-cycle-cycle-new κ a x y s t p q = cyclechanged (one-reply (p .0) (q .0) (p .1 .1) (q .1 .1)) (p .1 .0 ∙ sym (q .1 .0))
 
 pub one-cycle-cycle-ok : OneReply cycle-cycle.ok.Reads.Learnt
 one-cycle-cycle-ok κ a x y s t p q = p ∙ sym q
@@ -143,16 +215,16 @@ pub one-network-model-networkmodel-ok : OneReply network-model-networkmodel.ok.R
 one-network-model-networkmodel-ok κ a x y s t p q = p ∙ sym q
 
 pub one-network-model-networkmodel-new : OneReply network-model-networkmodel.new.Reads.Learnt
-one-network-model-networkmodel-new κ a x y s t p q = changed (number-injective _ _ (p .0 ∙ sym (q .0))) (p .1 ∙ sym (q .1))
+one-network-model-networkmodel-new κ a x y s t p q = changed (one-reply (p .0) (q .0) (p .1 .1) (q .1 .1)) (p .1 .0 ∙ sym (q .1 .0))
 
 pub one-network-model-networkmodel-stored : OneReply network-model-networkmodel.stored.Reads.Learnt
-one-network-model-networkmodel-stored κ a x y s t p q = number-injective _ _ (p ∙ sym q)
+one-network-model-networkmodel-stored κ a x y s t p q = by-stored (a .0) p q
 
 pub one-network-model-networkmodel-stored-with : OneReply network-model-networkmodel.stored_with.Reads.Learnt
-one-network-model-networkmodel-stored-with κ a x y s t p q = number-injective _ _ (p ∙ sym q)
+one-network-model-networkmodel-stored-with κ a x y s t p q = by-stored-with (a .0) (a .1 .0) p q
 
 pub one-network-model-networkmodel-given : OneReply network-model-networkmodel.given.Reads.Learnt
-one-network-model-networkmodel-given κ a x y s t p q = number-injective _ _ (p ∙ sym q)
+one-network-model-networkmodel-given κ a x y s t p q = reply-injective x y (p .0 ∙ sym (q .0)) (p .1 ∙ sym (q .1))
 
 pub one-network-model-networkmodel-settle : OneReply network-model-networkmodel.settle.Reads.Learnt
 one-network-model-networkmodel-settle κ a x y s t p q = changed (p .0 ∙ sym (q .0)) (p .1 ∙ sym (q .1))

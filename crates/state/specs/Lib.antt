@@ -3,6 +3,7 @@ pub mod Answers
 pub mod Bounds
 pub mod CongestionEvent
 pub mod Cycle
+pub mod Faults
 pub mod NetworkModel
 pub mod Params
 pub mod Parts

@@ -52,7 +52,7 @@ pub struct CongestionEventSample {
 }
 
 // A length of time that may be unset.
-fn maybe_length_ok(length: MaybeDuration) -> bool
+pub(crate) fn maybe_length_ok(length: MaybeDuration) -> bool
     ensures { λ r. ⌜ r ≡ maybeLengthOk length ⌝ }
 {
     let MaybeDuration::Set(held) = length else {

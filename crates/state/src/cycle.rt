@@ -1,10 +1,12 @@
 // The cycle of probing for bandwidth, by concern.
 ghost use mathlib.Core.Path.{_≡_};
-ghost use Rattle.units.specs.Reply.{number};
+ghost use Rattle.units.specs.Reply.{number, fault};
+ghost use Rattle.state.specs.Faults.{first, named, nowFaults};
 ghost use Rattle.state.specs.Cycle.{waitOk, upBytesOk, cycleOk, stayFrom, cycleNew, freshNumber, freshCycle};
 use crate::bounds::MOST_LENGTH;
 use crate::bounds::bytes_ok;
 use crate::bounds::moment_ok;
+use crate::faults::now_fault;
 use crate::refusals::Rows;
 use crate::refusals::refusal;
 use units::Duration;
@@ -101,11 +103,13 @@ impl Stay {
 
 fn fresh_reply(now: Moment) -> Reply
     ensures { λ r. ⌜ number r ≡ freshNumber now ⌝ }
+    ensures { λ r. ⌜ fault r ≡ named (freshNumber now) (first (nowFaults now)) ⌝ }
 {
-    refusal(Rows {
+    let rows = Rows {
         argument: !moment_ok(now),
         ..Rows::NONE
-    })
+    };
+    refusal(rows, now_fault(now))
 }
 
 impl Cycle {
@@ -117,6 +121,7 @@ impl Cycle {
     pub fn new(now: Moment) -> CycleChanged
         ensures reply { λ r. ⌜ number (r .reply) ≡ freshNumber now ⌝ }
         ensures cycle { λ r. ⌜ r .cycle ≡ freshCycle now ⌝ }
+        ensures fault { λ r. ⌜ fault (r .reply) ≡ named (freshNumber now) (first (nowFaults now)) ⌝ }
     {
         let reply = fresh_reply(now);
         if reply.is_done() {

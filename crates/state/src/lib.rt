@@ -3,6 +3,7 @@ pub mod answers;
 pub mod bounds;
 pub mod congestion_event;
 pub mod cycle;
+pub mod faults;
 pub mod network_model;
 pub mod params;
 pub mod parts;

@@ -1,7 +1,8 @@
 // The network model: its state, what a fresh one is, and what several calls do to it.
 ghost use mathlib.Core.Path.{_≡_};
 ghost use mathlib.Core.Bool.{false};
-ghost use Rattle.units.specs.Reply.{number};
+ghost use Rattle.units.specs.Reply.{number, fault};
+ghost use Rattle.state.specs.Faults.{first, named, startFaults};
 ghost use Rattle.state.specs.Answers.{settled};
 ghost use Rattle.state.specs.NetworkModel.{maxbwOk, minrttOk, modelOk, modelNew, startNumber, startModel, storedNumber, givenNumber, restartNext, capNext, clearInflightNext, clearBandwidthNext, advanceNext, bdpOf, headroomNumber};
 use crate::Params;
@@ -10,6 +11,7 @@ use crate::bounds::bandwidth_ok;
 use crate::bounds::bytes_or_unset_ok;
 use crate::bounds::length_ok;
 use crate::bounds::moment_ok;
+use crate::faults::start_fault;
 use crate::parts::Gains;
 use crate::parts::Growth;
 use crate::parts::Latest;
@@ -73,13 +75,15 @@ fn minrtt_ok(f: MinRttFilter) -> bool
 
 fn start_reply(params: Params, rtt: Duration, now: Moment) -> Reply
     ensures { λ r. ⌜ number r ≡ startNumber params rtt now ⌝ }
+    ensures { λ r. ⌜ fault r ≡ named (startNumber params rtt now) (first (startFaults rtt now)) ⌝ }
 {
     let fine = length_ok(rtt) & moment_ok(now);
-    refusal(Rows {
+    let rows = Rows {
         stored: !params.ok(),
         argument: !fine,
         ..Rows::NONE
-    })
+    };
+    refusal(rows, start_fault(rtt, now))
 }
 
 impl NetworkModel {
@@ -153,6 +157,7 @@ impl NetworkModel {
     pub fn new(params: Params, rtt: Duration, now: Moment) -> Changed
         ensures reply { λ r. ⌜ number (r .reply) ≡ startNumber params rtt now ⌝ }
         ensures model { λ r. ⌜ r .model ≡ startModel params rtt now ⌝ }
+        ensures fault { λ r. ⌜ fault (r .reply) ≡ named (startNumber params rtt now) (first (startFaults rtt now)) ⌝ }
     {
         let reply = start_reply(params, rtt, now);
         if reply.is_done() {
@@ -168,31 +173,35 @@ impl NetworkModel {
     pub fn stored(self) -> Reply
         ensures { λ r. ⌜ number r ≡ storedNumber self ⌝ }
     {
-        refusal(Rows {
+        let rows = Rows {
             stored: !self.ok(),
             ..Rows::NONE
-        })
+        };
+        refusal(rows, 0)
     }
 
     // The reply of a call that is given the parameters alone.
     pub fn stored_with(self, params: Params) -> Reply
         ensures { λ r. ⌜ number r ≡ headroomNumber self params ⌝ }
     {
-        refusal(Rows {
+        let rows = Rows {
             stored: !(self.ok() & params.ok()),
             ..Rows::NONE
-        })
+        };
+        refusal(rows, 0)
     }
 
-    // The reply of a call that is given one thing, which is fine or not.
-    pub fn given(self, fine: bool) -> Reply
+    // The reply of a call that is given something, which is fine or has this fault.
+    pub fn given(self, fine: bool, blamed: u32) -> Reply
         ensures { λ r. ⌜ number r ≡ givenNumber self fine ⌝ }
+        ensures { λ r. ⌜ fault r ≡ named (givenNumber self fine) blamed ⌝ }
     {
-        refusal(Rows {
+        let rows = Rows {
             stored: !self.ok(),
             argument: !fine,
             ..Rows::NONE
-        })
+        };
+        refusal(rows, blamed)
     }
 
     // The next model where the call is done; this one where it is refused.

@@ -9,6 +9,7 @@ use lib.Dec.{eqb}
 use lib.ListN.{length, getD}
 use lib.Seq.{sets}
 use borrow.Author.Tests.{eq-eqb, ltb-false, not-false}
+use Rattle.units.specs.Reply.{rowIn}
 use Rattle.filters.specs.declared.windowed_filter.Held.{Held}
 use Rattle.filters.specs.declared.windowed_filter.Held.the-variants.{Unset, Set}
 use Rattle.filters.specs.declared.windowed_filter.Reason.{Reason}
@@ -26,7 +27,7 @@ use Rattle.guovssalu.specs.FilterRun.{runOut}
 use Rattle.worth.specs.Worth.{Step, update, Ran, fedBy, step, goOn, NoneAbove, Promised, Holds, Shows}
 use Rattle.worth.proofs.Worth.{step-holds, stands-under, every-run}
 use Rattle.theorems.specs.Runs.{FilterRun, Filtered, AreBytes, updatesFrom, PairShows}
-use Rattle.theorems.proofs.Exported.{filter-is, filter-row}
+use Rattle.theorems.proofs.Exported.{filter-is, filter-done, filter-row}
 use Rattle.theorems.proofs.Left.{number-small}
 
 -- ---- samples that are written, by what is held
@@ -161,16 +162,16 @@ module _ (r : FilterRun) (h : Filtered r) (bytes : AreBytes (r .pairs)) (done : 
   empty = record { holds = every-run .run (r .window) []; under = tt }
 
   unrefused : refuses (windowedNew (r .window)) (r .pairs) 0 (pairs (r .pairs)) ≡ false
-  unrefused = filter-row r h .done .0 done .1
+  unrefused = filter-row r h .done .0 (ap (λ (n : ℕ). rowIn n) done) .1
 
   room : 0 + 8 * length words ≤ length (r .output)
-  room = omega (arith, length-run (windowedNew (r .window)) (r .pairs) 0 (pairs (r .pairs)), ltb-false (length (r .output)) (32 * pairs (r .pairs)) (filter-row r h .done .0 done .2))
+  room = omega (arith, length-run (windowedNew (r .window)) (r .pairs) 0 (pairs (r .pairs)), ltb-false (length (r .output)) (32 * pairs (r .pairs)) (filter-row r h .done .0 (ap (λ (n : ℕ). rowIn n) done) .2))
 
   written : r .written ≡ sets (r .output) 0 (allBytes words)
   unfolding runOut answered
   written =
       let d = filter-is r h in
-      d .1 ∙ rw (eq-eqb (runRow (r .window) (r .pairs) (length (r .output))) 0 (sym (d .0) ∙ done))
+      d .1 ∙ rw (eq-eqb (runRow (r .window) (r .pairs) (length (r .output))) 0 (filter-done r h done))
 
   word-is : (at j : ℕ) → at ≡ 0 + 8 * j → j < length words → wordAt (r .written) at ≡ getD words j 0
   word-is at j e l =

@@ -1,7 +1,7 @@
 -- The premise on the words of accepted events is one on the calls that are done (`fair`). Assumes nothing.
 use Prim.Native.Nat.{ℕ, zero, suc, _+_, _*_, _^_, _<_}
 use mathlib.Core.List.{List, [], _∷_}
-use mathlib.Core.Path.{_≡_, subst, _∙_}
+use mathlib.Core.Path.{_≡_, subst, _∙_, ap}
 use native.Mathlib.Nat.{zero-add}
 use native.Mathlib.Omega.{arith}
 use lib.Dec.{leb, eqb}
@@ -87,7 +87,7 @@ module _ (effect : Call → State → Effect) (parts : ℕ) (W : List ℕ → Ty
       step-at Q w (before r i) (t .reply)
       (λ e z.
       let small : t .reply < 2 ^ 64 = omega (arith, z) in
-      of-words w (h i (record { done = done; made = l; named = e; accepted = reply-word r ran done i l small ∙ z })))
+      of-words w (h i (record { done = done; made = l; named = e; accepted = reply-word r ran done i l (ap (λ (n : ℕ). eqb n 2) z) small ∙ z })))
       (every-outcome w (before r i) .replies)
 
   fair : (r : Run) → Ran r → AreBytes (r .state) × AreBytes (r .calls) → OfEvents W r → Fair effect parts (OfEvent Q) r

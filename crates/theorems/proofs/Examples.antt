@@ -16,6 +16,8 @@ use Rattle.state.specs.NetworkModel.{modelTests, withRounds, withRound, withLow
 use Rattle.changes.specs.Changes.{sentNumber, sentNext}
 use Rattle.state.specs.CongestionEvent.{eventTests, sampleTests}
 use Rattle.events.specs.Event.{stateAfter, deliveredBy, roundAfter, latestRaised, lowerReduced, lowerAfter, latestAfter, eventAfter, eventNext, maxbwNext, roundNext, adaptLowerBounds, modelAfter, modelNext, isUnsent, isFull, eventNumber, cwndlimitedAfter}
+use Rattle.state.specs.Faults.{first, named, sentFaults, recordFaults, sampleFaults, startedFaults}
+use Rattle.places.specs.Places.{recordFits, recordIn, sampleFitsIn, sampleIn, entryFaults, numberFaults, otherFaults, faultsOf}
 use Rattle.state.specs.Cycle.{cycleNew, stayFrom, freshNumber, freshCycle, cycleTests}
 use Rattle.words.specs.Words.{numberAt, lowBytes, wordsAt, allBytes}
 use Rattle.layout.specs.NetworkModel as N
@@ -27,8 +29,8 @@ use Rattle.calls.specs.Ask.{askOf, readOf, readMore}
 use Rattle.calls.specs.Enter.{enterOf}
 use Rattle.dispatch.specs.Outcome.{startOutcome, sendOutcome, eventOutcome, finishOutcome, judgeOutcome, askOutcome, enterOutcome, changeOutcome, outcomeOf}
 use Rattle.layout.specs.StateWords.{sameWords, isState}
-use Rattle.guovssalu.specs.ModelRun.{encodesNone, outcomeAt, answersTo, leftBy, answersFrom, wordsLeft, modelRow, answersOut, stateOut}
-use Rattle.dispatch.specs.OneCall.{answerWords}
+use Rattle.guovssalu.specs.ModelRun.{encodesNone, outcomeAt, answersTo, leftBy, answersFrom, wordsLeft, modelRow, lengthFaults, modelReply, answersOut, stateOut}
+use Rattle.dispatch.specs.OneCall.{callWord, answerWords}
 use Rattle.guovssalu.specs.Reply.{answered}
 use Rattle.drift.specs.Calls.{otherNumber, numberOf, otherNext, nextOf, after}
 use Rattle.drift.specs.Exact.{isReduced, inflightEffect, exactly}
@@ -37,21 +39,21 @@ use Rattle.theorems.specs.Runs.{stateFrom, exactAfter, exactRuns, lowWor
 use Rattle.theorems.specs.Examples.{firstExamples, secondExamples, descendingExamples, unsentExamples, thirdExamples}
 
 pub first-examples : all firstExamples ≡ true
-unfolding firstExamples scaled scaledF64 roundAway timesF32 Ieee.round Ieee.ofBits Ieee.toBits Ieee.sub Ieee.mul Ieee.ofInt Ieee.toUnsigned Ieee.eq Ieee.le maxGet maxUpdate roundsSent endsRound roundsFull roundsEnded roundsAcked settled within paramsOk roundOk modelTests rowOf upToFour withRounds withRound withLower withMoment withBegun modelNew startNumber startModel storedNumber givenNumber sentNumber sentNext lowerCapped roundSent eventTests sampleTests stateAfter deliveredBy roundAfter latestRaised lowerReduced lowerAfter latestAfter eventAfter eventNext maxbwNext roundNext adaptLowerBounds modelAfter modelNext isUnsent isFull eventNumber cwndlimitedAfter cycleNew stayFrom freshNumber freshCycle cycleTests numberAt lowBytes wordsAt allBytes N.modelFrom N.modelWords cycleFrom cycleWords paramsFrom eventFits eventFromWord wordsFrom eventWords ackedFits sampleFits sampleFrom ackedOf askOf readOf readMore enterOf startOutcome sendOutcome eventOutcome finishOutcome judgeOutcome askOutcome enterOutcome changeOutcome outcomeOf sameWords isState encodesNone outcomeAt answerWords answersTo leftBy answersFrom wordsLeft modelRow answersOut stateOut orShort answered otherNumber numberOf otherNext nextOf after isReduced inflightEffect exactly judgeStep enterStep changeStep stepOf afterStart afterStep stateFrom stepsFrom walk exactStep exactWalk exactAfter exactRuns lowWord
+unfolding firstExamples scaled scaledF64 roundAway timesF32 Ieee.round Ieee.ofBits Ieee.toBits Ieee.sub Ieee.mul Ieee.ofInt Ieee.toUnsigned Ieee.eq Ieee.le maxGet maxUpdate roundsSent endsRound roundsFull roundsEnded roundsAcked settled within paramsOk roundOk modelTests rowOf upToFour withRounds withRound withLower withMoment withBegun modelNew startNumber startModel storedNumber givenNumber sentNumber sentNext lowerCapped roundSent eventTests sampleTests stateAfter deliveredBy roundAfter latestRaised lowerReduced lowerAfter latestAfter eventAfter eventNext maxbwNext roundNext adaptLowerBounds modelAfter modelNext isUnsent isFull eventNumber cwndlimitedAfter cycleNew stayFrom freshNumber freshCycle cycleTests numberAt lowBytes wordsAt allBytes N.modelFrom N.modelWords cycleFrom cycleWords paramsFrom eventFits eventFromWord wordsFrom eventWords ackedFits sampleFits sampleFrom ackedOf askOf readOf readMore enterOf startOutcome sendOutcome eventOutcome finishOutcome judgeOutcome askOutcome enterOutcome changeOutcome outcomeOf sameWords isState encodesNone outcomeAt callWord named answerWords answersTo leftBy answersFrom wordsLeft modelRow lengthFaults modelReply first answersOut stateOut orShort answered otherNumber numberOf otherNext nextOf after isReduced inflightEffect exactly judgeStep enterStep changeStep sentFaults recordFaults sampleFaults startedFaults recordFits recordIn sampleFitsIn sampleIn entryFaults numberFaults otherFaults faultsOf stepOf afterStart afterStep stateFrom stepsFrom walk exactStep exactWalk exactAfter exactRuns lowWord
 first-examples = refl
 
 pub second-examples : all secondExamples ≡ true
-unfolding secondExamples scaled scaledF64 roundAway timesF32 Ieee.round Ieee.ofBits Ieee.toBits Ieee.sub Ieee.mul Ieee.ofInt Ieee.toUnsigned Ieee.eq Ieee.le maxGet maxUpdate roundsSent endsRound roundsFull roundsEnded roundsAcked settled within paramsOk roundOk modelTests rowOf upToFour withRounds withRound withLower withMoment withBegun modelNew startNumber startModel storedNumber givenNumber sentNumber sentNext lowerCapped roundSent eventTests sampleTests stateAfter deliveredBy roundAfter latestRaised lowerReduced lowerAfter latestAfter eventAfter eventNext maxbwNext roundNext adaptLowerBounds modelAfter modelNext isUnsent isFull eventNumber cwndlimitedAfter cycleNew stayFrom freshNumber freshCycle cycleTests numberAt lowBytes wordsAt allBytes N.modelFrom N.modelWords cycleFrom cycleWords paramsFrom eventFits eventFromWord wordsFrom eventWords ackedFits sampleFits sampleFrom ackedOf askOf readOf readMore enterOf startOutcome sendOutcome eventOutcome finishOutcome judgeOutcome askOutcome enterOutcome changeOutcome outcomeOf sameWords isState encodesNone outcomeAt answerWords answersTo leftBy answersFrom wordsLeft modelRow answersOut stateOut orShort answered otherNumber numberOf otherNext nextOf after isReduced inflightEffect exactly judgeStep enterStep changeStep stepOf afterStart afterStep stateFrom stepsFrom walk exactStep exactWalk exactAfter exactRuns lowWord
+unfolding secondExamples scaled scaledF64 roundAway timesF32 Ieee.round Ieee.ofBits Ieee.toBits Ieee.sub Ieee.mul Ieee.ofInt Ieee.toUnsigned Ieee.eq Ieee.le maxGet maxUpdate roundsSent endsRound roundsFull roundsEnded roundsAcked settled within paramsOk roundOk modelTests rowOf upToFour withRounds withRound withLower withMoment withBegun modelNew startNumber startModel storedNumber givenNumber sentNumber sentNext lowerCapped roundSent eventTests sampleTests stateAfter deliveredBy roundAfter latestRaised lowerReduced lowerAfter latestAfter eventAfter eventNext maxbwNext roundNext adaptLowerBounds modelAfter modelNext isUnsent isFull eventNumber cwndlimitedAfter cycleNew stayFrom freshNumber freshCycle cycleTests numberAt lowBytes wordsAt allBytes N.modelFrom N.modelWords cycleFrom cycleWords paramsFrom eventFits eventFromWord wordsFrom eventWords ackedFits sampleFits sampleFrom ackedOf askOf readOf readMore enterOf startOutcome sendOutcome eventOutcome finishOutcome judgeOutcome askOutcome enterOutcome changeOutcome outcomeOf sameWords isState encodesNone outcomeAt callWord named answerWords answersTo leftBy answersFrom wordsLeft modelRow lengthFaults modelReply first answersOut stateOut orShort answered otherNumber numberOf otherNext nextOf after isReduced inflightEffect exactly judgeStep enterStep changeStep sentFaults recordFaults sampleFaults startedFaults recordFits recordIn sampleFitsIn sampleIn entryFaults numberFaults otherFaults faultsOf stepOf afterStart afterStep stateFrom stepsFrom walk exactStep exactWalk exactAfter exactRuns lowWord
 second-examples = refl
 
 pub descending-examples : all descendingExamples ≡ true
-unfolding descendingExamples scaled scaledF64 roundAway timesF32 Ieee.round Ieee.ofBits Ieee.toBits Ieee.sub Ieee.mul Ieee.ofInt Ieee.toUnsigned Ieee.eq Ieee.le maxGet maxUpdate roundsSent endsRound roundsFull roundsEnded roundsAcked settled within paramsOk roundOk modelTests rowOf upToFour withRounds withRound withLower withMoment withBegun modelNew startNumber startModel storedNumber givenNumber sentNumber sentNext lowerCapped roundSent eventTests sampleTests stateAfter deliveredBy roundAfter latestRaised lowerReduced lowerAfter latestAfter eventAfter eventNext maxbwNext roundNext adaptLowerBounds modelAfter modelNext isUnsent isFull eventNumber cwndlimitedAfter cycleNew stayFrom freshNumber freshCycle cycleTests numberAt lowBytes wordsAt allBytes N.modelFrom N.modelWords cycleFrom cycleWords paramsFrom eventFits eventFromWord wordsFrom eventWords ackedFits sampleFits sampleFrom ackedOf askOf readOf readMore enterOf startOutcome sendOutcome eventOutcome finishOutcome judgeOutcome askOutcome enterOutcome changeOutcome outcomeOf sameWords isState encodesNone outcomeAt answerWords answersTo leftBy answersFrom wordsLeft modelRow answersOut stateOut orShort answered otherNumber numberOf otherNext nextOf after isReduced inflightEffect exactly judgeStep enterStep changeStep stepOf afterStart afterStep stateFrom stepsFrom walk exactStep exactWalk exactAfter exactRuns lowWord
+unfolding descendingExamples scaled scaledF64 roundAway timesF32 Ieee.round Ieee.ofBits Ieee.toBits Ieee.sub Ieee.mul Ieee.ofInt Ieee.toUnsigned Ieee.eq Ieee.le maxGet maxUpdate roundsSent endsRound roundsFull roundsEnded roundsAcked settled within paramsOk roundOk modelTests rowOf upToFour withRounds withRound withLower withMoment withBegun modelNew startNumber startModel storedNumber givenNumber sentNumber sentNext lowerCapped roundSent eventTests sampleTests stateAfter deliveredBy roundAfter latestRaised lowerReduced lowerAfter latestAfter eventAfter eventNext maxbwNext roundNext adaptLowerBounds modelAfter modelNext isUnsent isFull eventNumber cwndlimitedAfter cycleNew stayFrom freshNumber freshCycle cycleTests numberAt lowBytes wordsAt allBytes N.modelFrom N.modelWords cycleFrom cycleWords paramsFrom eventFits eventFromWord wordsFrom eventWords ackedFits sampleFits sampleFrom ackedOf askOf readOf readMore enterOf startOutcome sendOutcome eventOutcome finishOutcome judgeOutcome askOutcome enterOutcome changeOutcome outcomeOf sameWords isState encodesNone outcomeAt callWord named answerWords answersTo leftBy answersFrom wordsLeft modelRow lengthFaults modelReply first answersOut stateOut orShort answered otherNumber numberOf otherNext nextOf after isReduced inflightEffect exactly judgeStep enterStep changeStep sentFaults recordFaults sampleFaults startedFaults recordFits recordIn sampleFitsIn sampleIn entryFaults numberFaults otherFaults faultsOf stepOf afterStart afterStep stateFrom stepsFrom walk exactStep exactWalk exactAfter exactRuns lowWord
 descending-examples = refl
 
 pub unsent-examples : all unsentExamples ≡ true
-unfolding unsentExamples scaled scaledF64 roundAway timesF32 Ieee.round Ieee.ofBits Ieee.toBits Ieee.sub Ieee.mul Ieee.ofInt Ieee.toUnsigned Ieee.eq Ieee.le maxGet maxUpdate roundsSent endsRound roundsFull roundsEnded roundsAcked settled within paramsOk roundOk modelTests rowOf upToFour withRounds withRound withLower withMoment withBegun modelNew startNumber startModel storedNumber givenNumber sentNumber sentNext lowerCapped roundSent eventTests sampleTests stateAfter deliveredBy roundAfter latestRaised lowerReduced lowerAfter latestAfter eventAfter eventNext maxbwNext roundNext adaptLowerBounds modelAfter modelNext isUnsent isFull eventNumber cwndlimitedAfter cycleNew stayFrom freshNumber freshCycle cycleTests numberAt lowBytes wordsAt allBytes N.modelFrom N.modelWords cycleFrom cycleWords paramsFrom eventFits eventFromWord wordsFrom eventWords ackedFits sampleFits sampleFrom ackedOf askOf readOf readMore enterOf startOutcome sendOutcome eventOutcome finishOutcome judgeOutcome askOutcome enterOutcome changeOutcome outcomeOf sameWords isState encodesNone outcomeAt answerWords answersTo leftBy answersFrom wordsLeft modelRow answersOut stateOut orShort answered otherNumber numberOf otherNext nextOf after isReduced inflightEffect exactly judgeStep enterStep changeStep stepOf afterStart afterStep stateFrom stepsFrom walk exactStep exactWalk exactAfter exactRuns lowWord
+unfolding unsentExamples scaled scaledF64 roundAway timesF32 Ieee.round Ieee.ofBits Ieee.toBits Ieee.sub Ieee.mul Ieee.ofInt Ieee.toUnsigned Ieee.eq Ieee.le maxGet maxUpdate roundsSent endsRound roundsFull roundsEnded roundsAcked settled within paramsOk roundOk modelTests rowOf upToFour withRounds withRound withLower withMoment withBegun modelNew startNumber startModel storedNumber givenNumber sentNumber sentNext lowerCapped roundSent eventTests sampleTests stateAfter deliveredBy roundAfter latestRaised lowerReduced lowerAfter latestAfter eventAfter eventNext maxbwNext roundNext adaptLowerBounds modelAfter modelNext isUnsent isFull eventNumber cwndlimitedAfter cycleNew stayFrom freshNumber freshCycle cycleTests numberAt lowBytes wordsAt allBytes N.modelFrom N.modelWords cycleFrom cycleWords paramsFrom eventFits eventFromWord wordsFrom eventWords ackedFits sampleFits sampleFrom ackedOf askOf readOf readMore enterOf startOutcome sendOutcome eventOutcome finishOutcome judgeOutcome askOutcome enterOutcome changeOutcome outcomeOf sameWords isState encodesNone outcomeAt callWord named answerWords answersTo leftBy answersFrom wordsLeft modelRow lengthFaults modelReply first answersOut stateOut orShort answered otherNumber numberOf otherNext nextOf after isReduced inflightEffect exactly judgeStep enterStep changeStep sentFaults recordFaults sampleFaults startedFaults recordFits recordIn sampleFitsIn sampleIn entryFaults numberFaults otherFaults faultsOf stepOf afterStart afterStep stateFrom stepsFrom walk exactStep exactWalk exactAfter exactRuns lowWord
 unsent-examples = refl
 
 pub third-examples : all thirdExamples ≡ true
-unfolding thirdExamples scaled scaledF64 roundAway timesF32 Ieee.round Ieee.ofBits Ieee.toBits Ieee.sub Ieee.mul Ieee.ofInt Ieee.toUnsigned Ieee.eq Ieee.le maxGet maxUpdate roundsSent endsRound roundsFull roundsEnded roundsAcked settled within paramsOk roundOk modelTests rowOf upToFour withRounds withRound withLower withMoment withBegun modelNew startNumber startModel storedNumber givenNumber sentNumber sentNext lowerCapped roundSent eventTests sampleTests stateAfter deliveredBy roundAfter latestRaised lowerReduced lowerAfter latestAfter eventAfter eventNext maxbwNext roundNext adaptLowerBounds modelAfter modelNext isUnsent isFull eventNumber cwndlimitedAfter cycleNew stayFrom freshNumber freshCycle cycleTests numberAt lowBytes wordsAt allBytes N.modelFrom N.modelWords cycleFrom cycleWords paramsFrom eventFits eventFromWord wordsFrom eventWords ackedFits sampleFits sampleFrom ackedOf askOf readOf readMore enterOf startOutcome sendOutcome eventOutcome finishOutcome judgeOutcome askOutcome enterOutcome changeOutcome outcomeOf sameWords isState encodesNone outcomeAt answerWords answersTo leftBy answersFrom wordsLeft modelRow answersOut stateOut orShort answered otherNumber numberOf otherNext nextOf after isReduced inflightEffect exactly judgeStep enterStep changeStep stepOf afterStart afterStep stateFrom stepsFrom walk exactStep exactWalk exactAfter exactRuns lowWord
+unfolding thirdExamples scaled scaledF64 roundAway timesF32 Ieee.round Ieee.ofBits Ieee.toBits Ieee.sub Ieee.mul Ieee.ofInt Ieee.toUnsigned Ieee.eq Ieee.le maxGet maxUpdate roundsSent endsRound roundsFull roundsEnded roundsAcked settled within paramsOk roundOk modelTests rowOf upToFour withRounds withRound withLower withMoment withBegun modelNew startNumber startModel storedNumber givenNumber sentNumber sentNext lowerCapped roundSent eventTests sampleTests stateAfter deliveredBy roundAfter latestRaised lowerReduced lowerAfter latestAfter eventAfter eventNext maxbwNext roundNext adaptLowerBounds modelAfter modelNext isUnsent isFull eventNumber cwndlimitedAfter cycleNew stayFrom freshNumber freshCycle cycleTests numberAt lowBytes wordsAt allBytes N.modelFrom N.modelWords cycleFrom cycleWords paramsFrom eventFits eventFromWord wordsFrom eventWords ackedFits sampleFits sampleFrom ackedOf askOf readOf readMore enterOf startOutcome sendOutcome eventOutcome finishOutcome judgeOutcome askOutcome enterOutcome changeOutcome outcomeOf sameWords isState encodesNone outcomeAt callWord named answerWords answersTo leftBy answersFrom wordsLeft modelRow lengthFaults modelReply first answersOut stateOut orShort answered otherNumber numberOf otherNext nextOf after isReduced inflightEffect exactly judgeStep enterStep changeStep sentFaults recordFaults sampleFaults startedFaults recordFits recordIn sampleFitsIn sampleIn entryFaults numberFaults otherFaults faultsOf stepOf afterStart afterStep stateFrom stepsFrom walk exactStep exactWalk exactAfter exactRuns lowWord
 third-examples = refl

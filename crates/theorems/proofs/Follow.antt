@@ -15,6 +15,7 @@ use Rattle.state.specs.declared.network_model.NetworkModel.{NetworkModel}
 use Rattle.state.specs.declared.params.Params.{Params}
 use Rattle.state.specs.Answers.{settled}
 use Rattle.state.specs.Refusals.{rowOf}
+use Rattle.state.proofs.FirstFault.{no-two}
 use Rattle.state.specs.NetworkModel.{modelOk, storedNumber}
 use Rattle.state.specs.declared.congestion_event.CongestionEvent.{CongestionEvent}
 use Rattle.state.specs.declared.congestion_event.CongestionEventSample.{CongestionEventSample}
@@ -87,6 +88,10 @@ asked : (w : List ℕ) (s : State) → getD w 0 0 ≡ 35 → (outcomeIn w s .rep
 unfolding outcomeOf askOutcome askOf readMore
 asked w s e = rw e (refl, refl)
 
+stored-plain : (m : NetworkModel) → eqb (storedNumber m) 2 ≡ false
+unfolding storedNumber
+stored-plain m = no-two (not (modelOk m)) false false false false
+
 stored-small : (m : NetworkModel) → storedNumber m < 2 ^ 64
 unfolding storedNumber rowOf
 stored-small m = go (modelOk m)
@@ -126,7 +131,7 @@ module _ (parts : ℕ) (P : List ℕ → Type 0) (Q : Params → CongestionEvent
       let form = walk-form (r .calls) (r .lists) (bytes .1) i (stateFrom (r .state)) (from-form (r .state) (bytes .0)) in
       let t = asked (call r i) s (a .named) in
       let small = stored-small (s .model) in
-      let zero : storedNumber (s .model) ≡ 0 = sym (t .0) ∙ sym (reply-word r ran (a .done) i (a .made) (subst (λ (n : ℕ). n < 2 ^ 64) (sym (t .0)) small)) ∙ a .accepted in
+      let zero : storedNumber (s .model) ≡ 0 = sym (t .0) ∙ sym (reply-word r ran (a .done) i (a .made) (subst (λ (n : ℕ). eqb n 2 ≡ false) (sym (t .0)) (stored-plain (s .model))) (subst (λ (n : ℕ). n < 2 ^ 64) (sym (t .0)) small)) ∙ a .accepted in
       let value : outcomeOfCall r i .value ≡ s .model .lower .inflight = t .1 ∙ rw zero in
       ap (λ (n : ℕ). cond (eqb n (2 ^ 64 - 1)) Number.Unset (Number.Set n))
       (value-word r ran (a .done) i (a .made) (subst (λ (n : ℕ). n < 2 ^ 64) (sym value) (form .bound .lowInflight)) ∙ value)

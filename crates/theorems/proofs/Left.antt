@@ -27,7 +27,7 @@ use Rattle.drift.specs.Calls.{State}
 use Rattle.theorems.specs.Steps.{moment, duration, stateLeft, outcomeIn, stepOf, afterStep, stepsFrom, walk}
 use Rattle.theorems.specs.Runs.{Run, Ran, AreBytes, stateFrom, isWithin, count, call, before, Starts}
 use Rattle.theorems.proofs.Decoded.{state, every-outcome}
-use Rattle.theorems.proofs.Exported.{run-is}
+use Rattle.theorems.proofs.Exported.{run-is, run-done}
 use Rattle.theorems.proofs.Form.{InForm, read-form, form-words}
 use Rattle.theorems.proofs.Kept.{OwnWords, Within, step-form, step-kept, step-within, start-within}
 
@@ -107,7 +107,7 @@ taken-back s f =
 -- ---- a run that is done
 module _ (r : Run) (ran : Ran r) (done : r .reply ≡ 0) where
   row-done : modelRow (r .state) (r .calls) (length (r .answers)) ≡ 0
-  row-done = sym (run-is r ran .0) ∙ done
+  row-done = run-done r ran done
 
   pub left-whole : r .left ≡ allBytes (wordsOf (before r (count r)))
   unfolding stateOut answered wordsLeft stateFrom

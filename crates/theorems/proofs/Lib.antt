@@ -7,6 +7,7 @@ pub mod Below
 pub mod Note
 pub mod Numbers
 pub mod Rows
+pub mod Blames
 pub mod Exported
 pub mod Refused
 pub mod Left

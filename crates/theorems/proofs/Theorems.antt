@@ -15,6 +15,7 @@ use Rattle.events.proofs.OnlyGreatest as events
 use Rattle.dispatch.proofs.Alike as dispatch
 use Rattle.laws.proofs.Contracts.{every-call}
 use Rattle.laws.proofs.Reasons.{reasons}
+use Rattle.laws.proofs.Named.{every-fault}
 use Rattle.laws.proofs.Replies.{every-reply}
 use Rattle.words.specs.Word.{flagFits}
 use Rattle.dispatch.proofs.RoundTrip.{round-trip}
@@ -36,6 +37,7 @@ use Rattle.theorems.proofs.Left.{left-whole, from-form, left-within, st
 use Rattle.theorems.proofs.Note.{noted, last-noted}
 use Rattle.theorems.proofs.Numbers.{every-number}
 use Rattle.theorems.proofs.Refused.{refused}
+use Rattle.theorems.proofs.Blames.{call-blames}
 use Rattle.theorems.proofs.Rows.{every-row}
 
 -- call 40 with a flag that is neither 0 nor 1 is given a moment that is out of bounds
@@ -76,10 +78,12 @@ theorems =
       call-answered = answer-bytes;
       call-row = every-row;
       call-refused = refused;
+      call-fault = call-blames;
       words = tested;
       down-flags = down-flags;
       words-back = round-trip;
       calls = every-reply;
+      calls-faults = every-fault;
       calls-bounds = every-call;
       run-defined = exported.run-is;
       filter-defined = exported.filter-is;

@@ -8,7 +8,7 @@ use lib.Dec.{eqb}
 use lib.ListN.{length, replicate, take}
 use Rattle.words.specs.Words.{allBytes}
 use Rattle.dispatch.specs.Examples.{same, zeros}
-use Rattle.guovssalu.specs.ModelRun.{noLists, modelRow, stateOut, answersOut}
+use Rattle.guovssalu.specs.ModelRun.{noLists, modelReply, stateOut, answersOut}
 use Rattle.guovssalu.specs.Examples.{params, startAt, sends}
 use Rattle.drift.specs.Exact.{Exact, unset, over, inflightEffect}
 use Rattle.drift.specs.Drift.{usualParts}
@@ -37,7 +37,7 @@ ran state calls lists n =
       calls = calls;
       lists = lists;
       answers = answers;
-      reply = modelRow state calls (length answers);
+      reply = modelReply state calls (length answers);
       left = stateOut state calls lists answers;
       written = answersOut state calls lists answers;
     }
@@ -84,7 +84,8 @@ firstExamples =
     ∷ isOver (1300 * usualParts) 24 1 (exactAfter inflightEffect usualParts first unset)
     ∷ []
 
--- the question is answered 910, the two bad calls 2, the last question 637; beside it 1300 b b after two reductions
+-- the question is answered 910, the two bad calls 2.8 at place 0 and 2.9 at place 1, the last question 637; beside it
+-- 1300 b b after two reductions
 unfoldable pub secondExamples : List Bool
 secondExamples =
     eqb (second .reply) 0
@@ -92,8 +93,8 @@ secondExamples =
     ∷ same (second .written)
     (allBytes
     ((0 ∷ 910 ∷ zeros 16)
-    ++ (2 ∷ zeros 17)
-    ++ (2 ∷ zeros 17)
+    ++ (0x802 ∷ zeros 17)
+    ++ (0x1_0902 ∷ zeros 17)
     ++ zeros 18
     ++ (zeros 3 ++ (1300 ∷ 0 ∷ 0 ∷ 1 ∷ 1 ∷ 1 ∷ 0 ∷ 1 ∷ 1 ∷ []) ++ zeros 6)
     ++ (0 ∷ 637 ∷ zeros 16)))
@@ -101,7 +102,8 @@ secondExamples =
     (exactAfter inflightEffect usualParts second (over (1300 * usualParts) 24 1))
     ∷ []
 
--- the place outside is answered 2, with the record as it was handed in; then all is as after the event of one number
+-- the place outside is answered 2.8 at place 1, with the record as it was handed in; then all is as after the event of
+-- one number
 unfoldable pub descendingExamples : List Bool
 descendingExamples =
     eqb (descending .reply) 0
@@ -109,7 +111,7 @@ descendingExamples =
     ∷ same (descending .written)
     (allBytes
     (zeros 18
-    ++ (2 ∷ 0 ∷ 0 ∷ 1300 ∷ zeros 14)
+    ++ (0x1_0802 ∷ 0 ∷ 0 ∷ 1300 ∷ zeros 14)
     ++ (zeros 3 ++ (1300 ∷ 0 ∷ 0 ∷ 1 ∷ 1 ∷ 1 ∷ 0 ∷ 1 ∷ 1 ∷ []) ++ zeros 6)))
     ∷ []
 
@@ -122,10 +124,10 @@ unsentExamples =
     ∷ isOver 9 48 2 (exactAfter inflightEffect usualParts unsent (over 9 48 2))
     ∷ []
 
--- the run that is refused leaves the bytes, and the exact value
+-- the run that is refused, with 2.8 at place 2, leaves the bytes, and the exact value
 unfoldable pub thirdExamples : List Bool
 thirdExamples =
-    eqb (third .reply) 2
+    eqb (third .reply) 0x2_0802
     ∷ same (third .left) (allBytes (after 2 637))
     ∷ isOver 9 48 2 (exactAfter inflightEffect usualParts third (over 9 48 2))
     ∷ []

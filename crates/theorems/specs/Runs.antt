@@ -37,6 +37,7 @@ use Rattle.drift.specs.Calls.{Call, State}
 use Rattle.drift.specs.Exact as X
 use Rattle.drift.specs.Exact.{Exact}
 use Rattle.units.specs.Contracts.{Allowed}
+use Rattle.units.specs.Reply.{rowIn}
 use Rattle.units.specs.declared.maybe.MaybeNumber.{MaybeNumber}
 use Rattle.units.specs.declared.maybe.MaybeNumber.the-variants as Number
 use Rattle.drift.specs.Drift.{lowOf}
@@ -178,7 +179,7 @@ count r = callsIn (r .calls)
 -- 1: "the state's 408 bytes encode no state"; 2: a state has 408 bytes, a call 392; 7: an answer has 144 bytes
 abbrev pub RunRow : Run → Type 0
 RunRow r =
-    FirstRow (r .reply)
+    FirstRow (rowIn (r .reply))
     1 (encodesNone (r .state))
     2 (not (eqb (length (r .state)) 408) || not (eqb (length (r .calls) % 392) 0))
     (ltb (length (r .answers)) (144 * count r))
@@ -186,7 +187,7 @@ RunRow r =
 -- 2: a pair has 16 bytes; 3: "a pair that the update would refuse"; 7: three samples and the reason have 32 bytes
 abbrev pub FilterRow : FilterRun → Type 0
 FilterRow r =
-    FirstRow (r .reply)
+    FirstRow (rowIn (r .reply))
     2 (not (eqb (length (r .pairs) % 16) 0))
     3 (refuses (windowedNew (r .window)) (r .pairs) 0 (pairs (r .pairs)))
     (ltb (length (r .output)) (32 * pairs (r .pairs)))
@@ -211,7 +212,7 @@ PairShows r i =
 -- 1: "rounds over 30 give 1"; 2: a window above 2^40; 7: two words have 16 bytes
 abbrev pub SlopeRow : SlopeRun → Type 0
 SlopeRow r =
-    FirstRow (r .reply)
+    FirstRow (rowIn (r .reply))
     1 (not (roundsOk (r .rounds)))
     2 (not (bytesOk (r .window)))
     (ltb (length (r .output)) 16)

@@ -13,12 +13,13 @@
 -- `pub` and `use` lines add nothing to what is said.
 --
 -- Bytes, words, the numbers of the calls, of the refusals and of the reasons are explained in docs/LAYOUT.md, "document
--- 01" and "document 02" in docs/README.md. The statements are made of names from four files beside this one:
+-- 01" and "document 02" in docs/README.md. The statements are made of names from five files beside this one:
 --   Runs.antt     an exported call as bytes lent and bytes left, of which no more is known than its contract; runs, by
 --                 `guovssalu_run` or with lists, one after the other; where in the bytes a word stands; the exact value
 --                 beside them
 --   Steps.antt    the 49 words of a call, with the lists, as the step that they ask for, and what it does to a state
 --   Rows.antt     by the number of a call in a run, which rows of the table hold: document 01's, and request i's 10
+--   Blames.antt   which argument the reply to a call of a run names: request b
 --   Casts.antt    that the casts of the definitions are those of the Rust Reference
 -- and Examples.antt has five runs worked out in bytes, so that one sees what the statements speak of.
 -- Any other name stands in the crate that its `use` line names; what the lower bounds, exact values and `Follows` are
@@ -43,24 +44,26 @@ use Rattle.state.specs.Bounds.{momentOk}
 use Rattle.laws.specs.Laws.{EveryCall}
 use Rattle.laws.specs.Reasons.{Reasons}
 use Rattle.laws.specs.Replies.{Exactly, EveryReply}
+use Rattle.laws.specs.Named.{EveryFault}
 use Rattle.words.specs.Words.{allBytes}
 use Rattle.dispatch.specs.RoundTrip.{RoundTrip}
 use Rattle.arguments.specs.Tested.{Tested}
 use Rattle.words.specs.Word.{word}
 use Rattle.calls.specs.Enter.{downAt}
-use Rattle.pairs.specs.Pairs.{pairs, runRow}
+use Rattle.pairs.specs.Pairs.{pairs}
 use Rattle.worth.specs.Worth.{EveryRun}
 use Rattle.worth.specs.Returned.{EveryReturned}
 use Rattle.worth.specs.Examples.{Worked}
-use Rattle.guovssalu.specs.FilterRun.{runOut}
+use Rattle.guovssalu.specs.FilterRun.{runReply, runOut}
 use Rattle.layout.specs.StateWords.{stateWords}
-use Rattle.guovssalu.specs.ModelRun.{encodesNone, modelRow, stateOut, answersOut}
+use Rattle.guovssalu.specs.ModelRun.{encodesNone, modelReply, stateOut, answersOut}
 use Rattle.dispatch.specs.OneCall.{answerWords}
-use Rattle.guovssalu.specs.Slope.{slopeRow, slopeOut}
+use Rattle.guovssalu.specs.Slope.{slopeReply, slopeOut}
 use Rattle.drift.specs.Calls.{Call, State}
 use Rattle.drift.specs.Exact.{Effect, Exact, unset, inflightEffect, bandwidthEffect}
 use Rattle.units.specs.declared.maybe.MaybeNumber.{MaybeNumber}
 use Rattle.drift.specs.Drift.{Follows, IsBeta, usualBeta, usualParts, Under}
+use Rattle.theorems.specs.Blames.{Blames}
 use Rattle.theorems.specs.Rows.{rowsOf}
 use Rattle.theorems.specs.Casts.{Casts}
 use Rattle.theorems.specs.Steps.{moment, Makes, Refused, Numbered, stepOf, outcomeIn, noteAfter, lastAfter}
@@ -117,12 +120,16 @@ pub record Theorems : Type 0 where
       let s = before r (count r) in r .left ≡ allBytes (stateWords (s .model) (s .cycle))
   -- In a run that is done, call i is answered by its outcome (`outcomeOf`) in the state that the calls before it left
   pub call-answered : (r : Run) → Ran r → r .reply ≡ 0 → (i : ℕ) → i < count r →
-      answer r i ≡ allBytes (answerWords (outcomeIn (call r i) (before r i)))
+      answer r i ≡ allBytes (answerWords (call r i) (before r i .model) (outcomeIn (call r i) (before r i)))
   -- A call of a run is refused with the number of the first row that holds, exactly then, whatever its words are
   pub call-row : (w : List ℕ) (s : State) → Exactly (outcomeIn w s .reply) (rowsOf w s)
   -- Refused, it changes nothing (a refused start has no earlier state, and leaves a fresh one at moment 0). Its answer
   -- is the refusal's number, 0 and, of call 3, the record as handed in; of the others 16 zeros
   pub call-refused : (w : List ℕ) (s : State) → (outcomeIn w s .reply ≡ 0 → ⊥) → Refused w s
+  -- A call that is refused with 2 names the first of its faults, by kind and place, and no other reply names any; its
+  -- row is the number above (document 02, request b). Each public call does the same by its contract (`calls-faults`,
+  -- below)
+  pub call-fault : (w : List ℕ) (s : State) → Blames w s
   -- Words that no writer writes are out of bounds: what is within them is written in the very words that were read. So
   -- are the two flags of call 40, whose moment is read with them
   pub words : Tested
@@ -133,19 +140,20 @@ pub record Theorems : Type 0 where
   -- the first row that holds, exactly then; refused, it leaves what it was given, and done, what its definition says
   -- (demand 2); then the state is within its bounds
   pub calls : EveryReply
+  pub calls-faults : EveryFault
   pub calls-bounds : EveryCall
   --
   -- ==== Demand 2. What an exported call replies and leaves is what its definition says, and nothing else is allowed.
   -- Where nothing is refused it is written from the Rust: an event's, since request i, over events that pass row 10
   pub run-defined : (r : Run) → Ran r →
-      (r .reply ≡ modelRow (r .state) (r .calls) (length (r .answers)))
+      (r .reply ≡ modelReply (r .state) (r .calls) (length (r .answers)))
       × (r .left ≡ stateOut (r .state) (r .calls) (r .lists) (r .answers))
       × (r .written ≡ answersOut (r .state) (r .calls) (r .lists) (r .answers))
   pub filter-defined : (r : FilterRun) → Filtered r →
-      (r .reply ≡ runRow (r .window) (r .pairs) (length (r .output)))
+      (r .reply ≡ runReply (r .window) (r .pairs) (length (r .output)))
       × (r .written ≡ runOut (r .window) (r .pairs) (r .output))
   pub slope-defined : (r : SlopeRun) → Raised r →
-      (r .reply ≡ slopeRow (r .rounds) (r .window) (length (r .output)))
+      (r .reply ≡ slopeReply (r .rounds) (r .window) (length (r .output)))
       × (r .written ≡ slopeOut (r .rounds) (r .window) (r .output))
   -- The seven conversions; and their casts are those of the Rust Reference, their rounding that of Rust's `f64::round`
   pub conversions : Conversions
@@ -208,6 +216,6 @@ pub record Theorems : Type 0 where
 -- which are only read, share bytes. The page docs/LAYOUT.md. And the definitions that this page is made of, written
 -- from documents 01 and 02, the original and docs/LAYOUT.md: all files of specs/ to which `use` lines lead from here,
 -- with their remarks. A script of the gate counts their lines (tests/contracts.py):
---   numbers 257, units 93, filters 442, words 129, state 749, worth 274, layout 216, events 464, phases 208, changes
---   62, judge 199, arguments 222, reads 18, pairs 57, calls 204, laws 526, drift 379, dispatch 234, guovssalu 155,
---   theorems 815: together 5703
+--   numbers 257, units 125, filters 442, words 137, state 939, worth 274, layout 216, events 464, phases 208, changes
+--   62, judge 199, arguments 222, reads 18, places 142, pairs 63, calls 204, laws 658, drift 379, dispatch 242,
+--   guovssalu 180, theorems 856: together 6287

@@ -2,6 +2,7 @@
 use mathlib.Core.Path.{_≡_, sym, _∙_}
 use Rattle.numbers.specs.OneReply.{OneReply}
 use Rattle.units.proofs.bandwidth.Bandwidth as bandwidth-bandwidth
+use Rattle.units.proofs.reply as reply
 use Rattle.units.proofs.reply.Reply as reply-reply
 use Rattle.units.proofs.time.Moment as time-moment
 
@@ -22,6 +23,12 @@ one-bandwidth-bandwidth-to-bytes-per-period κ a x y s t p q = p ∙ sym q
 
 pub one-reply-reply-row : OneReply reply-reply.row.Reads.Learnt
 one-reply-reply-row κ a x y s t p q = p ∙ sym q
+
+pub one-reply-reply-word : OneReply reply-reply.word.Reads.Learnt
+one-reply-reply-word κ a x y s t p q = p ∙ sym q
+
+pub one-reply-fault-word : OneReply reply.fault_word.Reads.Learnt
+one-reply-fault-word κ a x y s t p q = p ∙ sym q
 
 pub one-reply-reply-is-done : OneReply reply-reply.is_done.Reads.Learnt
 one-reply-reply-is-done κ a x y s t p q = p ∙ sym q

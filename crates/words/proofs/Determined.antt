@@ -37,6 +37,9 @@ one-or-outside κ a x y s t p q = p ∙ sym q
 pub one-float-of : OneReply word.float_of.Reads.Learnt
 one-float-of κ a x y s t p q = p ∙ sym q
 
+pub one-float-fits : OneReply word.float_fits.Reads.Learnt
+one-float-fits κ a x y s t p q = p ∙ sym q
+
 pub one-float-word : OneReply word.float_word.Reads.Learnt
 one-float-word κ a x y s t p q = p ∙ sym q
 
@@ -51,6 +54,9 @@ one-bandwidth-of κ a x y s t p q = p ∙ sym q
 
 pub one-bandwidth-maybe : OneReply maybe.bandwidth_maybe.Reads.Learnt
 one-bandwidth-maybe κ a x y s t p q = p ∙ sym q
+
+pub one-maybe-fits : OneReply maybe.maybe_fits.Reads.Learnt
+one-maybe-fits κ a x y s t p q = p ∙ sym q
 
 pub one-length-of : OneReply maybe.length_of.Reads.Learnt
 one-length-of κ a x y s t p q = p ∙ sym q

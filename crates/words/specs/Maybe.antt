@@ -1,7 +1,7 @@
 -- A thing that may be unset, as two words: 1 and the number, or 0 and 0. No writer writes anything else; such a pair is
 -- read as the number `outside`, which is out of bounds wherever a call is given one. Definitions only.
 use Prim.Native.Nat.{ℕ}
-use mathlib.Core.Bool.{Bool, cond, _&&_}
+use mathlib.Core.Bool.{Bool, cond, _&&_, _||_}
 use mathlib.Core.List.{List, [], _∷_}
 use lib.Dec.{eqb}
 use Rattle.units.specs.declared.maybe.MaybeBandwidth.{MaybeBandwidth}
@@ -24,6 +24,10 @@ maybeWords m = m .set ∷ m .number ∷ []
 
 abbrev pub isUnset : (set n : ℕ) → Bool
 isUnset set n = eqb set 0 && eqb n 0
+
+-- two words that a writer writes
+abbrev pub maybeFits : (set n : ℕ) → Bool
+maybeFits set n = isUnset set n || flagOf set
 
 abbrev pub numberIn : (set n : ℕ) → ℕ
 numberIn set n = orOutside (flagOf set) n

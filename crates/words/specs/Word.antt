@@ -38,3 +38,7 @@ floatWord x = toBits binary32 x
 
 abbrev pub floatOf : ℕ → Float
 floatOf w = cond (ltb w (2 ^ 32)) (ofBits binary32 w) nan
+
+-- a writer writes 32 bits
+abbrev pub floatFits : ℕ → Bool
+floatFits w = ltb w (2 ^ 32)

@@ -1,6 +1,6 @@
 // A thing that may be unset, as two words.
 ghost use mathlib.Core.Path.{_≡_};
-ghost use Rattle.words.specs.Maybe.{isUnset, numberIn, bandwidthOf, bandwidthMaybe, lengthOf, lengthMaybe, plainOf, plainMaybe};
+ghost use Rattle.words.specs.Maybe.{isUnset, maybeFits, numberIn, bandwidthOf, bandwidthMaybe, lengthOf, lengthMaybe, plainOf, plainMaybe};
 use crate::word::or_outside;
 use units::Bandwidth;
 use units::Duration;
@@ -19,6 +19,13 @@ pub fn is_unset(set: u64, number: u64) -> bool
     ensures { λ r. ⌜ r ≡ isUnset set number ⌝ }
 {
     (set == 0) & (number == 0)
+}
+
+// Whether a writer writes two words.
+pub fn maybe_fits(set: u64, number: u64) -> bool
+    ensures { λ r. ⌜ r ≡ maybeFits set number ⌝ }
+{
+    is_unset(set, number) | (set == 1)
 }
 
 // The number in two words, out of bounds where they are no writer's.

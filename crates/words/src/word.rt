@@ -1,6 +1,6 @@
 // One word: a flag, an f32.
 ghost use mathlib.Core.Path.{_≡_};
-ghost use Rattle.words.specs.Word.{orOutside, flagWord, flagFits, floatWord, floatOf};
+ghost use Rattle.words.specs.Word.{orOutside, flagWord, flagFits, floatWord, floatOf, floatFits};
 use crate::float_bits::f32_bits;
 use crate::float_bits::f32_of;
 
@@ -34,6 +34,13 @@ pub fn float_of(word: u64) -> f32
     } else {
         0.0 / 0.0
     }
+}
+
+// Whether a writer writes the word for an f32.
+pub fn float_fits(word: u64) -> bool
+    ensures { λ r. ⌜ r ≡ floatFits word ⌝ }
+{
+    word < 0x1_0000_0000
 }
 
 // The pattern of x.

@@ -10,8 +10,29 @@
 //! An f32 or an f64 crosses as its bits. Every pattern of a NaN counts as a NaN.
 //!
 //! Where a call replies with a number: 0 is done, and any other number is a refusal, which leaves
-//! every lent byte as it was. Where several apply, the lowest is given. The calls inside a run have
-//! answers of their own: [`guovssalu_run`] and [`guovssalu_run_lists`].
+//! every lent byte as it was. Its row is [`table::reply::row`]; where several apply, the lowest is given.
+//! The calls inside a run have answers of their own: [`guovssalu_run`] and [`guovssalu_run_lists`].
+//!
+//! # Replies
+//!
+//! A reply has three parts, a byte each: the row of the table of replies, and for a bad argument, row 2,
+//! its kind, one of [`table::fault`], and the place of the argument. For the other rows these are 0. 2.4
+//! at 1 is written for row 2, kind 4, place 1: the number 2 + 256 * 4 + 65536 * 1 = 66562. In a start that
+//! is initial_rtt, which is longer than 2^36 ns.
+//!
+//! ```
+//! use guovssalu_sys::table::{fault, reply};
+//!
+//! assert_eq!(reply::row(66562), reply::BAD_ARGUMENT);
+//! assert_eq!((reply::kind(66562), reply::place(66562)), (fault::LENGTH, 1));
+//! ```
+//!
+//! Places are counted from 1, without the model, the cycle and the parameters, in the order of the
+//! original's methods: [`table::place`] has them with what is said of each. Where several arguments are
+//! bad the first is named, and of a record its first field. docs/REFUSALS.md has every reply of row 2.
+//!
+//! Before version 0.6.0 a bad argument's reply was 2 alone: instead of comparing a reply with
+//! [`table::reply::BAD_ARGUMENT`], compare its row.
 //!
 //! # Packet numbers
 //!
@@ -63,7 +84,7 @@ extern "C" {
 
     /// Writes two words, [`table::SLOPE_BYTES`]: the next probe_up_rounds, which is rounds + 1 or at most
     /// 30, and probe_up_bytes, which is window / 2^rounds or at least 1300. Bytes past them keep what
-    /// they held. Replies 1 for rounds over 30, 2 for a window above 2^40, 7 for a shorter output.
+    /// they held. Replies 1 for rounds over 30, 2.1 at 2 for a window above 2^40, 7 for a shorter output.
     pub fn guovssalu_raise_inflight_high_slope(
         rounds: u64,
         window: u64,
@@ -77,8 +98,8 @@ extern "C" {
     /// [`table::samples::REASON`] why they moved. That is the step of the update that acted last, by its
     /// number: [`table::reason::ALL_REPLACED`] to [`table::reason::UNCHANGED`]. The best is at most the
     /// largest sample of the window, and may be below it: docs/ESTIMATE.md has what is promised of the
-    /// three. Bytes past the answer keep what they held. Replies 2 for a part of a pair, 3 if a pair's time
-    /// is earlier than one of the three times that the filter holds then, 7 for an output of under
+    /// three. Bytes past the answer keep what they held. Replies 2.8 at 2 for a part of a pair, 3 if a pair's
+    /// time is earlier than one of the three times that the filter holds then, 7 for an output of under
     /// [`table::SAMPLES_BYTES`] a pair.
     pub fn guovssalu_filter_run(
         window: u64,
@@ -94,23 +115,23 @@ extern "C" {
     /// [`table::call::START`], on a state of zeros. Bytes of answers past the last keep what they held.
     ///
     /// The first word of a call's answer, [`table::REPLY_IN_ANSWER`], is 0 where the call was done, and the
-    /// refusal's number, 1 to 5 or 10, where it was refused; the run goes on. Where several apply, the
-    /// first of 1, 2, 3, 4, 10 and 5 is given. The run's own reply of 0 says nothing of its calls: look at
-    /// each answer. A refused call changes nothing, but for a start, which then replaces the state by a
+    /// refusal, whose row is 1 to 5 or 10, where it was refused; the run goes on. Where several rows apply,
+    /// the first of 1, 2, 3, 4, 10 and 5 is given. The run's own reply of 0 says nothing of its calls: look
+    /// at each answer. A refused call changes nothing, but for a start, which then replaces the state by a
     /// fresh one at moment 0: look at its answer before going on.
     ///
     /// A call's words are tested. A flag that is neither 0 nor 1, an f32 with bits above the 32nd, two
     /// words of a number that may be unset that are neither 1 and the number nor 0 and 0, and a count of
-    /// acked numbers above 3 refuse the call that uses them: with 2, or with 1 in the parameters. So a
-    /// flag is written as (flag ? 1 : 0). A number that is no call's is refused with 2, or with 1 where
-    /// the stored model is out of bounds.
+    /// acked numbers above 3 refuse the call that uses them: with 2.8 at the argument's place, or with 1 in
+    /// the parameters. So a flag is written as (flag ? 1 : 0). A number that is no call's is refused with
+    /// 2.8 at 0, or with 1 where the stored model is out of bounds.
     ///
     /// An event's acked numbers may stand in any order: the greatest counts. An event with a number above
     /// the last sent one, or with any before the first send, is refused with 10. More than 3 of them go by
     /// [`guovssalu_run_lists`].
     ///
-    /// The run itself replies 1 for bytes that encode no state, 2 for a state of another length or a part
-    /// of a call, 7 for answers too short for the calls.
+    /// The run itself replies 1 for bytes that encode no state, 2.8 at 1 for a state of another length, 2.8
+    /// at 2 for a part of a call, 7 for answers too short for the calls.
     pub fn guovssalu_run(
         state: *mut u8,
         state_len: usize,
@@ -129,8 +150,8 @@ extern "C" {
     /// word [`table::sample::ACKED_PACKETS`] on, and the lists are not looked at. More stand in the
     /// lists: they are the n numbers from place s on, counted from 0, where s is the event's word
     /// [`table::sample::ACKED_PACKETS`]; the two words after that are not looked at. Where the lists
-    /// don't hold them all, s + n being above lists_len, that event is refused with 2, or with 1 where
-    /// that applies too, and the run goes on. Events may take the same numbers.
+    /// don't hold them all, s + n being above lists_len, that event is refused with 2.8 at 1, or with 1
+    /// where that applies too, and the run goes on. Events may take the same numbers.
     ///
     /// The run's own replies are those of [`guovssalu_run`], whatever the lists are.
     pub fn guovssalu_run_lists(

@@ -892,6 +892,317 @@ pub mod reply {
 
     /// Reply 10.
     pub const NEVER_SENT: u64 = 10;
+
+    /// The row of a reply: 0 is done, 1 to 7 and 10 are refusals.
+    pub const fn row(reply: u64) -> u64 {
+        reply & 0xff
+    }
+
+    /// The kind of a reply: in row 2 what is wrong, 1 to 9; otherwise 0.
+    pub const fn kind(reply: u64) -> u64 {
+        (reply >> 8) & 0xff
+    }
+
+    /// The place of a reply: in row 2 which argument, from 1 on, or 0 where a number is no call's; otherwise 0.
+    pub const fn place(reply: u64) -> u64 {
+        (reply >> 16) & 0xff
+    }
+}
+
+/// The kinds of reply 2, `reply::BAD_ARGUMENT`: what `reply::kind` is.
+pub mod fault {
+    /// 2.1: a congestion window, at most 2^40 bytes (1.1 TB).
+    pub const WINDOW: u64 = 1;
+
+    /// 2.2: another count of bytes, at most 2^40 bytes (1.1 TB).
+    pub const BYTE_COUNT: u64 = 2;
+
+    /// 2.3: a bandwidth, at most 2^40 bits per second (1.1 Tbit/s).
+    pub const BANDWIDTH: u64 = 3;
+
+    /// 2.4: a length of time, at most 2^36 ns (68.7 s).
+    pub const LENGTH: u64 = 4;
+
+    /// 2.5: a total, or an event's bytes acked or lost, at most 2^62 bytes (4.6 million TB).
+    pub const TOTAL: u64 = 5;
+
+    /// 2.6: the rounds of probing up, at most 30.
+    pub const PROBE_ROUNDS: u64 = 6;
+
+    /// 2.7: a gain, 1/1024 to 8.
+    pub const GAIN: u64 = 7;
+
+    /// 2.8: a list or bytes of a wrong length, a malformed word, a number of no call.
+    pub const LIST_LENGTH: u64 = 8;
+
+    /// 2.9: a moment, or a postponed one, at most 2^62 ns (146 years).
+    pub const MOMENT: u64 = 9;
+
+    /// Their names in words, in order: 2.1 first.
+    pub const NAMES: [&str; 9] = [
+        "window",
+        "byte count",
+        "bandwidth",
+        "length",
+        "total",
+        "probe rounds",
+        "gain",
+        "list length",
+        "moment",
+    ];
+
+    /// What is said of an argument, in the same order.
+    pub const SAID: [&str; 9] = [
+        "is larger than 2^40 bytes",
+        "is more than 2^40 bytes",
+        "is more than 2^40 bits per second",
+        "is longer than 2^36 ns",
+        "is more than 2^62 bytes",
+        "is more than 30",
+        "is below 1/1024, above 8 or a NaN",
+        "is malformed",
+        "is later than 2^62 ns",
+    ];
+
+    /// The limits in plain units, in the same order; empty where there is none.
+    pub const PLAIN: [&str; 9] = [
+        "1.1 TB",
+        "1.1 TB",
+        "1.1 Tbit/s",
+        "68.7 s",
+        "4.6 million TB",
+        "",
+        "",
+        "",
+        "146 years",
+    ];
+}
+
+/// The arguments that a reply of 2 can name, by `reply::place`: place 1 is the first of an array.
+#[rustfmt::skip]
+pub mod place {
+    /// An argument, and what can be said of it.
+    #[derive(Clone, Copy, Debug, PartialEq, Eq)]
+    pub struct Argument {
+        /// Its name.
+        pub name: &'static str,
+        /// The faults that it can have, numbers of `fault`, and what is then said.
+        pub faults: &'static [(u64, &'static str)],
+    }
+
+    /// The argument `acked` of an event.
+    pub const ACKED: Argument = Argument { name: "acked", faults: &[(8, "acked names numbers that the lists don't hold")] };
+
+    /// The argument `event` of an event.
+    pub const EVENT: Argument = Argument { name: "event", faults: &[
+        (9, "event.event_time is later than 2^62 ns"),
+        (1, "event.prior_cwnd is larger than 2^40 bytes"),
+        (2, "event.prior_bytes_in_flight, event.bytes_in_flight or event.last_packet_send_state.bytes_in_flight is more than 2^40 bytes"),
+        (5, "event.bytes_acked, event.bytes_lost or event.last_packet_send_state.total_bytes_acked is more than 2^62 bytes"),
+        (8, "event.end_of_round_trip, event.is_probing_for_bandwidth, event.sample_max_bandwidth, event.sample_min_rtt, event.last_packet_send_state.is_valid or event.last_packet_send_state.is_app_limited is malformed"),
+        (3, "event.sample_max_bandwidth is more than 2^40 bits per second"),
+        (4, "event.sample_min_rtt is longer than 2^36 ns"),
+    ] };
+
+    /// The argument `sample` of an event.
+    pub const SAMPLE: Argument = Argument { name: "sample", faults: &[
+        (8, "sample.sample_max_bandwidth, sample.sample_max_send_rate, sample.sample_max_ack_rate, sample.sample_is_app_limited, sample.sample_rtt, sample.last_packet_send_state.is_valid or sample.last_packet_send_state.is_app_limited is malformed"),
+        (3, "sample.sample_max_bandwidth, sample.sample_max_send_rate or sample.sample_max_ack_rate is more than 2^40 bits per second"),
+        (4, "sample.sample_rtt is longer than 2^36 ns"),
+        (2, "sample.sample_max_inflight, sample.extra_acked or sample.last_packet_send_state.bytes_in_flight is more than 2^40 bytes"),
+        (5, "sample.last_packet_send_state.total_bytes_acked, sample.total_bytes_acked or sample.total_bytes_lost is more than 2^62 bytes"),
+    ] };
+
+    /// Of each call of `call::ALL`, in the same order.
+    pub const CALLS: [&[Argument]; 44] = [
+        // start
+        &[
+            Argument { name: "initial_rtt", faults: &[(4, "initial_rtt is longer than 2^36 ns")] },
+            Argument { name: "now", faults: &[(9, "now is later than 2^62 ns")] },
+        ],
+        // on_packet_sent
+        &[
+            Argument { name: "sent_time", faults: &[(9, "sent_time is later than 2^62 ns")] },
+            Argument { name: "bytes_in_flight", faults: &[(2, "bytes_in_flight is more than 2^40 bytes")] },
+            Argument { name: "packet_number", faults: &[] },
+            Argument { name: "bytes", faults: &[(2, "bytes is more than 2^40 bytes")] },
+        ],
+        // on_congestion_event_start
+        &[
+            ACKED,
+            EVENT,
+            SAMPLE,
+        ],
+        // on_congestion_event_finish
+        &[
+            EVENT,
+        ],
+        // maybe_expire_min_rtt
+        &[
+            EVENT,
+        ],
+        // is_inflight_too_high
+        &[
+            EVENT,
+            Argument { name: "max_loss_events", faults: &[] },
+        ],
+        // has_bandwidth_growth
+        &[
+            EVENT,
+        ],
+        // restart_round_early
+        &[],
+        // check_persistent_queue
+        &[
+            Argument { name: "target_gain", faults: &[
+                (8, "target_gain has bits above the 32nd"),
+                (7, "target_gain is below 1/1024, above 8 or a NaN"),
+            ] },
+        ],
+        // bdp
+        &[
+            Argument { name: "bandwidth", faults: &[(3, "bandwidth is more than 2^40 bits per second")] },
+            Argument { name: "gain", faults: &[
+                (8, "gain has bits above the 32nd"),
+                (7, "gain is below 1/1024, above 8 or a NaN"),
+            ] },
+        ],
+        // bdp1
+        &[
+            Argument { name: "bandwidth", faults: &[(3, "bandwidth is more than 2^40 bits per second")] },
+        ],
+        // bdp0
+        &[],
+        // inflight_hi_with_headroom
+        &[],
+        // set_full_bandwidth_reached
+        &[],
+        // set_pacing_gain
+        &[
+            Argument { name: "pacing_gain", faults: &[
+                (8, "pacing_gain has bits above the 32nd"),
+                (7, "pacing_gain is below 1/1024, above 8 or a NaN"),
+            ] },
+        ],
+        // set_cwnd_gain
+        &[
+            Argument { name: "cwnd_gain", faults: &[
+                (8, "cwnd_gain has bits above the 32nd"),
+                (7, "cwnd_gain is below 1/1024, above 8 or a NaN"),
+            ] },
+        ],
+        // set_inflight_hi
+        &[
+            Argument { name: "new_inflight_hi", faults: &[(2, "new_inflight_hi is more than 2^40 bytes")] },
+        ],
+        // cap_inflight_lo
+        &[
+            Argument { name: "cap", faults: &[(2, "cap is more than 2^40 bytes")] },
+        ],
+        // clear_inflight_lo
+        &[],
+        // clear_bandwidth_lo
+        &[],
+        // advance_max_bandwidth_filter
+        &[],
+        // postpone_min_rtt_timestamp
+        &[
+            Argument { name: "duration", faults: &[
+                (4, "duration is longer than 2^36 ns"),
+                (9, "duration postpones min_rtt_timestamp past 2^62 ns"),
+            ] },
+        ],
+        // bandwidth_estimate
+        &[],
+        // min_rtt
+        &[],
+        // min_rtt_timestamp
+        &[],
+        // max_bandwidth
+        &[],
+        // max_bytes_delivered_in_round
+        &[],
+        // total_bytes_acked
+        &[],
+        // total_bytes_lost
+        &[],
+        // full_bandwidth_reached
+        &[],
+        // pacing_gain
+        &[],
+        // cwnd_gain
+        &[],
+        // inflight_hi
+        &[],
+        // inflight_hi_default
+        &[],
+        // inflight_lo
+        &[],
+        // loss_events_in_round
+        &[],
+        // rounds_with_queueing
+        &[],
+        // queueing_threshold_extra_bytes
+        &[],
+        // enter_probe_down
+        &[
+            Argument { name: "probed_too_high", faults: &[(8, "probed_too_high is neither 0 nor 1")] },
+            Argument { name: "stopped_risky_probe", faults: &[(8, "stopped_risky_probe is neither 0 nor 1")] },
+            Argument { name: "now", faults: &[(9, "now is later than 2^62 ns")] },
+        ],
+        // enter_probe_cruise
+        &[
+            Argument { name: "now", faults: &[(9, "now is later than 2^62 ns")] },
+        ],
+        // enter_probe_refill
+        &[
+            Argument { name: "probe_up_rounds", faults: &[(6, "probe_up_rounds is more than 30")] },
+            Argument { name: "now", faults: &[(9, "now is later than 2^62 ns")] },
+        ],
+        // enter_probe_up
+        &[
+            Argument { name: "now", faults: &[(9, "now is later than 2^62 ns")] },
+            Argument { name: "cwnd", faults: &[(1, "cwnd is larger than 2^40 bytes")] },
+        ],
+        // exit_probe_down
+        &[],
+        // raise_inflight_high_slope
+        &[
+            Argument { name: "cwnd", faults: &[(1, "cwnd is larger than 2^40 bytes")] },
+        ],
+    ];
+
+    /// Of `guovssalu_run`.
+    pub const RUN: [Argument; 3] = [
+        Argument { name: "state", faults: &[(8, "state is not 408 bytes long")] },
+        Argument { name: "calls", faults: &[(8, "calls is no whole number of 392 bytes")] },
+        Argument { name: "answers", faults: &[] },
+    ];
+
+    /// Of `guovssalu_run_lists`.
+    pub const RUN_LISTS: [Argument; 4] = [
+        Argument { name: "state", faults: &[(8, "state is not 408 bytes long")] },
+        Argument { name: "calls", faults: &[(8, "calls is no whole number of 392 bytes")] },
+        Argument { name: "lists", faults: &[] },
+        Argument { name: "answers", faults: &[] },
+    ];
+
+    /// Of `guovssalu_filter_run`.
+    pub const FILTER_RUN: [Argument; 3] = [
+        Argument { name: "window", faults: &[] },
+        Argument { name: "src", faults: &[(8, "src is no whole number of 16 bytes")] },
+        Argument { name: "out", faults: &[] },
+    ];
+
+    /// Of `guovssalu_raise_inflight_high_slope`.
+    pub const RAISE_INFLIGHT_HIGH_SLOPE: [Argument; 3] = [
+        Argument { name: "rounds", faults: &[] },
+        Argument { name: "window", faults: &[(1, "window is larger than 2^40 bytes")] },
+        Argument { name: "out", faults: &[] },
+    ];
+
+    /// What is said at place 0.
+    pub const NO_CALL: &str = "the number is no call's";
 }
 
 /// What the state's word `state::PHASE` is.

@@ -1,5 +1,6 @@
 use std::ops::Range;
 
+use crate::fault::Asked;
 use crate::foreign;
 use crate::table;
 use crate::table::call;
@@ -144,12 +145,16 @@ impl Call {
             bytes: [0; Answer::BYTES],
         };
         run(state, &self.bytes, &mut answer.bytes)?;
-        answer.number()?;
-        Ok(answer)
+        let number = words::get(&self.bytes, table::NUMBER_IN_CALL);
+        match answer.number() {
+            Ok(_) => Ok(answer),
+            Err(refusal) => Err(refusal.of_call(number)),
+        }
     }
 }
 
-/// A call's answer as bytes, from [`run`] or [`run_lists`].
+/// A call's answer as bytes, from [`run`] or [`run_lists`]. It has no word that says of which call it is:
+/// [`Refusal::of_call`] gives a refusal's text the names of the call's arguments.
 #[derive(Clone, Copy, Debug, PartialEq, Eq)]
 pub struct Answer {
     bytes: [u8; Answer::BYTES],
@@ -171,7 +176,7 @@ impl Answer {
     ///
     /// If the bytes are none of a run's.
     pub fn number(&self) -> Result<u64, Refusal> {
-        Refusal::of(words::get(&self.bytes, table::REPLY_IN_ANSWER))?;
+        Refusal::of_reply(words::get(&self.bytes, table::REPLY_IN_ANSWER))?;
         Ok(words::get(&self.bytes, table::VALUE_IN_ANSWER))
     }
 
@@ -186,7 +191,7 @@ impl Answer {
     ///
     /// If the bytes are none of a run's.
     pub fn event(&self) -> Result<CongestionEvent, Refusal> {
-        Refusal::of(words::get(&self.bytes, table::REPLY_IN_ANSWER))?;
+        Refusal::of_reply(words::get(&self.bytes, table::REPLY_IN_ANSWER))?;
         Ok(words::get_event(&self.bytes, table::EVENT_IN_ANSWER))
     }
 }
@@ -200,9 +205,10 @@ impl Answer {
 ///
 /// # Errors
 ///
-/// `OutOfBounds` for bytes that encode no state; `BadArgument` for a state of another length or calls
-/// not in whole records; `ShortOutput` for answers without room. Then no byte is changed. A state that
-/// a version before 0.5.0 kept has another length, 400: docs/LAYOUT.md says how it is carried over.
+/// `OutOfBounds` for bytes that encode no state; `BadArgument` for a state of another length, 2.8 at 1,
+/// or calls not in whole records, 2.8 at 2; `ShortOutput` for answers without room. Then no byte is
+/// changed. A state that a version before 0.5.0 kept has another length, 400: docs/LAYOUT.md says how it
+/// is carried over.
 ///
 /// `Ok` says nothing of the calls: whether one was refused, and why, is in its [`Answer`].
 ///
@@ -226,15 +232,15 @@ impl Answer {
 /// # Ok::<(), guovssalu::Refusal>(())
 /// ```
 pub fn run(state: &mut [u8], calls: &[u8], answers: &mut [u8]) -> Result<(), Refusal> {
-    Refusal::of(foreign::run(state, calls, answers))
+    Refusal::of(foreign::run(state, calls, answers), Asked::Run)
 }
 
 /// Makes many calls as [`run`] does, with lists beside them, from which an event can take as many
 /// acked numbers as there are: [`Call::with_list`] names them. Events may name the same numbers.
 ///
 /// An event that names numbers which these lists don't hold is refused with `BadArgument` in its
-/// answer, or with `OutOfBounds` where that applies too, and the run goes on. Of the lists nothing is
-/// changed. With none it is [`run`].
+/// answer, 2.8 at 1, or with `OutOfBounds` where that applies too, and the run goes on. Of the lists
+/// nothing is changed. With none it is [`run`].
 ///
 /// # Errors
 ///
@@ -269,7 +275,10 @@ pub fn run(state: &mut [u8], calls: &[u8], answers: &mut [u8]) -> Result<(), Ref
 /// // A run that isn't lent the lists refuses the event.
 /// run(&mut [0; guovssalu::STATE_BYTES], &calls, &mut answers)?;
 /// let last = answers[8 * Answer::BYTES..].try_into().unwrap();
-/// assert_eq!(Answer::from_bytes(last).event(), Err(Refusal::BadArgument));
+/// let refusal = Answer::from_bytes(last).event().unwrap_err();
+/// assert_eq!(refusal.to_string(), "2.8 at 1: an argument is malformed");
+/// let refusal = refusal.of_call(call::ON_CONGESTION_EVENT_START);
+/// assert_eq!(refusal.to_string(), "2.8 at 1: acked names numbers that the lists don't hold");
 /// # Ok::<(), Refusal>(())
 /// ```
 pub fn run_lists(
@@ -278,5 +287,6 @@ pub fn run_lists(
     lists: &[u64],
     answers: &mut [u8],
 ) -> Result<(), Refusal> {
-    Refusal::of(foreign::run_lists(state, calls, lists, answers))
+    let reply = foreign::run_lists(state, calls, lists, answers);
+    Refusal::of(reply, Asked::RunLists)
 }

@@ -1,5 +1,6 @@
 use std::convert::TryInto;
 
+use crate::fault::Asked;
 use crate::run;
 use crate::table;
 use crate::table::call;
@@ -10,6 +11,7 @@ use crate::table::STATE_BYTES;
 use crate::words;
 use crate::Call;
 use crate::Duration;
+use crate::Fault;
 use crate::Moment;
 use crate::NetworkModel;
 use crate::Params;
@@ -42,15 +44,20 @@ impl Cycle {
     /// Bytes of a cycle's state.
     pub const BYTES: usize = CYCLE_BYTES;
 
-    /// A fresh cycle at the moment `now`.
+    /// A fresh cycle at the moment `now`. It is made by a start, at whose place 2 `now` is; here it is
+    /// the only argument, and a fault of it is at place 1.
     pub fn new(now: Moment) -> Result<Self, Refusal> {
         let mut cycle = Cycle {
             bytes: [0; Cycle::BYTES],
         };
-        cycle.make_alone(
-            &Call::new(call::START, &[now.as_nanos()]).with_params(&Params::default()),
-        )?;
-        Ok(cycle)
+        let start = Call::new(call::START, &[now.as_nanos()]).with_params(&Params::default());
+        match cycle.make_alone(&start) {
+            Ok(()) => Ok(cycle),
+            Err(Refusal::BadArgument(fault)) => Err(Refusal::BadArgument(
+                Fault::new(fault.kind(), 1).of(Asked::NewCycle),
+            )),
+            Err(refusal) => Err(refusal),
+        }
     }
 
     /// The bytes of a state with this cycle and no model.
@@ -69,10 +76,10 @@ impl Cycle {
     ///
     /// # Errors
     ///
-    /// `BadArgument` for another length, `OutOfBounds` for bytes that encode no cycle. Bytes that
-    /// encode a cycle with a number outside its bounds are taken, and refused by the calls.
+    /// `BadArgument` for another length, 2.8 at 1; `OutOfBounds` for bytes that encode no cycle. Bytes
+    /// that encode a cycle with a number outside its bounds are taken, and refused by the calls.
     pub fn from_bytes(bytes: &[u8]) -> Result<Self, Refusal> {
-        let bytes = bytes.try_into().map_err(|_| Refusal::BadArgument)?;
+        let bytes = bytes.try_into().map_err(|_| Refusal::WRONG_LENGTH)?;
         let cycle = Cycle { bytes };
         run(&mut cycle.alone(), &[], &mut [])?;
         Ok(cycle)

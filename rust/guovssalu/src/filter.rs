@@ -1,5 +1,6 @@
 use std::fmt;
 
+use crate::fault::Asked;
 use crate::foreign;
 use crate::table;
 use crate::table::reason;
@@ -93,11 +94,11 @@ impl Samples {
     ///
     /// # Errors
     ///
-    /// `BadArgument` for another length, `OutOfBounds` where the last word is no reason's number: such
-    /// bytes are none of a run's.
+    /// `BadArgument` for another length, 2.8 at 1; `OutOfBounds` where the last word is no reason's
+    /// number: such bytes are none of a run's.
     pub fn from_bytes(bytes: &[u8]) -> Result<Self, Refusal> {
         if bytes.len() != Samples::BYTES {
-            return Err(Refusal::BadArgument);
+            return Err(Refusal::WRONG_LENGTH);
         }
         let word = |at: usize| words::get(bytes, at);
         Ok(Samples {
@@ -116,8 +117,8 @@ impl Samples {
 ///
 /// # Errors
 ///
-/// `BadArgument` for a part of a pair, `EarlierMoment` where a pair's time is earlier than one that
-/// the filter holds then, `ShortOutput` for an output of under [`Samples::BYTES`] a pair. Then no
+/// `BadArgument` for a part of a pair, 2.8 at 2; `EarlierMoment` where a pair's time is earlier than one
+/// that the filter holds then; `ShortOutput` for an output of under [`Samples::BYTES`] a pair. Then no
 /// byte is written.
 ///
 /// ```
@@ -152,6 +153,6 @@ impl Samples {
 /// );
 /// # Ok::<(), guovssalu::Refusal>(())
 /// ```
-pub fn filter_run(window: u64, pairs: &[u8], out: &mut [u8]) -> Result<(), Refusal> {
-    Refusal::of(foreign::filter_run(window, pairs, out))
+pub fn filter_run(window: u64, src: &[u8], out: &mut [u8]) -> Result<(), Refusal> {
+    Refusal::of(foreign::filter_run(window, src, out), Asked::FilterRun)
 }

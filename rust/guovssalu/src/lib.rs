@@ -47,6 +47,31 @@
 //! # Ok::<(), Refusal>(())
 //! ```
 //!
+//! # Which argument
+//!
+//! Where an argument is outside its bounds, the refusal says which one it is, by its place, and what kind
+//! of bound it passed: a [`Fault`].
+//!
+//! ```
+//! use guovssalu::{Duration, FaultKind, Moment, NetworkModel, Params, Refusal};
+//!
+//! let (params, now) = (Params::default(), Moment::from_nanos(0));
+//! let refusal = NetworkModel::new(&params, Duration::from_secs(69), now).unwrap_err();
+//! assert_eq!(refusal.to_string(), "2.4 at 1: initial_rtt is longer than 2^36 ns");
+//! assert_eq!((refusal.number(), refusal.code()), (2, "2.4"));
+//! match refusal {
+//!     Refusal::BadArgument(fault) => {
+//!         assert_eq!((fault.kind(), fault.place()), (FaultKind::Length, 1));
+//!         assert_eq!(fault.argument(), Some("initial_rtt"));
+//!     }
+//!     _ => unreachable!(),
+//! }
+//! ```
+//!
+//! Before version 0.6.0 `BadArgument` had no fault: where a program matches on it, write
+//! `Refusal::BadArgument(_)`, and where it compares with it,
+//! `matches!(reply, Err(Refusal::BadArgument(_)))`.
+//!
 //! # Packet numbers
 //!
 //! An event that acks a packet which was never sent is refused with [`Refusal::NeverSent`], and nothing
@@ -81,6 +106,7 @@ mod bandwidth;
 mod call;
 mod cycle;
 mod event;
+mod fault;
 mod filter;
 mod foreign;
 mod model;
@@ -100,6 +126,8 @@ pub use cycle::Phase;
 pub use event::CongestionEvent;
 pub use event::Sample;
 pub use event::SendTimeState;
+pub use fault::Fault;
+pub use fault::FaultKind;
 pub use filter::filter_run;
 pub use filter::Reason;
 pub use filter::Samples;

@@ -59,8 +59,8 @@ impl NetworkModel {
     ///
     /// # Errors
     ///
-    /// `BadArgument` for another length, `OutOfBounds` for bytes that encode no state. Bytes that
-    /// encode a state with a number outside its bounds are taken, and refused by the calls.
+    /// `BadArgument` for another length, 2.8 at 1; `OutOfBounds` for bytes that encode no state. Bytes
+    /// that encode a state with a number outside its bounds are taken, and refused by the calls.
     ///
     /// # Bytes of layout 1
     ///
@@ -74,7 +74,8 @@ impl NetworkModel {
     /// # let mut kept = NetworkModel::new(&params, Duration::from_millis(100), Moment::from_nanos(0))?;
     /// # kept.on_packet_sent(Moment::from_nanos(1), 0, 7, 1300)?;
     /// # let old = &kept.as_bytes()[..272];
-    /// assert_eq!(NetworkModel::from_bytes(old), Err(Refusal::BadArgument));
+    /// let refused = NetworkModel::from_bytes(old);
+    /// assert!(matches!(refused, Err(Refusal::BadArgument(_))));
     ///
     /// let sent = true;
     /// let bytes = [old, &u64::from(sent).to_le_bytes()].concat();
@@ -84,7 +85,7 @@ impl NetworkModel {
     /// # Ok::<(), Refusal>(())
     /// ```
     pub fn from_bytes(bytes: &[u8]) -> Result<Self, Refusal> {
-        let bytes = bytes.try_into().map_err(|_| Refusal::BadArgument)?;
+        let bytes = bytes.try_into().map_err(|_| Refusal::WRONG_LENGTH)?;
         let model = NetworkModel { bytes };
         let mut state = model.with(&NO_CYCLE);
         run(&mut state, &[], &mut [])?;

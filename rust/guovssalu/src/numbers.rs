@@ -1,3 +1,4 @@
+use crate::fault::Asked;
 use crate::foreign;
 use crate::table;
 use crate::table::slope;
@@ -35,10 +36,11 @@ pub fn scale(n: u64, gain: f32) -> u64 {
 ///
 /// # Errors
 ///
-/// `OutOfBounds` for rounds over 30, `BadArgument` for a window above 2^40.
+/// `OutOfBounds` for rounds over 30; `BadArgument` for a window above 2^40, 2.1 at 2.
 pub fn raise_inflight_high_slope(rounds: u64, window: u64) -> Result<(u64, u64), Refusal> {
     let mut out = [0; table::SLOPE_BYTES];
-    Refusal::of(foreign::raise_inflight_high_slope(rounds, window, &mut out))?;
+    let reply = foreign::raise_inflight_high_slope(rounds, window, &mut out);
+    Refusal::of(reply, Asked::Slope)?;
     let word = |at: usize| words::get(&out, at);
     Ok((word(slope::PROBE_UP_ROUNDS), word(slope::PROBE_UP_BYTES)))
 }

@@ -19,6 +19,8 @@ use guovssalu::table::WORD_BYTES as WORD;
 use guovssalu::Answer;
 use guovssalu::Call;
 use guovssalu::CongestionEvent;
+use guovssalu::Fault;
+use guovssalu::FaultKind;
 use guovssalu::Moment;
 use guovssalu::Params;
 use guovssalu::Refusal;
@@ -26,6 +28,11 @@ use guovssalu::Sample;
 use guovssalu::STATE_BYTES;
 
 const GUARD: u8 = 0xa5;
+
+/// The refusal of a wrong length, or of a malformed word, in the argument at a place.
+fn malformed(place: u8) -> Refusal {
+    Refusal::BadArgument(Fault::new(FaultKind::ListLength, place))
+}
 
 /// Bytes with guards on both sides, at an odd place.
 struct Guarded {
@@ -167,21 +174,20 @@ fn a_run_refuses_wrong_lengths() {
     let state = [0; STATE_BYTES + 1];
     let room = 3 * Answer::BYTES;
     for length in [0, 1, STATE_BYTES - WORD, STATE_BYTES - 1, STATE_BYTES + 1] {
-        refused(&state[..length], &calls, room, Refusal::BadArgument);
+        refused(&state[..length], &calls, room, malformed(1));
     }
     for length in [1, Call::BYTES - 1, Call::BYTES + 1, 3 * Call::BYTES - 1] {
-        refused(
-            &state[..STATE_BYTES],
-            &calls[..length],
-            room,
-            Refusal::BadArgument,
-        );
+        let (state, calls) = (&state[..STATE_BYTES], &calls[..length]);
+        refused(state, calls, room, malformed(2));
+        // The first argument is named.
+        refused(&state[1..], calls, room, malformed(1));
     }
     for short in [0, 1, Answer::BYTES - 1, room - 1] {
         refused(&state[..STATE_BYTES], &calls, short, Refusal::ShortOutput);
     }
     // Row 2 comes before row 7.
-    refused(&state[..1], &calls, 0, Refusal::BadArgument);
+    refused(&state[..1], &calls, 0, malformed(1));
+    refused(&state[..STATE_BYTES], &calls[1..], 0, malformed(2));
 }
 
 #[test]
@@ -206,7 +212,7 @@ fn a_number_of_no_call_is_answered_and_the_run_goes_on() {
         let (first, rest) = given.split_at(3 * Answer::BYTES);
         let (refused, last) = rest.split_at(Answer::BYTES);
         assert!([first, last].concat() == answers && left == state);
-        assert_eq!(word(refused, REPLY), Refusal::BadArgument.number());
+        assert_eq!(word(refused, REPLY), 2 + 256 * 8);
         assert!(refused[WORD..].iter().all(|&byte| byte == 0));
 
         // In a state out of bounds, as zeros are, row 1 comes before row 2.
@@ -292,7 +298,8 @@ fn a_refused_event_gives_its_record_back() {
     let all: Vec<(usize, u64)> = (EVENT..EVENT + table::EVENT_WORDS)
         .map(|at| (at, most - at as u64))
         .collect();
-    for (row, call) in [
+    let (words, wide, late) = (malformed(2).reply(), 131_330, 133_378);
+    for (due, call) in [
         // A parameter: a bad one, a malformed one, both beside a malformed record.
         (1, with(&[(PARAMS + params::BETA, 0)])),
         (
@@ -315,24 +322,27 @@ fn a_refused_event_gives_its_record_back() {
             ]),
         ),
         // The record's own words: flags, pairs, numbers, all of them.
-        (2, with(&[(EVENT + event::END_OF_ROUND_TRIP, 2)])),
-        (2, with(&[(EVENT + event::IS_PROBING_FOR_BANDWIDTH, most)])),
+        (words, with(&[(EVENT + event::END_OF_ROUND_TRIP, 2)])),
         (
-            2,
+            words,
+            with(&[(EVENT + event::IS_PROBING_FOR_BANDWIDTH, most)]),
+        ),
+        (
+            words,
             with(&[
                 (EVENT + event::SAMPLE_MAX_BANDWIDTH_SET, 0),
                 (EVENT + event::SAMPLE_MAX_BANDWIDTH, 5),
             ]),
         ),
         (
-            2,
+            words,
             with(&[
                 (EVENT + event::SAMPLE_MIN_RTT_SET, 2),
                 (EVENT + event::SAMPLE_MIN_RTT, 5),
             ]),
         ),
         (
-            2,
+            words,
             with(&[
                 (EVENT + event::LAST_PACKET_SEND_STATE_IS_VALID, 255),
                 (
@@ -342,7 +352,7 @@ fn a_refused_event_gives_its_record_back() {
             ]),
         ),
         (
-            2,
+            words,
             with(&[
                 (EVENT + event::END_OF_ROUND_TRIP, 2),
                 (EVENT + event::IS_PROBING_FOR_BANDWIDTH, 255),
@@ -350,12 +360,15 @@ fn a_refused_event_gives_its_record_back() {
                 (EVENT + event::SAMPLE_MIN_RTT, 5),
             ]),
         ),
-        (2, with(&[(EVENT + event::PRIOR_CWND, most)])),
-        (2, with(&all)),
+        (wide, with(&[(EVENT + event::PRIOR_CWND, most)])),
+        (late, with(&all)),
         // A malformed argument beside a good record, numbers in lists that there are none of, an
         // earlier moment, and a number that was never sent.
-        (2, with(&[(sample::SAMPLE_IS_APP_LIMITED, 2)])),
-        (2, with(&[(sample::ACKED_COUNT, 4)])),
+        (
+            malformed(3).reply(),
+            with(&[(sample::SAMPLE_IS_APP_LIMITED, 2)]),
+        ),
+        (malformed(1).reply(), with(&[(sample::ACKED_COUNT, 4)])),
         (
             3,
             with(&[
@@ -380,13 +393,13 @@ fn a_refused_event_gives_its_record_back() {
         assert_eq!(run(&mut state, &call, &mut answer), Ok(()));
         assert_eq!(
             (word(&answer, REPLY), word(&answer, table::VALUE_IN_ANSWER)),
-            (row, 0)
+            (due, 0)
         );
         assert!(record(&answer, table::EVENT_IN_ANSWER) == record(&call, EVENT));
         assert!(state == before);
         // It is not read: it could have words that no record of the package has.
         let refusal = Answer::from_bytes(&answer).event().unwrap_err();
-        assert_eq!(refusal.number(), row);
+        assert_eq!(refusal.reply(), due);
     }
     let mut answer = [0x77; Answer::BYTES];
     assert_eq!(run(&mut state, &with(&[]), &mut answer), Ok(()));
@@ -405,7 +418,7 @@ fn a_record_is_handed_on_as_it_is() {
         (EVENT + event::SAMPLE_MIN_RTT_SET, 0),
         (EVENT + event::SAMPLE_MIN_RTT, 5),
     ];
-    for (words, row) in [(&[][..], 0), (&bad[..], 2)] {
+    for (words, due) in [(&[][..], Ok(())), (&bad[..], Err(malformed(1)))] {
         let mut state = begun();
         let mut answer = [0x77; Answer::BYTES];
         assert_eq!(run(&mut state, &event_with(words), &mut answer), Ok(()));
@@ -419,10 +432,11 @@ fn a_record_is_handed_on_as_it_is() {
                     .with_event(&event)
                     .as_bytes()
             ),
-            Err(refusal) => assert_eq!(refusal.number(), row),
+            Err(refusal) => assert_eq!(refusal, malformed(2)),
         }
+        assert_eq!(event.is_ok(), due.is_ok());
         assert_eq!(run(&mut state, &end, &mut answer), Ok(()));
-        assert_eq!(word(&answer, REPLY), row);
+        assert_eq!(Refusal::of_reply(word(&answer, REPLY)), due);
     }
 }
 
@@ -479,18 +493,14 @@ fn a_filter_run_refuses_and_writes_nothing() {
         assert!(out.checked().iter().all(|&byte| byte == 0x77));
     };
     let src = pairs(&[(5, 1), (4, 1)]);
-    refused(&src[..PAIR_BYTES - 1], SAMPLES_BYTES, Refusal::BadArgument);
-    refused(
-        &src[..PAIR_BYTES + 1],
-        2 * SAMPLES_BYTES,
-        Refusal::BadArgument,
-    );
+    refused(&src[..PAIR_BYTES - 1], SAMPLES_BYTES, malformed(2));
+    refused(&src[..PAIR_BYTES + 1], 2 * SAMPLES_BYTES, malformed(2));
     // The second pair is too early, though the first could be written.
     refused(&src, 2 * SAMPLES_BYTES, Refusal::EarlierMoment);
     refused(&src[..PAIR_BYTES], SAMPLES_BYTES - 1, Refusal::ShortOutput);
     refused(&src[..PAIR_BYTES], 0, Refusal::ShortOutput);
     // The lowest row is given.
-    refused(&src[..2 * PAIR_BYTES - 1], 0, Refusal::BadArgument);
+    refused(&src[..2 * PAIR_BYTES - 1], 0, malformed(2));
     refused(&src, 0, Refusal::EarlierMoment);
     assert_eq!(filter_run(8, &[], &mut []), Ok(()));
 }

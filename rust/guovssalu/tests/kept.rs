@@ -10,6 +10,8 @@ use guovssalu::Call;
 use guovssalu::CongestionEvent;
 use guovssalu::Cycle;
 use guovssalu::Duration;
+use guovssalu::Fault;
+use guovssalu::FaultKind;
 use guovssalu::Moment;
 use guovssalu::NetworkModel;
 use guovssalu::Params;
@@ -78,17 +80,18 @@ fn restored(sent: bool) -> (NetworkModel, Cycle) {
 #[test]
 fn as_it_is_it_is_refused() {
     let asked = Call::new(call::INFLIGHT_LO, &[]);
+    let length = Refusal::BadArgument(Fault::new(FaultKind::ListLength, 1));
     for old in [bytes(KEPT), bytes(LEFT), vec![0; 400]] {
         let (mut state, mut answer) = (old.clone(), [0x77; Answer::BYTES]);
         let made = run(&mut state, asked.as_bytes(), &mut answer);
-        assert_eq!(made, Err(Refusal::BadArgument));
+        assert_eq!(made, Err(length));
         let made = run_lists(&mut state, asked.as_bytes(), &[1], &mut answer);
-        assert_eq!(made, Err(Refusal::BadArgument));
+        assert_eq!(made, Err(length));
         assert!(state == old && answer == [0x77; Answer::BYTES]);
 
         let (model, cycle) = old.split_at(272);
         let model = NetworkModel::from_bytes(model);
-        assert_eq!(model.err(), Some(Refusal::BadArgument));
+        assert_eq!(model.err(), Some(length));
         assert!(Cycle::from_bytes(cycle).is_ok());
     }
 }

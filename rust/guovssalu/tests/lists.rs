@@ -17,6 +17,8 @@ use guovssalu::Answer;
 use guovssalu::Call;
 use guovssalu::CongestionEvent;
 use guovssalu::Duration;
+use guovssalu::Fault;
+use guovssalu::FaultKind;
 use guovssalu::Moment;
 use guovssalu::NetworkModel;
 use guovssalu::Params;
@@ -306,7 +308,7 @@ fn events_may_name_the_same_numbers() {
         let event = Answer::from_bytes(bytes.try_into().unwrap()).event();
         event.map(|event| event.end_of_round_trip)
     };
-    let outside = Err(Refusal::BadArgument);
+    let outside = Err(Refusal::BadArgument(Fault::new(FaultKind::ListLength, 1)));
     assert_eq!(
         [answer(0), answer(1), answer(2), answer(3)],
         [Ok(true), Ok(false), outside, Ok(false)]
@@ -396,7 +398,7 @@ fn a_run_with_no_lists_is_a_run() {
     let refused = made(&calls, None);
     assert!(made(&calls, Some(&[])) == refused);
     let last = |answers: &[u8]| word(&answers[answers.len() - Answer::BYTES..], REPLY);
-    assert_eq!(last(&refused.1), Refusal::BadArgument.number());
+    assert_eq!(last(&refused.1), 2 + 256 * 8 + 65_536);
     assert_eq!(last(&made(&calls, Some(&lists)).1), 0);
 }
 

@@ -27,6 +27,8 @@ use guovssalu::Call;
 use guovssalu::CongestionEvent;
 use guovssalu::Cycle;
 use guovssalu::Duration;
+use guovssalu::Fault;
+use guovssalu::FaultKind;
 use guovssalu::Moment;
 use guovssalu::NetworkModel;
 use guovssalu::Params;
@@ -38,6 +40,19 @@ const MOST_BYTES: u64 = 1 << 40;
 const MOST_BANDWIDTH: u64 = 1 << 40;
 const MOST_MOMENT: u64 = 1 << 62;
 const MOST_LENGTH: u64 = 1 << 36;
+
+/// The refusal of an argument: the kind of its bound, and its place.
+fn bad(kind: FaultKind, place: u8) -> Refusal {
+    Refusal::BadArgument(Fault::new(kind, place))
+}
+
+/// The reply of a malformed argument at a place.
+fn malformed(place: u64) -> u64 {
+    2 + 256 * 8 + 65_536 * place
+}
+
+/// The reply of an event with too large a window.
+const WIDE: u64 = 2 + 256 + 65_536 * 2;
 
 fn moment(nanos: u64) -> Moment {
     Moment::from_nanos(nanos)
@@ -123,11 +138,12 @@ fn starts_at_their_bounds() {
         NetworkModel::new(&params, rtt, moment(now)).err()
     };
     assert_eq!(start(MOST_LENGTH, MOST_MOMENT), None);
-    assert_eq!(start(MOST_LENGTH + 1, 0), Some(Refusal::BadArgument));
-    assert_eq!(start(0, MOST_MOMENT + 1), Some(Refusal::BadArgument));
+    let (long, late) = (bad(FaultKind::Length, 1), bad(FaultKind::Moment, 2));
+    assert_eq!(start(MOST_LENGTH + 1, 0), Some(long));
+    assert_eq!(start(0, MOST_MOMENT + 1), Some(late));
     assert!(Cycle::new(moment(MOST_MOMENT)).is_ok());
-    let late = Cycle::new(moment(MOST_MOMENT + 1));
-    assert_eq!(late.err(), Some(Refusal::BadArgument));
+    let cycle = Cycle::new(moment(MOST_MOMENT + 1));
+    assert_eq!(cycle.err(), Some(bad(FaultKind::Moment, 1)));
 }
 
 #[test]
@@ -136,39 +152,41 @@ fn arguments_at_their_bounds() {
         move |model: &mut NetworkModel| model.on_packet_sent(moment(now), in_flight, 5, bytes)
     };
     done(fresh(), sent(MOST_MOMENT, MOST_BYTES, MOST_BYTES));
-    let bad = Refusal::BadArgument;
-    refused(fresh(), bad, sent(MOST_MOMENT + 1, 0, 0));
-    refused(fresh(), bad, sent(10, MOST_BYTES + 1, 0));
-    refused(fresh(), bad, sent(10, 0, MOST_BYTES + 1));
-    refused(fresh(), bad, sent(10, 0, u64::MAX));
+    let bytes = |place: u8| bad(FaultKind::ByteCount, place);
+    let late = bad(FaultKind::Moment, 1);
+    refused(fresh(), late, sent(MOST_MOMENT + 1, 0, 0));
+    refused(fresh(), bytes(2), sent(10, MOST_BYTES + 1, 0));
+    refused(fresh(), bytes(4), sent(10, 0, MOST_BYTES + 1));
+    refused(fresh(), bytes(4), sent(10, 0, u64::MAX));
 
     let gain = |gain: f32| move |model: &mut NetworkModel| model.set_pacing_gain(gain);
     done(fresh(), gain(8.0));
     done(fresh(), gain(1.0 / 1024.0));
-    refused(fresh(), bad, gain(8.000001));
-    refused(fresh(), bad, gain(-1.0));
-    refused(fresh(), bad, gain(f32::NAN));
+    for no_gain in [8.000001, -1.0, f32::NAN] {
+        refused(fresh(), bad(FaultKind::Gain, 1), gain(no_gain));
+    }
 
     let high = |bytes: u64| move |model: &mut NetworkModel| model.set_inflight_hi(bytes);
     done(fresh(), high(MOST_BYTES));
     let limited = with(fresh(), state::INFLIGHT_HI, 7);
     done(limited, high(NetworkModel::UNSET));
-    refused(fresh(), bad, high(MOST_BYTES + 1));
-    refused(fresh(), bad, high(NetworkModel::UNSET - 1));
+    refused(fresh(), bytes(1), high(MOST_BYTES + 1));
+    refused(fresh(), bytes(1), high(NetworkModel::UNSET - 1));
 
     let bdp1 = |bits: u64| fresh().bdp1(Bandwidth::from_bits_per_second(bits));
     assert!(bdp1(MOST_BANDWIDTH).is_ok());
-    assert_eq!(bdp1(MOST_BANDWIDTH + 1), Err(bad));
+    let fast = bad(FaultKind::Bandwidth, 1);
+    assert_eq!(bdp1(MOST_BANDWIDTH + 1), Err(fast));
 
     let later = |nanos: u64| {
         let length = Duration::from_nanos(nanos);
         move |model: &mut NetworkModel| model.postpone_min_rtt_timestamp(length)
     };
     done(fresh(), later(MOST_LENGTH));
-    refused(fresh(), bad, later(MOST_LENGTH + 1));
+    refused(fresh(), bad(FaultKind::Length, 1), later(MOST_LENGTH + 1));
     let old = || with(fresh(), state::MIN_RTT_TIMESTAMP, MOST_MOMENT - 1);
     done(old(), later(1));
-    refused(old(), bad, later(2));
+    refused(old(), late, later(2));
 }
 
 #[test]
@@ -346,7 +364,7 @@ fn the_slope() {
         Ok((1, MOST_BYTES))
     );
     let wide = raise_inflight_high_slope(0, MOST_BYTES + 1);
-    assert_eq!(wide, Err(Refusal::BadArgument));
+    assert_eq!(wide, Err(bad(FaultKind::Window, 2)));
 
     // The cycle's own, which is given no model.
     let mut cycle = Cycle::new(moment(0)).unwrap();
@@ -360,7 +378,7 @@ fn the_slope() {
     );
     let before = cycle.clone();
     let wide = cycle.raise_inflight_high_slope(MOST_BYTES + 1);
-    assert_eq!(wide, Err(Refusal::BadArgument));
+    assert_eq!(wide, Err(bad(FaultKind::Window, 1)));
     assert!(cycle == before);
 }
 
@@ -399,11 +417,11 @@ fn only_bytes_of_a_state_are_taken() {
     assert_eq!(taken(state::LAST_CYCLE_STOPPED_RISKY_PROBE, 2), none);
 
     // Lengths.
-    let bad = Some(Refusal::BadArgument);
+    let length = Some(bad(FaultKind::ListLength, 1));
     let bytes = model.as_bytes();
-    assert_eq!(NetworkModel::from_bytes(&bytes[1..]).err(), bad);
-    assert_eq!(NetworkModel::from_bytes(&[]).err(), bad);
-    assert_eq!(Cycle::from_bytes(bytes).err(), bad);
+    assert_eq!(NetworkModel::from_bytes(&bytes[1..]).err(), length);
+    assert_eq!(NetworkModel::from_bytes(&[]).err(), length);
+    assert_eq!(Cycle::from_bytes(bytes).err(), length);
     // What is taken is what was kept.
     assert!(NetworkModel::from_bytes(bytes).as_ref() == Ok(&model));
     assert!(Cycle::from_bytes(cycle.as_bytes()).as_ref() == Ok(&cycle));
@@ -532,41 +550,32 @@ const SAMPLE_PAIRS: [usize; 4] = [
 ];
 const EVENT_START: u64 = call::ON_CONGESTION_EVENT_START;
 
+/// The place of the event's record among a call's arguments: before it an event's start has the acked
+/// numbers. After it the start has what the sampler says, at place 3.
+fn record_place(call: u64) -> u64 {
+    if call == EVENT_START {
+        2
+    } else {
+        1
+    }
+}
+
 #[test]
 fn flags_are_0_or_1() {
-    let mut places: Vec<(u64, usize)> = vec![
-        (call::ENTER_PROBE_DOWN, enter_probe_down::PROBED_TOO_HIGH),
-        (
-            call::ENTER_PROBE_DOWN,
-            enter_probe_down::STOPPED_RISKY_PROBE,
-        ),
+    let down = call::ENTER_PROBE_DOWN;
+    let mut places: Vec<(u64, usize, u64)> = vec![
+        (down, enter_probe_down::PROBED_TOO_HIGH, 1),
+        (down, enter_probe_down::STOPPED_RISKY_PROBE, 2),
     ];
-    places.extend(SAMPLE_FLAGS.map(|at| (EVENT_START, at)));
+    places.extend(SAMPLE_FLAGS.map(|at| (EVENT_START, at, 3)));
     let reading = call::READ_EVENT.iter();
-    places.extend(reading.flat_map(|&call| RECORD_FLAGS.map(|at| (call, at))));
-    for (call, at) in places {
-        assert_eq!(
-            reply_with(call, &[(at, 0)]),
-            0,
-            "call {}, word {}",
-            call,
-            at
-        );
-        assert_eq!(
-            reply_with(call, &[(at, 1)]),
-            0,
-            "call {}, word {}",
-            call,
-            at
-        );
+    places.extend(reading.flat_map(|&call| RECORD_FLAGS.map(|at| (call, at, record_place(call)))));
+    for (call, at, place) in places {
+        let reply = |word: u64| reply_with(call, &[(at, word)]);
+        assert_eq!(reply(0), 0, "call {}, word {}", call, at);
+        assert_eq!(reply(1), 0, "call {}, word {}", call, at);
         for word in NOT_FLAGS {
-            assert_eq!(
-                reply_with(call, &[(at, word)]),
-                2,
-                "call {}, word {}",
-                call,
-                at
-            );
+            assert_eq!(reply(word), malformed(place), "call {}, word {}", call, at);
         }
     }
 }
@@ -578,7 +587,8 @@ fn counts_are_0_to_3() {
         assert_eq!(reply_with(EVENT_START, &[(sample::ACKED_COUNT, count)]), 0);
     }
     for count in [4, 5, 7, 1 << 32, u64::MAX - 3, u64::MAX] {
-        assert_eq!(reply_with(EVENT_START, &[(sample::ACKED_COUNT, count)]), 2);
+        let reply = reply_with(EVENT_START, &[(sample::ACKED_COUNT, count)]);
+        assert_eq!(reply, malformed(1));
     }
 }
 
@@ -632,7 +642,8 @@ fn counts_above_3_are_within_the_lists() {
         (1 << 32, 4, 10),
         (0, (1 << 32) + 4, 10),
     ] {
-        assert_eq!(reply(place, count, length), 2, "{} from {}", count, place);
+        let reply = reply(place, count, length);
+        assert_eq!(reply, malformed(1), "{} from {}", count, place);
     }
 }
 
@@ -643,23 +654,24 @@ fn a_place_beside_other_refusals() {
     let (inside, outside) = (named(6, 4), named(7, 4));
     for (numbers, row) in [(lists, 0), ([6; 10], 10)] {
         assert_eq!(reply_in(&mut sent(), &inside, &numbers), row);
-        assert_eq!(reply_in(&mut sent(), &outside, &numbers), 2);
+        assert_eq!(reply_in(&mut sent(), &outside, &numbers), malformed(1));
     }
+    let of_outside = |of_inside: u64| if of_inside == 1 { 1 } else { malformed(1) };
     let time = EVENT + event::EVENT_TIME;
-    for (at, bad, row) in [
+    for (at, bad, due) in [
         (PARAMS + params::BETA, 0, 1),
         (
             PARAMS + params::IGNORE_APP_LIMITED_FOR_NO_BANDWIDTH_GROWTH,
             2,
             1,
         ),
-        (sample::SAMPLE_IS_APP_LIMITED, 2, 2),
-        (EVENT + event::PRIOR_CWND, MOST_BYTES + 1, 2),
+        (sample::SAMPLE_IS_APP_LIMITED, 2, malformed(3)),
+        (EVENT + event::PRIOR_CWND, MOST_BYTES + 1, WIDE),
         (time, 9, 3),
     ] {
         let reply = |call: &[u8]| reply_in(&mut sent(), &changed(call, at, bad), &lists);
-        assert_eq!(reply(&inside), row);
-        assert_eq!(reply(&outside), row.min(2));
+        assert_eq!(reply(&inside), due);
+        assert_eq!(reply(&outside), of_outside(due));
     }
     // Totals lower than the stored ones, a stored number out of bounds, a full counter.
     for (at, number, row) in [
@@ -669,7 +681,7 @@ fn a_place_beside_other_refusals() {
     ] {
         let reply = |call: &[u8]| reply_in(&mut stored(sent(), at, number), call, &lists);
         assert_eq!(reply(&inside), row);
-        assert_eq!(reply(&outside), row.min(2));
+        assert_eq!(reply(&outside), of_outside(row));
     }
 }
 
@@ -684,13 +696,13 @@ fn acking(packet: u64) -> Vec<u8> {
 fn a_number_never_sent_beside_other_refusals() {
     for (before, unsent) in [(sent(), acking(6)), (started(), acking(0))] {
         assert_eq!(reply(&mut { before }, &unsent), 10);
-        for (at, bad, row) in [
+        for (at, bad, due) in [
             (PARAMS + params::BETA, 0, 1),
-            (sample::SAMPLE_IS_APP_LIMITED, 2, 2),
-            (EVENT + event::PRIOR_CWND, MOST_BYTES + 1, 2),
+            (sample::SAMPLE_IS_APP_LIMITED, 2, malformed(3)),
+            (EVENT + event::PRIOR_CWND, MOST_BYTES + 1, WIDE),
             (EVENT + event::EVENT_TIME, 9, 3),
         ] {
-            assert_eq!(reply(&mut { before }, &changed(&unsent, at, bad)), row);
+            assert_eq!(reply(&mut { before }, &changed(&unsent, at, bad)), due);
         }
         for (at, number, row) in [
             (state::MAX_BANDWIDTH_0, MOST_BANDWIDTH + 1, 1),
@@ -768,16 +780,16 @@ fn a_start_forgets_what_was_sent() {
 
 #[test]
 fn pairs_are_1_and_a_number_or_0_and_0() {
-    let mut places: Vec<(u64, usize)> = SAMPLE_PAIRS.map(|at| (EVENT_START, at)).to_vec();
+    let mut places: Vec<(u64, usize, u64)> = SAMPLE_PAIRS.map(|at| (EVENT_START, at, 3)).to_vec();
     let reading = call::READ_EVENT.iter();
-    places.extend(reading.flat_map(|&call| RECORD_PAIRS.map(|at| (call, at))));
-    for (call, at) in places {
+    places.extend(reading.flat_map(|&call| RECORD_PAIRS.map(|at| (call, at, record_place(call)))));
+    for (call, at, place) in places {
         for (set, number) in [(0, 0), (1, 0), (1, 5)] {
             assert_eq!(reply_with(call, &[(at, set), (at + 1, number)]), 0);
         }
         for (set, number) in NOT_PAIRS {
-            let words = [(at, set), (at + 1, number)];
-            assert_eq!(reply_with(call, &words), 2, "call {}, word {}", call, at);
+            let reply = reply_with(call, &[(at, set), (at + 1, number)]);
+            assert_eq!(reply, malformed(place), "call {}, word {}", call, at);
         }
     }
 }
@@ -785,22 +797,24 @@ fn pairs_are_1_and_a_number_or_0_and_0() {
 #[test]
 fn gains_have_32_bits() {
     let one = 1.0f32.to_bits() as u64;
-    for (call, at) in [
-        (
-            call::CHECK_PERSISTENT_QUEUE,
-            check_persistent_queue::TARGET_GAIN,
-        ),
-        (call::BDP, bdp::GAIN),
-        (call::SET_PACING_GAIN, set_pacing_gain::PACING_GAIN),
-        (call::SET_CWND_GAIN, set_cwnd_gain::CWND_GAIN),
+    let queue = call::CHECK_PERSISTENT_QUEUE;
+    for (call, at, place) in [
+        (queue, check_persistent_queue::TARGET_GAIN, 1),
+        (call::BDP, bdp::GAIN, 2),
+        (call::SET_PACING_GAIN, set_pacing_gain::PACING_GAIN, 1),
+        (call::SET_CWND_GAIN, set_cwnd_gain::CWND_GAIN, 1),
     ] {
-        assert_eq!(reply_with(call, &[(at, one)]), 0);
+        let reply = |word: u64| reply_with(call, &[(at, word)]);
+        assert_eq!(reply(one), 0);
+        let nans = [0x7fc0_0000, 0x7f80_0001, 0xffff_ffff];
         for high in [1 << 32, 1 << 63, u64::MAX << 32] {
-            assert_eq!(reply_with(call, &[(at, one | high)]), 2, "call {}", call);
+            assert_eq!(reply(one | high), malformed(place), "call {}", call);
+            assert_eq!(reply(nans[0] | high), malformed(place), "call {}", call);
         }
         // A NaN of any pattern is a gain out of bounds.
-        for nan in [0x7fc0_0000, 0x7f80_0001, 0xffff_ffff] {
-            assert_eq!(reply_with(call, &[(at, nan)]), 2, "call {}", call);
+        for nan in nans {
+            let gain = 2 + 256 * 7 + 65_536 * place;
+            assert_eq!(reply(nan), gain, "call {}", call);
         }
     }
 }
@@ -926,17 +940,18 @@ fn a_refused_start_leaves_a_fresh_state() {
             reply(&mut { before }, good(call::ENTER_PROBE_UP).as_bytes()),
             0
         );
-        for (row, at, bad) in [
+        let late = 2 + 256 * 9 + 65_536 * 2;
+        for (due, at, bad) in [
             // Malformed parameters, one out of bounds, and a moment out of bounds.
             (1, option, 255),
             (1, option, 2),
             (1, PARAMS + params::STARTUP_PACING_GAIN, 1 << 32),
             (1, PARAMS + params::BETA, 0),
-            (2, argument::start::NOW, MOST_MOMENT + 1),
+            (late, argument::start::NOW, MOST_MOMENT + 1),
         ] {
             let mut state = before;
             let start = changed(good(call::START).as_bytes(), at, bad);
-            assert_eq!(reply(&mut state, &start), row);
+            assert_eq!(reply(&mut state, &start), due);
             for (at, expected) in fresh.iter().enumerate() {
                 assert_eq!(word(&state, at), *expected, "word {}", at);
             }
@@ -962,27 +977,31 @@ fn malformed_words_beside_other_refusals() {
     // With an earlier moment it is 2.
     let ended = EVENT + event::END_OF_ROUND_TRIP;
     assert_eq!(reply_with(EVENT_START, &[(time, 9)]), 3);
-    assert_eq!(reply_with(EVENT_START, &[(time, 9), (ended, 2)]), 2);
+    assert_eq!(
+        reply_with(EVENT_START, &[(time, 9), (ended, 2)]),
+        malformed(2)
+    );
     assert_eq!(
         reply_with(down, &[(enter_probe_down::NOW, 9), (high, 2)]),
-        2
+        malformed(1)
     );
     // In a state out of bounds it is 1, for a number of no call, too; the cycle counts where it is
     // given.
     let in_state = |at: usize, word: u64, call: &[u8]| reply(&mut stored(sent(), at, word), call);
     let (slot, rounds) = (state::MAX_BANDWIDTH_0, state::PROBE_UP_ROUNDS);
     let event = changed(good(EVENT_START).as_bytes(), sample::ACKED_COUNT, 4);
-    assert_eq!(in_state(slot, MOST_BANDWIDTH, &event), 2);
+    assert_eq!(in_state(slot, MOST_BANDWIDTH, &event), malformed(1));
     assert_eq!(in_state(slot, MOST_BANDWIDTH + 1, &event), 1);
     let risky = enter_probe_down::STOPPED_RISKY_PROBE;
     let down = changed(good(down).as_bytes(), risky, 2);
-    assert_eq!(in_state(rounds, 30, &down), 2);
+    assert_eq!(in_state(rounds, 30, &down), malformed(2));
     assert_eq!(in_state(rounds, 31, &down), 1);
     for number in [2, 39, 46, 256, 1 << 32, u64::MAX] {
         let none = good(number);
-        assert_eq!(in_state(slot, MOST_BANDWIDTH, none.as_bytes()), 2);
+        let reply = in_state(slot, MOST_BANDWIDTH, none.as_bytes());
+        assert_eq!(reply, malformed(0));
         assert_eq!(in_state(slot, MOST_BANDWIDTH + 1, none.as_bytes()), 1);
-        assert_eq!(in_state(rounds, 31, none.as_bytes()), 2);
+        assert_eq!(in_state(rounds, 31, none.as_bytes()), malformed(0));
     }
 }
 

@@ -85,7 +85,7 @@ impl Batch {
         let reply = word(answer, REPLY_IN_ANSWER);
         let expected = self.expected[at];
         let due = match expected {
-            Expected::Refused(why) => why.number(),
+            Expected::Refused(why) => why.reply(),
             _ => 0,
         };
         if reply != due {

@@ -5,6 +5,8 @@ use guovssalu::Bandwidth;
 use guovssalu::Call;
 use guovssalu::CongestionEvent;
 use guovssalu::Duration;
+use guovssalu::Fault;
+use guovssalu::FaultKind;
 use guovssalu::Moment;
 use guovssalu::NetworkModel;
 use guovssalu::Params;
@@ -399,7 +401,7 @@ impl Connection {
             }
             _ => {
                 event.prior_cwnd = (1 << 40) + 1;
-                Refusal::BadArgument
+                Refusal::BadArgument(Fault::new(FaultKind::Window, 2))
             }
         };
         let acked = [self.rules.last_sent_packet + 1];

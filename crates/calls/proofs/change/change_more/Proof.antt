@@ -9,11 +9,11 @@ use Rattle.calls.proofs.change.change_more.Tie as tie
 
 returns : tie.Need-returns
 unfolding changeMore
-returns c = rw (c .before .match .keys1) (c .set-inflight-hi .ensures .0, c .set-inflight-hi .ensures .1)
+returns c = rw (c .before .match .keys1) (c .set-inflight-hi .ensures .0, c .set-inflight-hi .ensures .1 .0)
 
 returns-2 : tie.Need-returns-2
 unfolding changeMore
-returns-2 c = rw (c .before .match .keys2) (c .cap-inflight-lo .ensures .0, c .cap-inflight-lo .ensures .1)
+returns-2 c = rw (c .before .match .keys2) (c .cap-inflight-lo .ensures .0, c .cap-inflight-lo .ensures .1 .0)
 
 returns-3 : tie.Need-returns-3
 unfolding changeMore
@@ -29,7 +29,7 @@ returns-5 c = rw (c .before .match .keys5) (c .advance-max-bandwidth-filter .ens
 
 returns-6 : tie.Need-returns-6
 unfolding changeMore
-returns-6 c = rw (c .before .match .keys6) (c .postpone-min-rtt-timestamp .ensures .0, c .postpone-min-rtt-timestamp .ensures .1)
+returns-6 c = rw (c .before .match .keys6) (c .postpone-min-rtt-timestamp .ensures .0, c .postpone-min-rtt-timestamp .ensures .1 .0)
 
 returns-7 : tie.Need-returns-7
 unfolding changeMore

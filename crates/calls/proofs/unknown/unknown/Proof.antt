@@ -4,9 +4,5 @@ use Rattle.state.specs.NetworkModel.{givenNumber}
 use Rattle.calls.proofs.unknown.unknown.Statement.{statement}
 use Rattle.calls.proofs.unknown.unknown.Tie as tie
 
-returns : tie.Need-returns
-unfolding givenNumber
-returns c = rw (← c .before .ok .ensures) (c .refusal .ensures)
-
 pub unknown-spec : {M : Type 1} → statement M
-unknown-spec = tie.close (tie.spec (λ c κs. search needs) (λ c κs. search needs) returns)
+unknown-spec = tie.close (tie.spec (λ c κs. search needs) (λ c. c .given .ensures .0))

@@ -12,7 +12,7 @@ use Rattle.events.specs.Event.{finishNext}
 use Rattle.events.proofs.event.finish_tested.Statement.{statement}
 use Rattle.events.proofs.event.finish_tested.Tie as tie
 
--- n is the reply's number, d whether it is done, t whether the round ended
+-- n is the row, d whether it is 0, t whether the round ended
 module _ (n : ℕ) (d t : Bool) (next old : NetworkModel) (is : d ≡ eqb n 0) where
   cleared : (d && t) ≡ true → next ≡ settled n (cond t next old) old
   unfolding settled
@@ -27,19 +27,22 @@ module _ (n : ℕ) (d t : Bool) (next old : NetworkModel) (is : d ≡ eqb n 0) w
       go true false h = refl
       go false t h = refl
 
+finish-row-requires : tie.Need-finish-row-requires
+finish-row-requires c κs = c .pre
+
 returns : tie.Need-returns
 unfolding finishNext withRound
 returns c =
-    let args = c .before .before .before .before .before .args in
-    let reply = c .before .before .before .before .finish-reply .ensures in
-    (reply, rw (← reply, ← c .new .ensures) (cleared _ _ _ _ (args .model) (c .before .before .before .is-done .ensures) (c .before .if1 .taken)))
+    let args = c .before .before .before .before .args in
+    let row = c .before .before .before .finish-row .ensures in
+    (row, rw (← row, ← c .new .ensures) (cleared _ _ _ _ (args .model) refl (c .before .if1 .taken)))
 
 returns-2 : tie.Need-returns-2
 unfolding finishNext
 returns-2 c =
-    let args = c .before .before .before .before .args in
-    let reply = c .before .before .before .finish-reply .ensures in
-    (reply, rw (← reply) (kept _ _ (args .event .ended) _ (args .model) (c .before .before .is-done .ensures) (c .if1 .left)))
+    let args = c .before .before .before .args in
+    let row = c .before .before .finish-row .ensures in
+    (row, rw (← row) (kept _ _ (args .event .ended) _ (args .model) refl (c .if1 .left)))
 
 pub finish-tested-spec : {M : Type 1} → statement M
-finish-tested-spec = tie.close (tie.spec (λ c κs. c .pre) (λ c κs. search needs) (λ c κs. search needs) returns returns-2)
+finish-tested-spec = tie.close (tie.spec finish-row-requires (λ c κs. search needs) returns returns-2)

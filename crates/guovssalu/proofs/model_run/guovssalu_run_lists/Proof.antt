@@ -11,14 +11,14 @@ use Rattle.state.specs.declared.network_model.NetworkModel.{NetworkModel}
 use Rattle.words.specs.Words.{allBytes}
 use Rattle.layout.specs.NetworkModel.{modelFrom}
 use Rattle.layout.specs.Cycle.{cycleFrom}
-use Rattle.guovssalu.specs.ModelRun.{callsIn, answersTo, leftBy, answersFrom, wordsLeft, stateOut, answersOut}
+use Rattle.guovssalu.specs.ModelRun.{callsIn, answersTo, leftBy, answersFrom, wordsLeft, modelReply, stateOut, answersOut}
 use Rattle.guovssalu.proofs.Rows.{done-row, refused, written}
 use Rattle.guovssalu.proofs.ModelRun.{length-left, run-room, run-whole}
 use Rattle.guovssalu.proofs.model_run.guovssalu_run_lists.Statement.{statement}
 use Rattle.guovssalu.proofs.model_run.guovssalu_run_lists.Tie as tie
 
 returns : tie.Need-returns
-unfolding stateOut answersOut
+unfolding stateOut answersOut modelReply
 returns c =
     let args = c .before .before .before .before .before .before .before .before .before .args in
     let state = args .state .now in
@@ -26,7 +26,7 @@ returns c =
     let lists = args .lists .now in
     let reply = c .before .before .before .model-reply .ensures in
     let test = c .before .before .is-done .ensures in
-    let row = c .row .ensures in
+    let row = c .word .ensures in
     let stopped = c .before .if1 .taken in
     let kept = refused reply test (wordsLeft state calls lists) state row stopped in
     (kept .0, (kept .1, refused reply test (answersFrom state calls lists) (args .answers .now) row stopped .1))
@@ -45,7 +45,7 @@ put-words-requires c κs =
     omega (arith, left, run-whole _ _ _ done)
 
 returns-2 : tie.Need-returns-2
-unfolding stateOut answersOut answersFrom wordsLeft
+unfolding stateOut answersOut modelReply answersFrom wordsLeft
 returns-2 c =
     let args = c .before .before .before .before .before .before .before .before .before .before .before .before .before .before .before .before .before .before .before .before .before .before .before .before .args in
     let state = args .state .now in
@@ -54,7 +54,7 @@ returns-2 c =
     let out = args .answers .now in
     let reply = c .before .before .before .before .before .before .before .before .before .before .before .before .before .before .before .before .before .before .model-reply .ensures in
     let test = c .before .before .before .before .before .before .before .before .before .before .before .before .before .before .before .before .before .is-done .ensures in
-    let row = c .row2 .ensures in
+    let row = c .word2 .ensures in
     let went-on = c .before .before .before .before .before .before .before .before .before .before .before .before .before .before .before .before .if1 .left in
     let words = c .before .before .before .before .before .before .before .before .before .before .before .before .before .before .state-in .ensures in
     let model = c .before .before .before .before .before .before .before .before .before .before .before .before .model-from .ensures ∙ ap modelFrom words in

@@ -1,14 +1,25 @@
 -- `guovssalu::model_reply` meets its contract: what the tests ensure, put into the rows. Assumes nothing.
 use borrow.Author.Needs.{needs}
-use Rattle.guovssalu.specs.ModelRun.{modelRow}
+use mathlib.Core.Path.{_∙_}
+use Rattle.guovssalu.specs.ModelRun.{modelRow, lengthFaults}
+use Rattle.state.proofs.FirstFault.{asked, or-short}
 use Rattle.guovssalu.proofs.model_run.model_reply.Statement.{statement}
 use Rattle.guovssalu.proofs.model_run.model_reply.Tie as tie
 
 returns : tie.Need-returns
-unfolding modelRow
-returns c = rw (← c .before .before .encodes-none .ensures, ← c .before .refusal .ensures) (c .or-short .ensures)
+unfolding modelRow lengthFaults
+returns c = or-short (c .before .refusal .result) (c .or-short .result) _ _ _ (asked (c .before .refusal .result) _ _ _ _ (c .before .refusal .ensures) (rw (c .before .before .before .before .before .before .encodes-none .ensures)) (c .before .before .first-of .ensures ∙ rw (c .before .before .before .before .before .unless .ensures, c .before .before .before .before .unless2 .ensures))) (c .or-short .ensures)
 
 pub model-reply-spec : {M : Type 1} → statement M
 model-reply-spec =
     tie.close
-    (tie.spec (λ c κs. search needs) (λ c κs. search needs) (λ c. search needs) (λ c κs. search needs) returns)
+    (tie.spec
+    (λ c κs. search needs)
+    (λ c κs. search needs)
+    (λ c κs. search needs)
+    (λ c. search needs)
+    (λ c κs. search needs)
+    (λ c κs. search needs)
+    (λ c. search needs)
+    (λ c κs. search needs)
+    returns)

@@ -11,7 +11,7 @@ use lib.Seq.{sets, length-sets}
 use Rattle.state.specs.NetworkModel.{modelOk}
 use Rattle.words.specs.Words.{allBytes}
 use Rattle.guovssalu.specs.ModelRun.{outcomeAt, answersTo, leftBy}
-use Rattle.dispatch.specs.OneCall.{answerWords}
+use Rattle.dispatch.specs.OneCall.{callAt, answerWords}
 use Rattle.guovssalu.proofs.ModelRun.{Carried, by-send, by-start, by-end, by-other, left-later, write-answer}
 use Rattle.guovssalu.proofs.model_run.run_calls.Statement.{statement}
 use Rattle.guovssalu.proofs.model_run.run_calls.Tie as tie
@@ -67,7 +67,7 @@ loop-again c =
     in (
       omega arith,
       loop .inv .1,
-      ap length (carried .0) ∙ length-sets (loop .answers) (144 * loop .i) (allBytes (answerWords (outcomeAt (loop .m) (loop .y) calls lists (392 * loop .i)))) ∙ loop .inv .2,
+      ap length (carried .0) ∙ length-sets (loop .answers) (144 * loop .i) (allBytes (answerWords (callAt calls lists (392 * loop .i)) (loop .m) (outcomeAt (loop .m) (loop .y) calls lists (392 * loop .i)))) ∙ loop .inv .2,
       rw (carried .0, carried .1, carried .2) (write-answer calls lists (loop .i) count test (loop .m) (loop .y) (loop .answers) (loop .inv .3)),
       rw (carried .1, carried .2) (left-later calls lists (loop .i) count test (loop .m) (loop .y) (loop .inv .4)),
       carried .3,

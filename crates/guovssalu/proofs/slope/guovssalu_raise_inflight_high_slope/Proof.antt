@@ -10,7 +10,7 @@ use lib.Dec.{eqb, ltb}
 use lib.ListN.{length}
 use lib.Seq.{sets}
 use Rattle.words.specs.Words.{allBytes}
-use Rattle.guovssalu.specs.Slope.{slopeRow, slopeWords, slopeOut}
+use Rattle.guovssalu.specs.Slope.{slopeRow, slopeReply, slopeWords, slopeOut}
 use Rattle.guovssalu.proofs.Rows.{done-room, done-row, refused, written}
 use Rattle.guovssalu.proofs.slope.guovssalu_raise_inflight_high_slope.Statement.{statement}
 use Rattle.guovssalu.proofs.slope.guovssalu_raise_inflight_high_slope.Tie as tie
@@ -20,10 +20,10 @@ unfolding slopeRow
 slope-room rounds window room h = ltb-false room 16 (done-room _ (ltb room 16) h)
 
 returns : tie.Need-returns
-unfolding slopeOut
+unfolding slopeOut slopeReply
 returns c =
     let args = c .before .before .before .before .before .args in
-    refused (c .before .before .before .slope-reply .ensures) (c .before .before .is-done .ensures) (slopeWords (args .rounds) (args .window)) (args .out .now) (c .row .ensures) (c .before .if1 .taken)
+    refused (c .before .before .before .slope-reply .ensures) (c .before .before .is-done .ensures) (slopeWords (args .rounds) (args .window)) (args .out .now) (c .word .ensures) (c .before .if1 .taken)
 
 put-words-requires : tie.Need-put-words-requires
 unfolding slopeWords
@@ -33,11 +33,11 @@ put-words-requires c κs =
     omega arith
 
 returns-2 : tie.Need-returns-2
-unfolding slopeOut
+unfolding slopeOut slopeReply
 returns-2 c =
     let args = c .before .before .before .before .before .before .before .before .before .before .before .args in
     let out = args .out .now in
-    written (c .before .before .before .before .before .before .before .before .before .slope-reply .ensures) (c .before .before .before .before .before .before .before .before .is-done .ensures) (slopeWords (args .rounds) (args .window)) out (c .row2 .ensures) (c .before .before .before .before .before .before .before .if1 .left)
+    written (c .before .before .before .before .before .before .before .before .before .slope-reply .ensures) (c .before .before .before .before .before .before .before .before .is-done .ensures) (slopeWords (args .rounds) (args .window)) out (c .word2 .ensures) (c .before .before .before .before .before .before .before .if1 .left)
     (c .before .before .before .put-words .ensures ∙ ap (λ (words : List ℕ). sets out 0 (allBytes words)) (c .before .before .before .before .before .slope-words .ensures))
 
 pub guovssalu-raise-inflight-high-slope-spec : {M : Type 1} → statement M

@@ -1,6 +1,4 @@
 -- `row_of` meets its contract: row by row. Assumes nothing.
-use mathlib.Core.Path.{_≡_, sym, _∙_}
-use mathlib.Core.Bool.{Bool}
 use Rattle.state.specs.Refusals.{upToFour}
 use Rattle.state.proofs.Rows.{in-turn}
 use Rattle.state.proofs.refusals.row_of.Statement.{statement}
@@ -11,10 +9,31 @@ unfolding upToFour
 row-of-spec =
     tie.close
     (tie.spec
-    (λ c. let a = c .before .args in rw (in-turn (a .stored) (a .argument) (a .earlier) (a .lower) (a .unsent) (a .full), c .if1 .taken))
-    (λ c. let a = c .before .before .args in rw (in-turn (a .stored) (a .argument) (a .earlier) (a .lower) (a .unsent) (a .full), c .before .if1 .left, c .if2 .taken))
-    (λ c. let a = c .before .before .before .args in rw (in-turn (a .stored) (a .argument) (a .earlier) (a .lower) (a .unsent) (a .full), c .before .before .if1 .left, c .before .if2 .left, c .if3 .taken))
-    (λ c. let a = c .before .before .before .before .args in rw (in-turn (a .stored) (a .argument) (a .earlier) (a .lower) (a .unsent) (a .full), c .before .before .before .if1 .left, c .before .before .if2 .left, c .before .if3 .left, c .if4 .taken))
-    (λ c. let a = c .before .before .before .before .before .args in rw (in-turn (a .stored) (a .argument) (a .earlier) (a .lower) (a .unsent) (a .full), c .before .before .before .before .if1 .left, c .before .before .before .if2 .left, c .before .before .if3 .left, c .before .if4 .left, c .if5 .taken))
-    (λ c. let a = c .before .before .before .before .before .before .args in rw (in-turn (a .stored) (a .argument) (a .earlier) (a .lower) (a .unsent) (a .full), c .before .before .before .before .before .if1 .left, c .before .before .before .before .if2 .left, c .before .before .before .if3 .left, c .before .before .if4 .left, c .before .if5 .left, c .if6 .taken))
-    (λ c. let a = c .before .before .before .before .before .before .args in rw (in-turn (a .stored) (a .argument) (a .earlier) (a .lower) (a .unsent) (a .full), c .before .before .before .before .before .if1 .left, c .before .before .before .before .if2 .left, c .before .before .before .if3 .left, c .before .before .if4 .left, c .before .if5 .left, c .if6 .left)))
+    (λ c.
+    let a = c .before .args in
+    let rows = in-turn (a .stored) (a .argument) (a .earlier) (a .lower) (a .unsent) (a .full) in
+    rw (rows, c .if1 .taken))
+    (λ c.
+    let a = c .before .before .args in
+    let rows = in-turn (a .stored) (a .argument) (a .earlier) (a .lower) (a .unsent) (a .full) in
+    rw (rows, c .before .if1 .left, c .if2 .taken))
+    (λ c.
+    let a = c .before .before .before .args in
+    let rows = in-turn (a .stored) (a .argument) (a .earlier) (a .lower) (a .unsent) (a .full) in
+    rw (rows, c .before .before .if1 .left, c .before .if2 .left, c .if3 .taken))
+    (λ c.
+    let a = c .before .before .before .before .args in
+    let rows = in-turn (a .stored) (a .argument) (a .earlier) (a .lower) (a .unsent) (a .full) in
+    rw (rows, c .before .before .before .if1 .left, c .before .before .if2 .left, c .before .if3 .left, c .if4 .taken))
+    (λ c.
+    let a = c .before .before .before .before .before .args in
+    let rows = in-turn (a .stored) (a .argument) (a .earlier) (a .lower) (a .unsent) (a .full) in
+    rw (rows, c .before .before .before .before .if1 .left, c .before .before .before .if2 .left, c .before .before .if3 .left, c .before .if4 .left, c .if5 .taken))
+    (λ c.
+    let a = c .before .before .before .before .before .before .args in
+    let rows = in-turn (a .stored) (a .argument) (a .earlier) (a .lower) (a .unsent) (a .full) in
+    rw (rows, c .before .before .before .before .before .if1 .left, c .before .before .before .before .if2 .left, c .before .before .before .if3 .left, c .before .before .if4 .left, c .before .if5 .left, c .if6 .taken))
+    (λ c.
+    let a = c .before .before .before .before .before .before .args in
+    let rows = in-turn (a .stored) (a .argument) (a .earlier) (a .lower) (a .unsent) (a .full) in
+    rw (rows, c .before .before .before .before .before .if1 .left, c .before .before .before .before .if2 .left, c .before .before .before .if3 .left, c .before .before .if4 .left, c .before .if5 .left, c .if6 .left)))

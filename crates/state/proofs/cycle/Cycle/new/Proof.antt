@@ -7,11 +7,11 @@ use Rattle.state.proofs.cycle.Cycle.new.Tie as tie
 
 returns : tie.Need-returns
 unfolding freshCycle
-returns c = (c .before .before .before .fresh-reply .ensures, done-as _ _ _ _ _ _ (c .before .before .before .fresh-reply .ensures) (c .before .before .is-done .ensures) (c .before .if1 .taken) (c .fresh .ensures))
+returns c = let reply = c .before .before .before .fresh-reply .ensures in (reply .0, (done-as _ _ _ _ _ _ (reply .0) (c .before .before .is-done .ensures) (c .before .if1 .taken) (c .fresh .ensures), reply .1))
 
 returns-2 : tie.Need-returns-2
 unfolding freshCycle
-returns-2 c = (c .before .before .before .fresh-reply .ensures, refused-as _ _ _ _ _ _ (c .before .before .before .fresh-reply .ensures) (c .before .before .is-done .ensures) (c .before .if1 .left) (c .fresh2 .ensures))
+returns-2 c = let reply = c .before .before .before .fresh-reply .ensures in (reply .0, (refused-as _ _ _ _ _ _ (reply .0) (c .before .before .is-done .ensures) (c .before .if1 .left) (c .fresh2 .ensures), reply .1))
 
 pub new-spec : {M : Type 1} → statement M
 new-spec = tie.close (tie.spec (λ c κs. search needs) (λ c κs. search needs) (λ c κs. search needs) (λ c κs. search needs) returns returns-2)

@@ -7,7 +7,7 @@ use Rattle.state.proofs.network_model.NetworkModel.stored.Tie as tie
 
 returns : tie.Need-returns
 unfolding storedNumber
-returns c = c .refusal .ensures ∙ simp (c .before .ok .ensures)
+returns c = c .refusal .ensures .0 ∙ simp (c .before .ok .ensures)
 
 pub stored-spec : {M : Type 1} → statement M
 stored-spec = tie.close (tie.spec (λ c κs. search needs) (λ c κs. search needs) returns)

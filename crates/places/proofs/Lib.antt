@@ -1,0 +1,4 @@
+-- Laws, and theorems about the contracts.
+pub mod Alike
+pub mod Complete
+pub mod Determined

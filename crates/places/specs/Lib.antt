@@ -1,0 +1,2 @@
+-- Which argument of a call of a run is at fault.
+pub mod Places
