@@ -124,7 +124,7 @@ pub record Theorems : Type 0 where
   -- A call of a run is refused with the number of the first row that holds, exactly then, whatever its words are
   pub call-row : (w : List ℕ) (s : State) → Exactly (outcomeIn w s .reply) (rowsOf w s)
   -- Refused, it changes nothing (a refused start has no earlier state, and leaves a fresh one at moment 0). Its answer
-  -- is the refusal's number, 0 and, of call 3, the record as handed in; of the others 16 zeros
+  -- is the reply's word, 0 and, of call 3, the record as handed in; of the others 16 zeros
   pub call-refused : (w : List ℕ) (s : State) → (outcomeIn w s .reply ≡ 0 → ⊥) → Refused w s
   -- A call that is refused with 2 names the first of its faults, by kind and place, and no other reply names any; its
   -- row is the number above (document 02, request b). Each public call does the same by its contract (`calls-faults`,
