@@ -1,19 +1,21 @@
 -- Each call of a run names the first of its faults (specs/Blames.antt), number by number. Assumes nothing.
-use Prim.Native.Nat.{ℕ, _≤_, _<_}
-use mathlib.Core.Bool.{Bool, true, false, not, true≢false}
-use mathlib.Core.List.{List, []}
-use mathlib.Core.Path.{_≡_, refl, sym, ap, _∙_}
+use Prim.Native.Nat.{ℕ, _%_, _≤_, _<_}
+use mathlib.Core.Bool.{Bool, true, false, not, _&&_, _||_, true≢false}
+use mathlib.Core.List.{List, [], _∷_}
+use mathlib.Core.Path.{_≡_, refl, sym, ap, subst, _∙_}
 use native.Mathlib.Omega.{arith}
 use borrow.Author.Tests.{eq-eqb, ne-eqb}
 use lib.Dec.{eqb}
-use lib.ListN.{getD}
+use lib.ListN.{length, getD}
 use Rattle.state.specs.Faults.{first, named, replied}
-use Rattle.state.proofs.Complete.{start-complete, sent-complete, bdp1-complete, limit-complete, postpone-complete, cruise-complete, refill-complete, up-complete, slope-complete}
+use Rattle.state.specs.Bounds.{bytesOk}
+use Rattle.state.proofs.Complete as tests
+use Rattle.state.proofs.Complete.{faultsFrom, complete, and-one, start-complete, sent-complete, bdp1-complete, limit-complete, postpone-complete, cruise-complete, refill-complete, up-complete, slope-complete}
 use Rattle.changes.specs.Changes.{postponed}
 use Rattle.words.specs.Word.{word}
 use Rattle.places.specs.Places.{entryFaults, numberFaults, otherFaults, faultsOf}
 use Rattle.places.proofs.Complete.{event-asked, started-asked, gain-asked, bdp-asked, down-asked}
-use Rattle.units.specs.Reply.{faultIn}
+use Rattle.units.specs.Reply.{rowIn, faultIn}
 use Rattle.units.proofs.reply.Number.{row-back, fault-back}
 use Rattle.state.specs.declared.refusals.Rows.{Rows}
 use Rattle.dispatch.specs.OneCall.{callWord}
@@ -21,7 +23,13 @@ use Rattle.dispatch.proofs.OneCall.{plain-word}
 use Rattle.laws.specs.Replies.{Exactly}
 use Rattle.laws.proofs.Named.{found}
 use Rattle.drift.specs.Calls.{State}
+use Rattle.pairs.specs.Pairs.{runRow, pairsFaults}
+use Rattle.guovssalu.specs.FilterRun.{runReply}
+use Rattle.guovssalu.specs.ModelRun.{modelRow, lengthFaults, modelReply}
+use Rattle.guovssalu.specs.Slope.{slopeRow, windowFaults, slopeReply}
 use Rattle.theorems.specs.Blames.{Named, Blames}
+use Rattle.theorems.specs.Runs.{Run, Ran, FilterRun, Filtered, SlopeRun, Raised}
+use Rattle.theorems.proofs.Exported.{run-is, filter-is, slope-is, run-row-is, filter-row-is, slope-row-is, run-row, filter-row, slope-row}
 use Rattle.theorems.specs.Steps.{outcomeIn}
 use Rattle.theorems.proofs.Rows.{every-row}
 use Rattle.theorems.specs.Rows.{rowsOf}
@@ -133,3 +141,39 @@ call-blames w s =
       asked = row-asked w s;
       word = word-named (outcomeIn w s .reply) _ (row-below _ (rowsOf w s) row) (λ two z. two-some (rowsOf w s .argument) _ (row-asked w s) (row .is2 .0 two .1) z);
     }
+
+byte : (word : ℕ) → rowIn word < 256
+byte word = omega arith
+
+-- ---- the exported runs: row 2 holds exactly where a length or the window is at fault
+worded : (reply row : ℕ) (faults : List ℕ) (argument : Bool) → reply ≡ replied row (first faults) → row < 256 → (row ≡ 2 → argument ≡ true) → argument ≡ not (eqb (first faults) 0) → Named reply row faults
+worded reply row faults argument is small two asked = rw is (word-named row faults small (λ e z. two-some argument (first faults) asked (two e) z))
+
+either-uneven : (t u : Bool) → (not t || not u) ≡ not (t && (u && true))
+either-uneven true u = ap not (sym (and-one u))
+either-uneven false u = refl
+
+pub run-blames : (r : Run) → Ran r → Named (r .reply) (modelRow (r .state) (r .calls) (length (r .answers))) (lengthFaults (r .state) (r .calls))
+unfolding modelReply lengthFaults faultsFrom tests.every
+run-blames r h =
+    let a = eqb (length (r .state)) 408 in
+    let b = eqb (length (r .calls) % 392) 0 in
+    let row = run-row-is r h in
+    worded (r .reply) _ _ (not a || not b) (run-is r h .0) (subst (λ (n : ℕ). n < 256) row (byte (r .reply))) (λ e. run-row r h .second .0 (row ∙ e) .1)
+    (either-uneven a b ∙ ap not (sym (complete ((a, (1, 7)) ∷ (b, (2, 7)) ∷ []))))
+
+pub filter-blames : (r : FilterRun) → Filtered r → Named (r .reply) (runRow (r .window) (r .pairs) (length (r .output))) (pairsFaults (r .pairs))
+unfolding runReply pairsFaults faultsFrom tests.every
+filter-blames r h =
+    let a = eqb (length (r .pairs) % 16) 0 in
+    let row = filter-row-is r h in
+    worded (r .reply) _ _ (not a) (filter-is r h .0) (subst (λ (n : ℕ). n < 256) row (byte (r .reply))) (λ e. filter-row r h .first .0 (row ∙ e))
+    (ap not (sym (complete ((a, (2, 7)) ∷ []) ∙ and-one a)))
+
+pub slope-blames : (r : SlopeRun) → Raised r → Named (r .reply) (slopeRow (r .rounds) (r .window) (length (r .output))) (windowFaults (r .window))
+unfolding slopeReply windowFaults faultsFrom tests.every
+slope-blames r h =
+    let a = bytesOk (r .window) in
+    let row = slope-row-is r h in
+    worded (r .reply) _ _ (not a) (slope-is r h .0) (subst (λ (n : ℕ). n < 256) row (byte (r .reply))) (λ e. slope-row r h .second .0 (row ∙ e) .1)
+    (ap not (sym (complete ((a, (2, 0)) ∷ []) ∙ and-one a)))

@@ -37,7 +37,7 @@ use Rattle.theorems.proofs.Left.{left-whole, from-form, left-within, st
 use Rattle.theorems.proofs.Note.{noted, last-noted}
 use Rattle.theorems.proofs.Numbers.{every-number}
 use Rattle.theorems.proofs.Refused.{refused}
-use Rattle.theorems.proofs.Blames.{call-blames}
+use Rattle.theorems.proofs.Blames.{call-blames, run-blames, filter-blames, slope-blames}
 use Rattle.theorems.proofs.Rows.{every-row}
 
 -- call 40 with a flag that is neither 0 nor 1 is given a moment that is out of bounds
@@ -69,6 +69,9 @@ theorems =
       run-row = exported.run-row;
       filter-row = exported.filter-row;
       slope-row = exported.slope-row;
+      run-fault = run-blames;
+      filter-fault = filter-blames;
+      slope-fault = slope-blames;
       run-keeps = exported.run-keeps;
       filter-keeps = exported.filter-keeps;
       slope-keeps = exported.slope-keeps;

@@ -50,20 +50,20 @@ use Rattle.dispatch.specs.RoundTrip.{RoundTrip}
 use Rattle.arguments.specs.Tested.{Tested}
 use Rattle.words.specs.Word.{word}
 use Rattle.calls.specs.Enter.{downAt}
-use Rattle.pairs.specs.Pairs.{pairs}
+use Rattle.pairs.specs.Pairs.{pairs, runRow, pairsFaults}
 use Rattle.worth.specs.Worth.{EveryRun}
 use Rattle.worth.specs.Returned.{EveryReturned}
 use Rattle.worth.specs.Examples.{Worked}
 use Rattle.guovssalu.specs.FilterRun.{runReply, runOut}
 use Rattle.layout.specs.StateWords.{stateWords}
-use Rattle.guovssalu.specs.ModelRun.{encodesNone, modelReply, stateOut, answersOut}
+use Rattle.guovssalu.specs.ModelRun.{encodesNone, modelRow, lengthFaults, modelReply, stateOut, answersOut}
 use Rattle.dispatch.specs.OneCall.{answerWords}
-use Rattle.guovssalu.specs.Slope.{slopeReply, slopeOut}
+use Rattle.guovssalu.specs.Slope.{slopeRow, windowFaults, slopeReply, slopeOut}
 use Rattle.drift.specs.Calls.{Call, State}
 use Rattle.drift.specs.Exact.{Effect, Exact, unset, inflightEffect, bandwidthEffect}
 use Rattle.units.specs.declared.maybe.MaybeNumber.{MaybeNumber}
 use Rattle.drift.specs.Drift.{Follows, IsBeta, usualBeta, usualParts, Under}
-use Rattle.theorems.specs.Blames.{Blames}
+use Rattle.theorems.specs.Blames.{Named, Blames}
 use Rattle.theorems.specs.Rows.{rowsOf}
 use Rattle.theorems.specs.Casts.{Casts}
 use Rattle.theorems.specs.Steps.{moment, Makes, Refused, Numbered, stepOf, outcomeIn, noteAfter, lastAfter}
@@ -104,6 +104,13 @@ pub record Theorems : Type 0 where
   pub run-row : (r : Run) → Ran r → RunRow r
   pub filter-row : (r : FilterRun) → Filtered r → FilterRow r
   pub slope-row : (r : SlopeRun) → Raised r → SlopeRow r
+  -- Refused with 2, it names the first of its own faults, by kind and place (document 02, request b)
+  pub run-fault : (r : Run) → Ran r →
+      Named (r .reply) (modelRow (r .state) (r .calls) (length (r .answers))) (lengthFaults (r .state) (r .calls))
+  pub filter-fault : (r : FilterRun) → Filtered r →
+      Named (r .reply) (runRow (r .window) (r .pairs) (length (r .output))) (pairsFaults (r .pairs))
+  pub slope-fault : (r : SlopeRun) → Raised r →
+      Named (r .reply) (slopeRow (r .rounds) (r .window) (length (r .output))) (windowFaults (r .window))
   -- Refused, it leaves every lent byte as it was
   pub run-keeps : (r : Run) → Ran r → (r .reply ≡ 0 → ⊥) → (r .left ≡ r .state) × (r .written ≡ r .answers)
   pub filter-keeps : (r : FilterRun) → Filtered r → (r .reply ≡ 0 → ⊥) → r .written ≡ r .output
@@ -218,4 +225,4 @@ pub record Theorems : Type 0 where
 -- with their remarks. A script of the gate counts their lines (tests/contracts.py):
 --   numbers 257, units 125, filters 442, words 137, state 939, worth 274, layout 216, events 464, phases 208, changes
 --   62, judge 199, arguments 222, reads 18, places 142, pairs 63, calls 204, laws 658, drift 379, dispatch 242,
---   guovssalu 180, theorems 856: together 6287
+--   guovssalu 180, theorems 863: together 6294
