@@ -44,7 +44,8 @@ endif
 SEED = 7
 
 # Call by call, from SEED: CALLS calls of the model, and a tenth as many on filters, on numbers, on the exported filter
-# run and slope, and, by the archive, on x86-64, with lists of acked numbers.
+# run and slope and on the round-trip estimator, and, by the archive, on x86-64, with lists of acked numbers and of the
+# estimator in long runs.
 CALLS = 5000000
 diff: kit
 	@[ "$$(uname -m)" != x86_64 ] || $(MAKE) archive
@@ -92,12 +93,13 @@ estimate: kit
 picture: kit
 	rt check serve
 	python3 tests/drift.py --picture docs/drift.svg
+	python3 tests/rtt_drift.py --picture docs/round_trip.svg
 	python3 tests/estimate.py --picture docs/estimate.svg
 
 # ---- the archive of the exported calls, and what links it: on x86-64
 
-# A year of one connection from SEED, in EVENTS events: inflight_lo beside its exact value
-# (rust/guovssalu/examples/year). It shows each week, and ends with a report.
+# A year of one connection from SEED, in EVENTS events: inflight_lo and the round trip's averages beside their exact
+# values (rust/guovssalu/examples/year). It shows each week, and ends with a report.
 EVENTS = 300000000
 year: archive
 	$(CARGO) run --release --quiet --manifest-path rust/guovssalu/Cargo.toml --example year -- $(SEED) $(EVENTS)

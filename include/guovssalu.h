@@ -13,7 +13,8 @@
  *
  * Where a call replies with a number: 0 is done, and any other number is a refusal, which leaves
  * every lent byte as it was. Its row is GUOVSSALU_ROW(reply); where several apply, the lowest is given.
- * The calls inside a run have answers of their own: guovssalu_run and guovssalu_run_lists, below.
+ * The calls inside a run have answers of their own: guovssalu_run, guovssalu_run_lists and
+ * guovssalu_rtt_run, below.
  *
  * Callers that compare a reply with 2 must change. Since version 0.6.0 a bad argument's reply also says
  * which argument it was and what is wrong with it, so it is never 2 alone ("Replies", below). Instead of
@@ -33,12 +34,14 @@ extern "C" {
 /* ---- The version. The file VERSION has it. */
 
 #define GUOVSSALU_VERSION_MAJOR 0
-#define GUOVSSALU_VERSION_MINOR 6
+#define GUOVSSALU_VERSION_MINOR 7
 #define GUOVSSALU_VERSION_PATCH 0
 
-/* The layout's number. It is raised when a call of guovssalu_run takes other arguments, or a word of a
- * state, of a call or of a call's answer gets another place or stands for something else.
+/* The layout's number. It is raised when a call of guovssalu_run or of guovssalu_rtt_run takes other
+ * arguments, or a word of a state, of a call or of a call's answer gets another place or stands for
+ * something else.
  *
+ * Version 0.7.0 did not raise it: it added guovssalu_rtt_run, with words of its own, and moved none.
  * Version 0.6.0 raised it to 3: the reply, the first word of an answer, has for a bad argument a kind and
  * a place besides the row. States and calls are those of layout 2: a state that version 0.5.0 kept, 408
  * bytes, is taken as it is. Version 0.5.0 raised it to 2: a state has one more word,
@@ -158,8 +161,10 @@ uint64_t guovssalu_filter_run(uint64_t window, const uint8_t *src, size_t src_le
 /* ---- The model: sizes, numbers of calls, places of words. */
 
 /* -- sizes of docs/calls.txt -- */
-/* An unset number of bytes, 2^64 - 1. */
+/* An unset number of bytes, or an unset length, 2^64 - 1. */
 #define GUOVSSALU_UNSET UINT64_C(18446744073709551615)
+/* The longest length of time that is taken, in nanoseconds: 2^36, 68.7 s. */
+#define GUOVSSALU_LONGEST UINT64_C(68719476736)
 
 /* Sizes, in words and in bytes; a word has 8 bytes. */
 enum {
@@ -185,6 +190,12 @@ enum {
     GUOVSSALU_SAMPLES_BYTES = 32,
     GUOVSSALU_SLOPE_WORDS = 2,
     GUOVSSALU_SLOPE_BYTES = 16,
+    GUOVSSALU_RTT_STATE_WORDS = 6,
+    GUOVSSALU_RTT_STATE_BYTES = 48,
+    GUOVSSALU_RTT_CALL_WORDS = 4,
+    GUOVSSALU_RTT_CALL_BYTES = 32,
+    GUOVSSALU_RTT_ANSWER_WORDS = 5,
+    GUOVSSALU_RTT_ANSWER_BYTES = 40,
     GUOVSSALU_MOST_ACKED = 3 /* the most acked numbers in a call itself; more stand in the lists */
 };
 
@@ -197,7 +208,9 @@ enum {
     GUOVSSALU_REPLY_IN_ANSWER = 0,
     GUOVSSALU_VALUE_IN_ANSWER = 1,
     GUOVSSALU_EVENT_IN_ANSWER = 2,
-    GUOVSSALU_CYCLE_IN_STATE = 35
+    GUOVSSALU_CYCLE_IN_STATE = 35,
+    GUOVSSALU_RTT_NUMBER_IN_CALL = 0,
+    GUOVSSALU_RTT_ARGUMENTS_IN_CALL = 1
 };
 /* -- end -- */
 
@@ -496,6 +509,91 @@ uint64_t guovssalu_run(uint8_t *state, size_t state_len, const uint8_t *calls, s
 uint64_t guovssalu_run_lists(uint8_t *state, size_t state_len, const uint8_t *calls, size_t calls_len,
                              const uint64_t *lists, size_t lists_len, uint8_t *answers,
                              size_t answers_len);
+
+/* ---- The round-trip estimator: the latest sample, the least, the smoothed round trip and its variation,
+ * as RFC 9002 section 5 has them, in whole nanoseconds.
+ *
+ * It is no part of the model. It has a state of its own, and calls of its own, which are numbered from 0
+ * too. */
+
+/* -- the round-trip estimator of docs/calls.txt -- */
+/* The numbers of the estimator's calls: the word GUOVSSALU_RTT_NUMBER_IN_CALL of a call. Beside each its
+ * arguments in the order of their words. */
+enum {
+    GUOVSSALU_RTT_CALL_NEW = 0,                 /* initial_rtt, max_ack_delay */
+    GUOVSSALU_RTT_CALL_UPDATE_RTT = 1,          /* latest_rtt, ack_delay, handshake_confirmed */
+    GUOVSSALU_RTT_CALL_UPDATE_MAX_ACK_DELAY = 2 /* max_ack_delay */
+};
+
+/* Their arguments: words of a call. Beside each its kind, what a bad one is refused with, and its place. */
+enum {
+    GUOVSSALU_RTT_ARG_NEW_INITIAL_RTT = 1,                   /* length; 2.4 at 1 */
+    GUOVSSALU_RTT_ARG_NEW_MAX_ACK_DELAY = 2,                 /* length; 2.4 at 2 */
+    GUOVSSALU_RTT_ARG_UPDATE_RTT_LATEST_RTT = 1,             /* length; 2.4 at 1 */
+    GUOVSSALU_RTT_ARG_UPDATE_RTT_ACK_DELAY = 2,              /* length; 2.4 at 2 */
+    GUOVSSALU_RTT_ARG_UPDATE_RTT_HANDSHAKE_CONFIRMED = 3,    /* flag; 2.8 at 3 */
+    GUOVSSALU_RTT_ARG_UPDATE_MAX_ACK_DELAY_MAX_ACK_DELAY = 1 /* length; 2.4 at 1 */
+};
+
+/* Words of the estimator. */
+enum {
+    GUOVSSALU_RTT_STATE_LATEST_RTT = 0,          /* length */
+    GUOVSSALU_RTT_STATE_MIN_RTT = 1,             /* length */
+    GUOVSSALU_RTT_STATE_SMOOTHED_RTT = 2,        /* length */
+    GUOVSSALU_RTT_STATE_RTTVAR = 3,              /* length */
+    GUOVSSALU_RTT_STATE_MAX_ACK_DELAY = 4,       /* length */
+    GUOVSSALU_RTT_STATE_HAS_FIRST_RTT_SAMPLE = 5 /* flag */
+};
+
+/* Words of an answer: the reply, and the estimator's numbers after the call. */
+enum {
+    GUOVSSALU_RTT_ANSWER_REPLY = 0,        /* reply */
+    GUOVSSALU_RTT_ANSWER_LATEST_RTT = 1,   /* length */
+    GUOVSSALU_RTT_ANSWER_MIN_RTT = 2,      /* length or unset */
+    GUOVSSALU_RTT_ANSWER_SMOOTHED_RTT = 3, /* length */
+    GUOVSSALU_RTT_ANSWER_RTTVAR = 4        /* length */
+};
+/* -- end -- */
+
+/* Carries out calls in order on the round-trip estimator in lent bytes, and leaves it there as it then is:
+ * GUOVSSALU_RTT_STATE_BYTES. A call has GUOVSSALU_RTT_CALL_BYTES, its answer GUOVSSALU_RTT_ANSWER_BYTES;
+ * docs/LAYOUT.md says how each word is written. Begin with GUOVSSALU_RTT_CALL_NEW, on a state of zeros.
+ * Bytes of answers past the last keep what they held.
+ *
+ * Zeros are taken for what they say. A call of zeros is a new of 0 and 0, and it is done: a record of a
+ * run that was left unfilled begins anew, with reply 0. An update on a state of zeros, where the new was
+ * forgotten, is done too, with a max_ack_delay of 0.
+ *
+ * An answer has the call's reply, GUOVSSALU_RTT_ANSWER_REPLY, and after it four numbers of the estimator
+ * as the call left it. A refused call has its refusal there, whose row is 1 or 2, and four times 0; the
+ * run goes on. The run's own reply of 0 says nothing of its calls: look at each answer. A refused call
+ * changes nothing, but for a new, which then leaves an estimator of zeros.
+ *
+ * Until the first sample the least one, GUOVSSALU_RTT_ANSWER_MIN_RTT, is GUOVSSALU_UNSET in an answer,
+ * while the state's word, GUOVSSALU_RTT_STATE_MIN_RTT, is initial_rtt. To ask without a sample, read the
+ * state's words, or call GUOVSSALU_RTT_CALL_UPDATE_MAX_ACK_DELAY with what max_ack_delay already is.
+ *
+ * An update, GUOVSSALU_RTT_CALL_UPDATE_RTT, takes a sample, the delay with which the peer says that it
+ * acked, and whether the handshake is confirmed: if it is, the delay counts as max_ack_delay at most. The
+ * delay is taken off where that leaves no less than the least sample. The first sample since the new is
+ * taken as it is. GUOVSSALU_RTT_CALL_UPDATE_MAX_ACK_DELAY sets max_ack_delay alone.
+ *
+ * The delay is what the peer wrote, and can be any number: above 2^36 ns the call is refused and the
+ * sample not taken, the first one neither. Cut it first, to GUOVSSALU_LONGEST.
+ *
+ * Proved of all updates since a new, those that were refused left out: the smoothed round trip is never
+ * above the average that exact fractions have of the same samples, less the same delays, and less than 14
+ * ns below it. The variation is less than 20 ns below the exact one, and less than 14 ns above it.
+ *
+ * A call is refused with 1 where a stored length is above 2^36 ns, but for a new, which reads none; with
+ * 2.4 at the argument's place for a length above 2^36 ns, with 2.8 at 3 for a flag that is neither 0 nor 1,
+ * with 2.8 at 0 for a number that is no call's.
+ *
+ * The run itself replies 1 where the last word of the state, GUOVSSALU_RTT_STATE_HAS_FIRST_RTT_SAMPLE, is
+ * neither 0 nor 1, also where the first call is a new; 2.8 at 1 for a state of another length, 2.8 at 2 for
+ * a part of a call, 7 for answers too short for the calls. */
+uint64_t guovssalu_rtt_run(uint8_t *state, size_t state_len, const uint8_t *calls, size_t calls_len,
+                           uint8_t *answers, size_t answers_len);
 
 #ifdef __cplusplus
 }

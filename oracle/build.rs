@@ -24,8 +24,9 @@ use Part::*;
 
 /// Module files under `src/` of the original.
 const TREE: &[(&str, Part)] = &[
+    ("minmax.rs", Stub("minmax.rs")),
     ("recovery/mod.rs", Stub("recovery.rs")),
-    ("recovery/rtt.rs", Stub("rtt.rs")),
+    ("recovery/rtt.rs", Appended("rtt.rs")),
     ("recovery/bandwidth.rs", Appended("bandwidth.rs")),
     ("recovery/gcongestion/mod.rs", Appended("gcongestion.rs")),
     ("recovery/gcongestion/pacer.rs", Stub("pacer.rs")),
@@ -145,12 +146,16 @@ fn lay_out(original: &Path, oracle: &Path, out: &Path) -> io::Result<()> {
 
     fs::write(
         out.join("original.rs"),
-        "#[allow(warnings)]\nmod recovery;\n",
+        "#[allow(warnings)]\nmod minmax;\n#[allow(warnings)]\nmod recovery;\n",
     )
 }
 
 fn link(from: &Path, to: &Path) -> io::Result<()> {
     println!("cargo:rerun-if-changed={}", from.display());
+    // One of an earlier build.
+    if to.symlink_metadata().is_ok() {
+        fs::remove_file(to)?;
+    }
     #[cfg(unix)]
     return std::os::unix::fs::symlink(from, to);
     #[cfg(not(unix))]

@@ -2,19 +2,22 @@
 """Small changes to the original, each of which the comparison with the port must notice; and to what the oracle reads or
 does apart from it: the reason of a windowed filter's update, the refusals of a round's end where the count is full and of
 a number that was never sent, the note of whether anything was sent, the order in which the original is asked acked
-numbers, and what a refusal with 2 names, the kind of bound and the place of the argument. What the original does with a number that was never sent is no change here: it isn't asked such an event, so
-whether it lets one through is told by no accepted call.
+numbers, what a refusal with 2 names, the kind of bound and the place of the argument, and the words and the refusals of
+the round-trip estimator. What the original does with a number that was never sent is no change here: it isn't asked such
+an event, so whether it lets one through is told by no accepted call. Nor is the order in which an update of the estimator
+lowers the minimum and tests the sample by it: a sample below the minimum is taken whole either way.
 
     tests/changes.py [SEED [CALLS]]
 
 Copies the files of the original that were ported, and the oracle, to a temporary folder, makes one change at a time,
 builds the oracle with the changed file, and compares with the port by `diff` (a change to the windowed filter or to the
-reading by `filter`, one to what the exported calls write or name by `exports`, one that only long lists of acked numbers
-or wrong lengths of a run show by `lists`). A change is noticed where something differs, or where the original overflows in a call that had to be
-refused. One that isn't noticed is listed, and the script ends with 1. PORT is the command of the port; without it the
-unchanged oracle answers in its place, which tries the comparison alone. `lists` asks the archive in target/staticlib, or
-the one that GUOVSSALU_ARCHIVE names by its full path; where there is none it says so, and leaves its changes out.
-ORIGINAL says where the original is, as for the oracle."""
+reading by `filter`, one to what the exported calls write or name by `exports`, one to the estimator by `rtt`, one that
+only long lists of acked numbers, wrong lengths of a run or long runs of the estimator show by `lists` or `rtt-runs`). A
+change is noticed where something differs, or where the original overflows in a call that had to be refused. One that
+isn't noticed is listed, and the script ends with 1. PORT is the command of the port; without it the unchanged oracle
+answers in its place, which tries the comparison alone. `lists` and `rtt-runs` ask the archive in target/staticlib, or the
+one that GUOVSSALU_ARCHIVE names by its full path; where there is none it says so, and leaves their changes out. ORIGINAL
+says where the original is, as for the oracle. COMMANDS, where it is set, names the comparisons whose changes are made."""
 
 import os
 import shutil
@@ -29,9 +32,10 @@ FILTER = "gcongestion/bbr/windowed_filter.rs"
 MODEL = "gcongestion/bbr2/network_model.rs"
 PROBE = "gcongestion/bbr2/probe_bw.rs"
 MODE = "gcongestion/bbr2/mode.rs"
+STATS = "rtt.rs"
 # Of the oracle: the reading, where in it is what the exported filter run writes, the answers, where in them is what a
 # refused start leaves, the refusals, what those with 2 name, where in that are the exported calls, the lengths of a run,
-# and the host of the original.
+# the estimator's words and refusals, and the host of the original.
 READING = "windowed.rs"
 EXPORTED = "pub fn run("
 ANSWERS = "world.rs"
@@ -41,9 +45,11 @@ PLACES = "places.rs"
 PAIRS = "const PAIRS_LENGTH"
 SLOPE = "const SLOPE_WINDOW"
 LENGTHS = "lengths.rs"
+ESTIMATOR = "estimator.rs"
 HOST = "appended/probe_bw.rs"
-OURS = (READING, ANSWERS, REPLIES, PLACES, LENGTHS, HOST)
+OURS = (READING, ANSWERS, REPLIES, PLACES, LENGTHS, ESTIMATOR, HOST)
 ARCHIVE = os.environ.get("GUOVSSALU_ARCHIVE") or os.path.join(ROOT, "target/staticlib/libguovssalu.a")
+OF_ARCHIVE = ("lists", "rtt-runs")
 
 # In which file; after which words, that occur once; what is found first after them; what is put in its place.
 CHANGES = [
@@ -282,8 +288,106 @@ LONG = [
     (REPLIES, "pub fn never_sent", "acked.iter()", "acked.iter().rev().take(3)"),
     (PLACES, "let outside", "after > lists as u128", "lists < usize::MAX"),
     (LENGTHS, "fn reply(", "if self.state.len() != STATE_BYTES", "if self.state.len() != STATE_BYTES && self.has_part() { CALLS_LENGTH.reply() } else if self.state.len() != STATE_BYTES"),
-    (LENGTHS, "const STATE_LENGTH", "Form, 1", "Form, 0"),
-    (LENGTHS, "const CALLS_LENGTH", "Form, 2", "Form, 1"),
+    (PLACES, "const STATE_LENGTH", "Form, 1", "Form, 0"),
+    (PLACES, "const CALLS_LENGTH", "Form, 2", "Form, 1"),
+]
+
+# Those to the round-trip estimator, by `rtt`: a length up to one less than its bound, and up to one more.
+LESS, MORE = ("crate::places::Held::UpTo(LENGTH %s 1, crate::places::Kind::Length)" % sign for sign in "-+")
+FLAG = "estimator[rtt_state::HAS_FIRST_RTT_SAMPLE]"
+TRIPS = [
+    # The variation: from the smoothed round trip that has the sample in it, as if that came first; from the sample with
+    # its delay; rounded otherwise, the last time once in place of twice.
+    (STATS, "self.rttvar = self.rttvar", "self.smoothed_rtt", "(self.smoothed_rtt * 7 / 8 + adjusted_rtt / 8)"),
+    (STATS, "self.rttvar = self.rttvar", "adjusted_rtt", "latest_rtt"),
+    (STATS, "self.rttvar = self.rttvar", ".as_nanos())", ".as_nanos()).next_multiple_of(4)"),
+    (STATS, "// Adjust for", "self.rttvar * 3 / 4", "(self.rttvar - self.rttvar / 4)"),
+    (STATS, "// Adjust for", "self.rttvar * 3 / 4", "self.rttvar / 4 * 3"),
+    (STATS, "// Adjust for", "self.rttvar * 3 / 4", "self.rttvar * 3 / 4 + Duration::from_nanos((self.rttvar.as_nanos() as u64 * 3 % 4 + self.smoothed_rtt.abs_diff(adjusted_rtt).as_nanos() as u64 % 4) / 4)"),
+    # The smoothed round trip: one rounding, another, or of the sample with its delay.
+    (STATS, "// Adjust for", "self.smoothed_rtt * 7 / 8 + adjusted_rtt / 8", "(self.smoothed_rtt * 7 + adjusted_rtt) / 8"),
+    (STATS, "// Adjust for", "self.smoothed_rtt * 7 / 8", "self.smoothed_rtt - self.smoothed_rtt / 8"),
+    (STATS, "// Adjust for", "self.smoothed_rtt * 7 / 8", "self.smoothed_rtt / 8 * 7"),
+    (STATS, "// Adjust for", "adjusted_rtt / 8", "latest_rtt / 8"),
+    # The first sample.
+    (STATS, "if !self.has_first_rtt_sample", "self.smoothed_rtt = latest_rtt", "self.smoothed_rtt = latest_rtt.saturating_sub(ack_delay)"),
+    (STATS, "if !self.has_first_rtt_sample", "latest_rtt / 2", "latest_rtt"),
+    (STATS, "if !self.has_first_rtt_sample", "self.min_rtt.reset(", "self.min_rtt.running_min(RTT_WINDOW, "),
+    (STATS, "if !self.has_first_rtt_sample", "self.has_first_rtt_sample = true;", ""),
+    (STATS, "if !self.has_first_rtt_sample", "return;", ""),
+    # The limit of the delay, and where the delay is taken off.
+    (STATS, "// Limit ack_delay", "if handshake_confirmed", "if true"),
+    (STATS, "// Limit ack_delay", "if handshake_confirmed", "if false"),
+    (STATS, "// Limit ack_delay", "if handshake_confirmed", "if !handshake_confirmed"),
+    (STATS, "// Limit ack_delay", "ack_delay.min(self.max_ack_delay)", "self.max_ack_delay"),
+    (STATS, "// Adjust for", "latest_rtt >= ", "latest_rtt > "),
+    (STATS, "// Adjust for", "*self.min_rtt + ack_delay", "*self.min_rtt"),
+    (STATS, "// Adjust for", "*self.min_rtt + ack_delay", "ack_delay"),
+    (STATS, "// Adjust for", "*self.min_rtt + ack_delay", "self.smoothed_rtt + ack_delay"),
+    # The minimum, the latest sample, and a new estimator.
+    (STATS, "// min_rtt ignores", "self.min_rtt.running_min(RTT_WINDOW, now, latest_rtt);", ""),
+    (STATS, "// min_rtt ignores", "now, latest_rtt", "now, latest_rtt.saturating_sub(ack_delay)"),
+    (STATS, "// min_rtt ignores", "self.min_rtt.running_min(RTT_WINDOW, ", "self.min_rtt.reset("),
+    (STATS, "pub(crate) fn update_rtt", "self.latest_rtt = latest_rtt;", ""),
+    (STATS, "pub(crate) fn new", "initial_rtt / 2", "initial_rtt"),
+    (STATS, "pub(crate) fn new", "latest_rtt: Duration::ZERO", "latest_rtt: initial_rtt"),
+    (STATS, "pub(crate) fn new", "Minmax::new(initial_rtt)", "Minmax::new(Duration::ZERO)"),
+    (STATS, "pub(crate) fn new", "has_first_rtt_sample: false", "has_first_rtt_sample: true"),
+    # The reading: where a length is out, and what is a flag; what is tested at the first sample.
+    (ESTIMATOR, "rtt_call::NEW => &[", "A_LENGTH", LESS),
+    (ESTIMATOR, "rtt_call::NEW => &[", "A_LENGTH", MORE),
+    (ESTIMATOR, "(new::INITIAL_RTT, A_LENGTH)", "A_LENGTH", LESS),
+    (ESTIMATOR, "(new::INITIAL_RTT, A_LENGTH)", "A_LENGTH", MORE),
+    (ESTIMATOR, "rtt_call::UPDATE_RTT => &[", "A_LENGTH", LESS),
+    (ESTIMATOR, "rtt_call::UPDATE_RTT => &[", "A_LENGTH", MORE),
+    (ESTIMATOR, "(update_rtt::LATEST_RTT, A_LENGTH)", "A_LENGTH", LESS),
+    (ESTIMATOR, "(update_rtt::LATEST_RTT, A_LENGTH)", "A_LENGTH", MORE),
+    (ESTIMATOR, "rtt_call::UPDATE_MAX_ACK_DELAY => &[", "A_LENGTH", LESS),
+    (ESTIMATOR, "rtt_call::UPDATE_MAX_ACK_DELAY => &[", "A_LENGTH", MORE),
+    (ESTIMATOR, "(update_rtt::ACK_DELAY, A_LENGTH)", "Flag", "crate::places::Held::UpTo(2, crate::places::Kind::Form)"),
+    (ESTIMATOR, "fn original(", "HANDSHAKE_CONFIRMED] == 1", "HANDSHAKE_CONFIRMED] == 0"),
+    (ESTIMATOR, "fn reply(estimator", "faults(call)", "faults(call).filter(|fault| fault.place < 2 || number == rtt_call::NEW || %s == 1)" % FLAG),
+    (ESTIMATOR, "fn reply(estimator", "faults(call)", "faults(call).filter(|fault| fault.place < 3 || %s == 1)" % FLAG),
+    # Which fault is named, and how.
+    (ESTIMATOR, "fn reply(estimator", ".next()", ".last()"),
+    (ESTIMATOR, "fn faults(", "(1..)", "(0..)"),
+    (ESTIMATOR, "fn faults(", "(1..)", "[2, 1, 3].into_iter()"),
+    (ESTIMATOR, "fn reply(estimator", "NO_CALL.reply()", "STATE_LENGTH.reply()"),
+    # Row 1: of which calls and of which lengths, and before 2.
+    (ESTIMATOR, "fn is_within", "<= LENGTH", "< LENGTH"),
+    (ESTIMATOR, "fn is_within", "<= LENGTH", "<= LENGTH + 1"),
+    (ESTIMATOR, "const LENGTHS", "rtt_state::LATEST_RTT", "rtt_state::MIN_RTT"),
+    (ESTIMATOR, "const LENGTHS", "rtt_state::MIN_RTT", "rtt_state::LATEST_RTT"),
+    (ESTIMATOR, "const LENGTHS", "rtt_state::SMOOTHED_RTT", "rtt_state::LATEST_RTT"),
+    (ESTIMATOR, "const LENGTHS", "rtt_state::RTTVAR", "rtt_state::LATEST_RTT"),
+    (ESTIMATOR, "const LENGTHS", "rtt_state::MAX_ACK_DELAY", "rtt_state::LATEST_RTT"),
+    (ESTIMATOR, "fn reply(estimator", "number != rtt_call::NEW &&", ""),
+    (ESTIMATOR, "fn reply(estimator", "!is_within(estimator)", "!is_within(estimator) && faults(call).next().is_none()"),
+    (ESTIMATOR, "fn reply(estimator", "!is_within(estimator)", "!is_within(estimator) && arguments(number).is_some()"),
+    # What a refused call leaves and shows, and what an answer does.
+    (ESTIMATOR, "pub fn make(", "*estimator = RttStats::new(Duration::ZERO, Duration::ZERO).held();", ""),
+    (ESTIMATOR, "pub fn make(", "} else if call", "} else if call[0] == rtt_call::UPDATE_RTT && reply != OUT_OF_BOUNDS {\n        estimator[rtt_state::LATEST_RTT] = call[1];\n    } else if call"),
+    (ESTIMATOR, "pub fn make(", "} else if call", "} else if call[0] != rtt_call::NEW {\n        answer[rtt_answer::LATEST_RTT] = estimator[rtt_state::LATEST_RTT];\n    } else if call"),
+    (ESTIMATOR, "pub fn make(", "original.min_rtt().map_or(UNSET, nanos)", "estimator[rtt_state::MIN_RTT]"),
+    (ESTIMATOR, "pub fn make(", "map_or(UNSET, nanos)", "map_or(0, nanos)"),
+    (ESTIMATOR, "pub fn make(", "nanos(original.rtt())", "nanos(original.rttvar())"),
+    # What is made after a refused call: on the estimator that the run began with, or nothing.
+    (ESTIMATOR, "pub fn run(", "let answer = make(&mut estimator, &call);", "let answer = make(&mut estimator, &call);\n            if answer[rtt_answer::REPLY] != 0 {\n                estimator = self.estimator();\n            }"),
+    (ESTIMATOR, "pub fn run(", "answer,\n            });", "answer,\n            });\n            if answer[rtt_answer::REPLY] != 0 {\n                break;\n            }"),
+    # The run itself.
+    (ESTIMATOR, "pub fn reply(&self)", "> 1", "> 2"),
+    (ESTIMATOR, "pub fn reply(&self)", "state != RTT_STATE_BYTES", "state < RTT_STATE_BYTES"),
+    (ESTIMATOR, "pub fn reply(&self)", "if state != RTT_STATE_BYTES", "if state > RTT_STATE_BYTES && self.%s > 1 {\n            OUT_OF_BOUNDS\n        } else if state != RTT_STATE_BYTES" % FLAG.replace("estimator", "estimator()")),
+    (ESTIMATOR, "pub fn reply(&self)", "} else if self.estimator()", "} else if self.part() != 0 {\n            CALLS_LENGTH.reply()\n        } else if self.estimator()"),
+    (ESTIMATOR, "pub fn reply(&self)", "} else if self.part() != 0", "} else if answers < self.whole() * RTT_ANSWER_BYTES {\n            SHORT_OUTPUT\n        } else if self.part() != 0"),
+    (ESTIMATOR, "pub fn reply(&self)", "answers < self", "answers + 1 < self"),
+    (PLACES, "const STATE_LENGTH", "Form, 1", "Form, 0"),
+    (PLACES, "const CALLS_LENGTH", "Form, 2", "Form, 1"),
+]
+
+# That which only a long run of the estimator shows, by `rtt-runs`.
+LONG_TRIPS = [
+    (ESTIMATOR, "pub fn run(", ".take(self.whole())", ".take(self.whole().min(1000))"),
 ]
 
 
@@ -315,19 +419,30 @@ def copies(folder):
 
 
 def command_for(change):
-    """The comparison that has to notice a change."""
+    """The comparison that has to notice a change to the model or to its filter."""
     file, after = change[:2]
-    if change in LONG:
-        return "lists"
     if after in (EXPORTED, PAIRS, SLOPE):
         return "exports"
     return "filter" if file in (FILTER, READING, ANSWERS) and after != LEFT else "diff"
 
 
+def all_changes():
+    """Each change after the comparison that has to notice it: of those that ask the archive only where it is there, and
+    of those that are named where some are."""
+    every = [(command_for(change), change) for change in CHANGES]
+    for command, changes in (("lists", LONG), ("rtt", TRIPS), ("rtt-runs", LONG_TRIPS)):
+        every += [(command, change) for change in changes]
+    if not os.path.isfile(ARCHIVE):
+        print("The changes that only %s show are left out, since there is no %s" % (" and ".join(OF_ARCHIVE), ARCHIVE))
+        every = [(command, change) for command, change in every if command not in OF_ARCHIVE]
+    named = os.environ.get("COMMANDS", "").split()
+    return [(command, change) for command, change in every if not named or command in named]
+
+
 def build(original, package, target, command):
-    """The oracle with this original; the fast build, since it is built so often. With the archive for long lists."""
+    """The oracle with this original; the fast build, since it is built so often. With the archive, where it is asked."""
     environment = dict(os.environ, ORIGINAL=original, CARGO_TARGET_DIR=target, GUOVSSALU_ARCHIVE=ARCHIVE)
-    features = ["--features", "archive"] if command == "lists" else []
+    features = ["--features", "archive"] if command in OF_ARCHIVE else []
     command = ["cargo", "build", "--quiet", "--manifest-path", os.path.join(package, "Cargo.toml")] + features
     built = subprocess.run(command, env=environment, capture_output=True, text=True)
     if built.returncode != 0:
@@ -341,7 +456,7 @@ def compare(oracle, port, command, seed, calls):
     lines = ran.stdout.splitlines()
     if ran.returncode == 1 and lines:
         return 1, "%s: %s" % (lines[-1], lines[0])
-    if ran.returncode == 101 and "with overflow" in ran.stderr:
+    if ran.returncode == 101 and ("with overflow" in ran.stderr or "overflow when" in ran.stderr):
         return 1, "the original overflows"
     return ran.returncode, ran.stderr.strip()
 
@@ -349,10 +464,7 @@ def compare(oracle, port, command, seed, calls):
 def main():
     seed, calls = (sys.argv[1:] + ["1", "200000"][len(sys.argv) - 1:])[:2]
     missed = []
-    changes = CHANGES + LONG
-    if not os.path.isfile(ARCHIVE):
-        print("The changes that only `lists` shows are left out, since there is no %s" % ARCHIVE)
-        changes = CHANGES
+    changes = all_changes()
     with tempfile.TemporaryDirectory() as folder:
         recovery, source, parts = copies(folder)
         oracle = build(*parts, "diff")
@@ -360,14 +472,13 @@ def main():
         if not port:
             unchanged = shutil.copy(oracle, os.path.join(folder, "unchanged"))
             port = unchanged + " serve"
-        for command in sorted({command_for(change) for change in changes}):
+        for command in sorted({command for command, _ in changes}):
             code, said = compare(build(*parts, command), port, command, seed, calls)
             if code != 0:
                 sys.exit("The unchanged original and the port differ in %s: %s" % (command, said))
 
-        for number, (file, after, find, put) in enumerate(changes, 1):
+        for number, (command, (file, after, find, put)) in enumerate(changes, 1):
             path = os.path.join(source if file in OURS else recovery, file)
-            command = command_for(changes[number - 1])
             with open(path) as opened:
                 text = opened.read()
             with open(path, "w") as opened:

@@ -1,27 +1,29 @@
 #!/bin/sh
 # Compares the port, the program `serve`, with the original, call by call (oracle/README.md, "Comparing with a port").
 #
-#     tests/diff.sh SEED CALLS          so many calls of the model, and a tenth as many on filters, on numbers and of the
-#                                       exported filter run and slope; and with the archive, where it is there, a tenth as
-#                                       many as for `lists`
-#     tests/diff.sh lists SEED CALLS    so many calls of the archive, which is linked: events with lists of up to 10,000
-#                                       acked numbers, in any order, among other calls
-#     tests/diff.sh gate                205,095 calls in all, of `serve` built without proof
-#     tests/diff.sh patterns NUMBER..   every f32, as the bits of to_u64 and as the gain of scale with each number
+#     tests/diff.sh SEED CALLS           so many calls of the model, and a tenth as many on filters, on numbers, of the
+#                                        exported filter run and slope, and runs of the estimator, up to 9 calls in each;
+#                                        and with the archive, where it is there, a tenth as many each as for `lists` and
+#                                        `rtt-runs`
+#     tests/diff.sh lists SEED CALLS     so many calls of the archive, which is linked: events with lists of up to 10,000
+#                                        acked numbers, in any order, among other calls
+#     tests/diff.sh rtt-runs SEED CALLS  so many calls of the archive, in runs of the estimator of up to 4,095
+#     tests/diff.sh gate                 245,095 calls in all, of `serve` built without proof
+#     tests/diff.sh patterns NUMBER..    every f32, as the bits of to_u64 and as the gain of scale with each number
 #
-# The last line is `N calls, 0 differences`. At a difference it ends with 1; `lists` shows the call, the gate nothing of
-# it, and the others the shortest run of calls found. Without the original `gate` and `lists` say so and go on, but not
-# where CI is true. The archive is the one in target/staticlib, as `make archive` left it, or the one that the variable
-# GUOVSSALU_ARCHIVE names by its full path.
+# The last line is `N calls, 0 differences`. At a difference it ends with 1; `lists` and `rtt-runs` show the call, the gate
+# nothing of it, and the others the shortest run of calls found. Without the original `gate`, `lists` and `rtt-runs` say so
+# and go on, but not where CI is true. The archive is the one in target/staticlib, as `make archive` left it, or the one
+# that the variable GUOVSSALU_ARCHIVE names by its full path.
 set -eu
 cd "$(dirname "$0")/.."
 . tests/oracle.sh
 
 if [ -n "$missing" ]; then
     echo "diff: the port is not compared with the original, since $missing"
-    if { [ "$1" = gate ] || [ "$1" = lists ]; } && [ "${CI:-}" != true ]; then
-        exit 0
-    fi
+    case $1 in
+    gate | lists | rtt-runs) [ "${CI:-}" = true ] || exit 0 ;;
+    esac
     exit 1
 fi
 total=0
@@ -62,19 +64,19 @@ compare() {
 
 # The oracle with the archive linked, which is built in a folder of its own, asks the archive.
 archive=${GUOVSSALU_ARCHIVE:-$PWD/target/staticlib/libguovssalu.a}
-compare_lists() {
+compare_archive() {
     ORIGINAL=$(cd "$original" && pwd) CARGO_TARGET_DIR=$built/archive GUOVSSALU_ARCHIVE=$archive \
         cargo build --release --quiet --features archive --manifest-path oracle/Cargo.toml
     oracle=$built/archive/release/oracle
-    compare lists "$1" "$2"
+    compare "$@"
 }
 
-if [ "$1" = lists ]; then
+if [ "$1" = lists ] || [ "$1" = rtt-runs ]; then
     [ -f "$archive" ] || {
         echo "diff: there is no $archive; \`make archive\` proves the calls and writes it"
         exit 1
     }
-    compare_lists "$2" "$3"
+    compare_archive "$@"
     echo "$total calls, 0 differences"
     exit
 fi
@@ -84,7 +86,7 @@ if [ "$1" = gate ]; then
     trap 'rm -rf "$copy"' EXIT
     cp -R crates crates.txt "$copy"
     native='the native program'
-    tried 1 200000 "$native at -O3"
+    tried 1 240000 "$native at -O3"
     # The other ways are slow, and `rt try` has limits of time and of steps.
     tried 2 5000 "$native at -O0" "$native with LLVM's assumptions checked"
     tried 3 95 'the interpreter'
@@ -104,13 +106,14 @@ patterns)
     ;;
 *)
     compare diff "$1" "$2"
-    for kind in filter numbers exports; do
+    for kind in filter numbers exports rtt; do
         compare $kind "$1" $(($2 / 10))
     done
     if [ -f "$archive" ]; then
-        compare_lists "$1" $(($2 / 10))
+        compare_archive lists "$1" $(($2 / 10))
+        compare_archive rtt-runs "$1" $(($2 / 10))
     else
-        echo "lists: left out, since there is no $archive"
+        echo "lists and rtt-runs: left out, since there is no $archive"
     fi
     ;;
 esac

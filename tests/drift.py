@@ -6,13 +6,14 @@
 
 The port is the program `serve` (crates/serve), which carries out frames of calls (oracle/README.md); nothing is taken
 from it but the replies and the two lower bounds. The exact run here is written from network_model.rs, with Python's
-fractions."""
+fractions. Then tests/rtt_drift.py does the same for the round-trip estimator."""
 
 import random
 import struct
 from fractions import Fraction
 
-from port import FRAME, asked, by_arguments, drawn, number_alone, program, started
+import rtt_drift
+from port import FRAME, asked, by_arguments, drawn, number_alone, panel, program, started
 from words import ANSWER_WORDS, EVENT_IN_CALL, PARAMS_IN_CALL, REPLY_IN_ANSWER, STATE_WORDS, UNSET
 from words import argument, call, event, params, sample, state
 
@@ -379,49 +380,42 @@ def losses(beta, window, reductions):
 
 
 def differences(command, beta, window, reductions):
+    """After each reduction of a run: how far inflight_lo is from the exact value."""
     calls = losses(beta, window, reductions)
-    exact, out = Exact(beta), []
-    for (op, a), (reply, inflight, bandwidth) in zip(calls, followed(command, calls)):
+    exact, points = Exact(beta), [(0, 0.0)]
+    for (op, a), (_, inflight, _) in zip(calls, followed(command, calls)):
         if op != START:
             exact.call(op, a)
         if op == EVENT:
-            out.append((exact.inflight_count, inflight, float(inflight - exact.inflight)))
-    return out
+            points.append((exact.inflight_count, float(inflight - exact.inflight)))
+    return points
 
 
-def panel(left, title, rate, runs, reductions):
-    """One drawing: how far inflight_lo is from the exact value, and the two bounds."""
-    width, height, top = 430, 300, 56
+def drawing(command, left, title, beta, reductions):
+    """Runs at one beta, from four first windows, and the two bounds."""
+    rate = float(1 / (1 - factor(beta)))
     peak = rate * 1.25
-    x = lambda k: left + 46 + k * (width - 66) / reductions
-    y = lambda d: top + height / 2 - d * (height / 2) / peak
-    out = [f'<text x="{left + 46}" y="{top - 14}" font-weight="bold">{title}</text>']
-    out.append(f'<line x1="{x(0):.1f}" y1="{y(0):.1f}" x2="{x(reductions):.1f}" y2="{y(0):.1f}" stroke="#888"/>')
-    for sign in (1, -1):
-        out.append(f'<line x1="{x(0):.1f}" y1="{y(sign * rate):.1f}" x2="{x(reductions):.1f}" y2="{y(sign * rate):.1f}" stroke="#b00" stroke-dasharray="6 4"/>')
-        k = min(reductions, peak)
-        out.append(f'<line x1="{x(0):.1f}" y1="{y(0):.1f}" x2="{x(k):.1f}" y2="{y(sign * k):.1f}" stroke="#06c" stroke-dasharray="2 3"/>')
-        out.append(f'<text x="{x(0) - 6:.1f}" y="{y(sign * rate) + 4:.1f}" text-anchor="end">{sign * rate:.2f}</text>')
-    out.append(f'<text x="{x(0) - 6:.1f}" y="{y(0) + 4:.1f}" text-anchor="end">0</text>')
-    for k in range(0, reductions + 1, reductions // 5):
-        out.append(f'<text x="{x(k):.1f}" y="{top + height + 18}" text-anchor="middle">{k}</text>')
-    for color, points in runs:
-        path = " ".join(f"{x(k):.1f},{y(d):.1f}" for k, _, d in [(0, 0, 0.0)] + points)
-        out.append(f'<polyline points="{path}" fill="none" stroke="{color}" stroke-width="1.2"/>')
-    return out
+    k = min(reductions, peak)
+    bounds = [(sign * rate, f"{sign * rate:.2f}", [(0, 0), (k, sign * k)]) for sign in (1, -1)]
+    windows = {"#333": 14744309, "#2a7": 16777216, "#a6a": 12345678, "#d80": 5000011}
+    runs = [(color, differences(command, beta, window, reductions)) for color, window in windows.items()]
+    return panel(left, title, (-peak, peak), reductions, bounds, runs)
 
 
 def picture(path):
     command = program()
-    usual, small = 0x3E99999A, 0x3C800000  # 0.3 and 1/64
-    colors = ["#333", "#2a7", "#a6a", "#d80"]
-    first = [(c, differences(command, usual, w, 40)) for c, w in zip(colors, [14744309, 16777216, 12345678, 5000011])]
-    second = [(c, differences(command, small, w, 500)) for c, w in zip(colors, [14744309, 16777216, 12345678, 5000011])]
-    out = panel(0, "beta 0.3: bytes between inflight_lo and the exact value", float(1 / (1 - factor(usual))), first, 40)
-    out += panel(450, "beta 1/64", float(1 / (1 - factor(small))), second, 500)
+    out = drawing(command, 0, "beta 0.3: bytes between inflight_lo and the exact value", 0x3E99999A, 40)
+    out += drawing(command, 450, "beta 1/64", 0x3C800000, 500)
     out.append('<text x="46" y="402">Across: reductions k. Red: 1 / (1 - b). Blue: k.</text>')
     out.append('<text x="46" y="420">Lines: first windows of 14,744,309 (dark), 16,777,216 (green), 12,345,678 (violet) and 5,000,011 bytes (orange).</text>')
     drawn(path, 430, out)
 
 
-by_arguments(compare, 4000, picture)
+def both(seed, runs):
+    """The lower bounds, then the round-trip estimator."""
+    compare(seed, runs)
+    print()
+    rtt_drift.compare(seed, runs)
+
+
+by_arguments(both, 4000, picture)

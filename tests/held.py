@@ -46,6 +46,8 @@ READERS = [
     ("crates/arguments/specs/CongestionEvent.antt", "eventFromWord", "event", 0),
     ("crates/arguments/specs/Params.antt", "paramsFrom", "params", "PARAMS_IN_CALL"),
     ("crates/arguments/specs/Sample.antt", "sampleFrom", "sample", 0),
+    ("crates/trips/src/trips.rt", "stats_in", "rtt_state", 0),
+    ("crates/trips/specs/Trips.antt", "statsFrom", "rtt_state", 0),
 ]
 # Functions that test the form of all the words of a section that have one.
 FORMS = [
@@ -103,7 +105,7 @@ SIZED = [f"crates/{crate}/{folder}/*" for crate in ("words", "layout", "argument
 # Where a number above every word and every call, and below 1000, is a size, or one of these: bits of a word, values of a
 # byte, and what is the program `serve`'s own (oracle/README.md, "The frames").
 COUNTED = SIZED + ["crates/serve/src/*"]
-OTHERS = {64, 256} | {98, 99, 100, 165, 272, 536}
+OTHERS = {64, 256} | {56, 72, 98, 99, 100, 165, 272, 304, 480, 536}
 # Worked examples, and a count of lines.
 NOT_COUNTED = ["crates/guovssalu/specs/Examples.antt", "crates/theorems/specs/Examples.antt", "crates/theorems/specs/Theorems.antt"]
 # Where the numbers of a section's names stand: `Reason::Unchanged => 7` in the source, `number Done = 0` in definitions.
@@ -141,6 +143,8 @@ EXPORTED = [
     ("guovssalu_filter_run", "crates/pairs/specs/Pairs.antt", "pairsFaults"),
     ("guovssalu_raise_inflight_high_slope", "crates/guovssalu/src/slope.rt", "slope_reply"),
     ("guovssalu_raise_inflight_high_slope", "crates/guovssalu/specs/Slope.antt", "windowFaults"),
+    ("guovssalu_rtt_run", "crates/trips/src/trips.rt", "run_reply"),
+    ("guovssalu_rtt_run", "crates/trips/specs/Trips.antt", "rttFaults"),
 ]
 # Where a reply is put together, and by which part's step: a fault is a kind and so many times a place, a reply a row and
 # so many times a fault.
@@ -149,6 +153,32 @@ STEPS = [
     ("crates/state/specs/Faults.antt", r"\(kind \+ (\d+) \* place\)", "place"),
     ("crates/units/src/reply.rt", r" \+ (\d+) \* wide\(fault\)", "kind"),
     ("crates/units/specs/Reply.antt", r"= row \+ (\d+) \* fault\b", "kind"),
+]
+
+# The round-trip estimator: where its calls' faults stand, as `updateFaults` or `update_fault`; and where a call is chosen by
+# its number and read from its words, which are there called a, b and c.
+RTT = {".rt": "crates/rtt/src/rtt.rt", ".antt": "crates/rtt/specs/Rtt.antt"}
+TRIPS = {".rt": "crates/trips/src/trips.rt", ".antt": "crates/trips/specs/Trips.antt"}
+# Functions that choose by the number, and with what the names end that they choose.
+RTT_CHOICES = {
+    ".rt": [(["call_fault"], "_fault"), (["call_taken", "other_taken"], "_taken")],
+    ".antt": [(["callFaults"], "Faults"), (["callRow"], "Number"), (["callLeft"], "Left")],
+}
+# Functions that read a call's words, write a state's and an answer's, and test a state's form.
+RTT_READ = {".rt": ["call_at"], ".antt": ["answerAt", "leftAt"]}
+RTT_WRITTEN = {".rt": ("stats_words", "answer_words"), ".antt": ("statsWords", "shown")}
+RTT_ANSWER = "answerWords"
+RTT_FORM = {".rt": "encodes_none", ".antt": "encodesNone"}
+# As PHRASES, and the files that have the estimator's sizes instead of the model's.
+RTT_SIZED = [*TRIPS.values(), "crates/guovssalu/src/rtt_run.rt", "crates/guovssalu/specs/RttRun.antt", "crates/theorems/specs/Rtt.antt"]
+RTT_PHRASES = [
+    (r"\[u64; (\d+)\]", ("RTT_STATE_WORDS", "RTT_ANSWER_WORDS")),
+    (r"wordsAt s 0 (\d+)", ("RTT_STATE_WORDS",)),
+    (r"\bstate\.len\(\) [!=]= (\d+)|now state\) ≡ (\d+)|eqb \(length (?:s|state|\(r \.state\))\) (\d+)", ("RTT_STATE_BYTES",)),
+    (r"\bcalls\.len\(\) [%/] (\d+)|\blength (?:src|\(r \.calls\)) [%/] (\d+)|src \(at \+ (\d+)\) n\b", ("RTT_CALL_BYTES",)),
+    (r"\bcalls, (\d+) \* i\b|\bat \+ (\d+) ≤ length \(now calls\)", ("RTT_CALL_BYTES",)),
+    (r"\banswers, (\d+) \* i\b|\bto \+ (\d+) ≤ length \(now answers\)|\b(\d+) \* \(?(?:callsIn|calls\.len|rttCount)", ("RTT_ANSWER_BYTES",)),
+    (r"\btake (\d+) \(|\bdrop \((\d+) \* i\)|\(r \.written\) \((\d+) \* i\b", ("RTT_ANSWER_BYTES",)),
 ]
 
 
@@ -316,9 +346,11 @@ def without_tests(path, value):
 
 
 def places(path, value):
+    """The words that an expression reads. In the bytes of a state one stands at 8 times its place."""
     if path.endswith(".rt"):
-        return [int(place) for place in re.findall(r"\bn\[(\d+)\]", value)]
-    return [int(plain or sum or 0) for plain, sum in re.findall(r"\bword l (?:(\d+)|\(i \+ (\d+)\)|i\b)", value)]
+        found = re.findall(r"\bn\[(\d+)\]|\bget_word\(state, (\d+)\)", value)
+        return [int(place) if place else int(at) / WORD_BYTES for place, at in found]
+    return [int(plain or sum or 0) for plain, sum in re.findall(r"\bword [lw] (?:(\d+)|\(i \+ (\d+)\)|i\b)", value)]
 
 
 def check_reader(table, path, name, section, first):
@@ -545,9 +577,9 @@ def record_due(table, name, place):
     return [(place, fault, row["here"]) for row in rows for fault in faults_in(row)]
 
 
-def faults_due(table, call):
+def faults_due(table, call, section="arguments"):
     """The faults of a call in order."""
-    given = [(int(row["place"]), fault, row["word"]) for row in table.given(call) for fault in faults_in(row)]
+    given = [(int(row["place"]), fault, row["word"]) for row in table.given(call, section) for fault in faults_in(row)]
     for row in table.rows("records"):
         if row["call"] == call:
             given += record_due(table, row["argument"], int(row["place"]))
@@ -748,6 +780,121 @@ def check_exported(table, lists):
         yield from check_list(f"{path}: {name}", listed(path, name, kind_names(table, path)), due, function)
 
 
+# ---- the round-trip estimator
+
+
+def check_rtt_faults(table, path):
+    """Each call's list of faults is the table's, and tests what is given at each place."""
+    source = ending(path) == ".rt"
+    for row in table.rows("rtt_calls"):
+        name, due = row["here"] + ("_fault" if source else "Faults"), faults_due(table, row["name"], "rtt_arguments")
+        found = list(listed(path, name, kind_names(table, path)))
+        yield from check_list(f"{path}: {name}", found, due, row["name"])
+        given = (parameters(path, name) if source else takes(path, name)) or []
+        tested = [given.index(test) + 1 for _, _, text in found for test in re.findall(r"\w+", text) if test in given]
+        places_due = [place for place, *_ in due]
+        if tested != places_due:
+            yield f"{path}: {name}: what is given at {tested} is tested there, and should be what is given at {places_due}"
+
+
+def takes(path, name):
+    """The names of what a definition takes."""
+    found = re.search(rf"^{name} ([\w ]+) =", code(path), re.M)
+    return found.group(1).split() if found else []
+
+
+def check_rtt_rows(table, path):
+    """The number of a call's reply is made of the estimator where the call reads the stored numbers, and only there."""
+    for row in table.rows("rtt_calls"):
+        name = row["here"] + "Number"
+        stands = takes(path, name)[:1] == ["s"]
+        if stands != bool(row["state"]):
+            yield f"{path}: {name}: it is made of {'' if stands else 'no '}stored numbers there: {row['name']} should {'' if row['state'] else 'not '}read them"
+
+
+def rtt_choices(path, names):
+    """The choices by the number of a call: number, name of what is chosen, and the words that it is given."""
+    bodies = functions(path)
+    test = r"\bif number == (\d+) \{" if ending(path) == ".rt" else r"\bcond \(eqb n (\d+)\)\s*\("
+    for body in (bodies.get(name, "") for name in names):
+        for found in re.finditer(test, body):
+            chosen = closed(body, found.end() - 1)
+            name = re.search(r"(\w+)\(" if ending(path) == ".rt" else r"(\w+)", chosen)
+            yield int(found.group(1)), name.group(1) if name else "", "".join(re.findall(r"\b[abc]\b", chosen))
+
+
+def check_rtt_choices(table, path, choices):
+    """Each number chooses what its call does, with the words that are its arguments, where a flag may stand twice, as what
+    it is and by its form; a number of no call has its fault."""
+    for names, end in choices:
+        due, flags = [], set()
+        for row in table.rows("rtt_calls"):
+            rows = [("_abc"[int(one["word"])], one["kind"]) for one in table.given(row["name"], "rtt_arguments")]
+            flags |= {letter for letter, kind in rows if kind == "flag"}
+            due.append((int(row["number"]), row["here"] + end, "".join(letter for letter, _ in rows)))
+        once = lambda given: "".join(one for at, one in enumerate(given) if one not in flags or given[at - 1 : at] != one)
+        stands = sorted((number, name, once(given)) for number, name, given in rtt_choices(path, names))
+        if stands != due:
+            yield f"{path}: {', '.join(names)}: {stands} are chosen there, and should be {due}"
+    unknown = r"\n +NO_CALL\n" if ending(path) == ".rt" else r"unless false 0 listLength"
+    if not re.search(unknown, functions(path).get(choices[0][0][0], "")):
+        yield f"{path}: {choices[0][0][0]}: a number that is no call's has another fault there, and should have 2.8 at 0"
+
+
+def check_rtt_words(table, path, readers):
+    """The number and the arguments of a call are read from their words, at so many bytes after its first."""
+    due = [WORD_BYTES * word for word in range(table.size.RTT_CALL_WORDS)]
+    word = r"get_word\(calls, at(?: \+ (\d+))?\)" if ending(path) == ".rt" else r"wordAt src (?:at\b|\(at \+ (\d+)\))"
+    for name in readers:
+        stands = [int(at or 0) for at in re.findall(word, functions(path).get(name, ""))]
+        if stands != due:
+            yield f"{path}: {name}: the words at {stands} are read there, and should be those at {due}"
+
+
+def check_rtt_written(table, path, state, answer):
+    """A state and an answer are written in the order of their words."""
+    here = {row["field"]: row["here"] for row in table.rows("rtt_state")}
+    answered = [here.get(row["field"], row["field"]) for row in table.rows("rtt_answer")]
+    for name, due in ((state, list(here.values())), (answer, answered[1:])):
+        body = functions(path).get(name, "")
+        # of a source the last list: one of an answer's before it has zeros
+        text = closed(body, body.rindex("[")) if ending(path) == ".rt" and "[" in body else body
+        cells = split(text, "," if ending(path) == ".rt" else "∷")
+        stands = [found for cell in cells for found in re.findall("|".join(due), cell)[-1:]]
+        if stands != due:
+            yield f"{path}: {name}: {stands} are written there, and should be {due}"
+
+
+def check_rtt_answer(table, path, name):
+    """The reply is the first word of an answer, and a refused call has zeros for the others."""
+    found = re.search(r"\breplied .* ∷ settled row \(shown .*\) \(((?:0 ∷ )*)\[\]\)", functions(path).get(name, ""))
+    stands = ["reply"] + found.group(1).split(" ∷ ")[:-1] if found else []
+    due = ["reply" if row["kind"] == "reply" else "0" for row in table.rows("rtt_answer")]
+    if stands != due:
+        yield f"{path}: {name}: a refused call is answered {stands} there, and should be {due}"
+
+
+def check_rtt_form(table, path, name):
+    """The words of a state that are tested are its flags."""
+    found = re.findall(r"\bflag_?[fF]its(?:\(get_word\(state, | \(wordAt s )(\d+)\)", functions(path).get(name, ""))
+    due = [WORD_BYTES * int(row["word"]) for row in table.rows("rtt_state") if row["kind"] == "flag"]
+    if [int(at) for at in found] != due:
+        yield f"{path}: {name}: the words at {found} are tested there, and should be those at {due}"
+
+
+def check_rtt(table):
+    for path in RTT.values():
+        yield from check_rtt_faults(table, path)
+    yield from check_rtt_rows(table, RTT[".antt"])
+    for kind, path in TRIPS.items():
+        yield from check_rtt_choices(table, path, RTT_CHOICES[kind])
+        yield from check_rtt_words(table, path, RTT_READ[kind])
+        yield from check_rtt_written(table, path, *RTT_WRITTEN[kind])
+        yield from check_rtt_form(table, path, RTT_FORM[kind])
+    yield from check_rtt_answer(table, TRIPS[".antt"], RTT_ANSWER)
+    yield from check_phrases(table, RTT_PHRASES, RTT_SIZED)
+
+
 # ---- all of it
 
 
@@ -767,6 +914,7 @@ def named():
     yield from [*FAULTS.values(), *PLACES.values()]
     yield from (path for _, path, _ in EXPORTED)
     yield from (path for path, *_ in FITS + STANDING + STEPS)
+    yield from [*RTT.values(), *RTT_SIZED]
 
 
 def faults(table):
@@ -784,7 +932,7 @@ def faults(table):
     for acked in ACKED:
         out += check_acked(table, *acked)
     out += check_arguments(table, HANDED, CHOOSERS, KNOWING)
-    out += check_phrases(table, PHRASES, files(SIZED))
+    out += check_phrases(table, PHRASES, [path for path in files(SIZED) if path not in RTT_SIZED])
     out += check_numbers(table, [path for path in files(COUNTED) if path not in NOT_COUNTED], OTHERS)
     for numbered in NUMBERED:
         out += check_numbered(table, *numbered)
@@ -798,4 +946,5 @@ def faults(table):
         out += check_standing(table, *standing)
     out += check_exported(table, EXPORTED)
     out += check_steps(table, STEPS)
+    out += check_rtt(table)
     return out

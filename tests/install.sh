@@ -1,7 +1,8 @@
 #!/bin/sh
-# Installs into a temporary folder, then builds and runs two programs in another, outside the repository: the C example by
-# the flags of the pkg-config file, and a Rust program that depends on rust/guovssalu by its path. Each must print 910, 637
-# and 445. Needs the archive, cc and cargo; without pkg-config the flags are read from its file.
+# Installs into a temporary folder, then builds and runs programs in another, outside the repository: two C examples by the
+# flags of the pkg-config file, and a Rust program that depends on rust/guovssalu by its path. The loss episode, in C and in
+# Rust, must print 910, 637 and 445, and the round trips a smoothed one of 80625000 ns. Needs the archive, cc and cargo;
+# without pkg-config the flags are read from its file.
 set -eu
 cd "$(dirname "$0")/.."
 root=$PWD
@@ -48,12 +49,18 @@ is_episode() {
 
 mkdir "$made/c"
 cd "$made/c"
-cp "$root/include/loss_episode.c" .
-# The flags are words of their own.
-# shellcheck disable=SC2046
-cc -std=c99 -Wall -Wextra -Werror -o loss_episode loss_episode.c $(flags)
-./loss_episode >out || fail "the C program ended with $?"
-is_episode 'the C program' out
+for example in loss_episode round_trip; do
+    cp "$root/include/$example.c" .
+    # The flags are words of their own.
+    # shellcheck disable=SC2046
+    cc -std=c99 -Wall -Wextra -Werror -o $example $example.c $(flags)
+    ./$example >$example.out || fail "the C program $example ended with $?"
+done
+is_episode 'the C program' loss_episode.out
+[ "$(tail -n 1 round_trip.out)" = 'smoothed_rtt stays 80625000' ] || {
+    cat round_trip.out
+    fail "the C program round_trip doesn't end with a smoothed_rtt of 80625000"
+}
 
 mkdir -p "$made/rust/src"
 cd "$made/rust"
@@ -78,4 +85,4 @@ cargo run --quiet >out || fail "the Rust program ended with $?"
 is_episode 'the Rust program' out
 GUOVSSALU_ARCHIVE=$prefix/lib/libguovssalu.a cargo run --quiet >out || fail "the Rust program ended with $?"
 is_episode 'the Rust program with the installed archive' out
-echo "install: a C and a Rust program, built outside the repository, print 910, 637, 445"
+echo "install: a C and a Rust program, built outside the repository, print 910, 637, 445; another in C 80625000"

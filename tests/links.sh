@@ -90,18 +90,24 @@ else
     # Lists of acked numbers of any length, beside the original.
     quietly sh tests/diff.sh lists 7 20000
     echo "links: acked numbers in lists: $(tail -n 1 $log)"
+    # The round-trip estimator in runs of up to 4,095 calls, beside the original.
+    quietly sh tests/diff.sh rtt-runs 7 200000
+    echo "links: round trips in long runs: $(tail -n 1 $log)"
 fi
 [ -n "$linking" ] || exit 0
 
 # The loss episode must print the same from C and from Rust.
 episode=$(mktemp -d)
 trap 'rm -rf "$episode"' EXIT
-for example in loss_episode acked_lists; do
+for example in loss_episode acked_lists round_trip; do
     cc -std=c99 -pedantic -Wall -Wextra -Werror -o "$episode/$example" include/$example.c $archive
 done
 "$episode/acked_lists" >"$episode/lists" || fail "the lists of acked numbers in C ended with $?"
 echo 'links: a list of acked numbers, in C:'
 cat "$episode/lists"
+"$episode/round_trip" >"$episode/trip" || fail "the round-trip estimator in C ended with $?"
+echo 'links: the round-trip estimator, in C:'
+cat "$episode/trip"
 "$episode/loss_episode" >"$episode/c" || fail "the loss episode in C ended with $?"
 echo 'links: the loss episode:'
 cat "$episode/c"

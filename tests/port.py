@@ -1,5 +1,5 @@
-"""What tests/drift.py and tests/estimate.py share: the program `serve` (crates/serve), asked frames of calls
-(oracle/README.md), their arguments, and the ground of their pictures.
+"""What tests/drift.py, tests/rtt_drift.py and tests/estimate.py share: the program `serve` (crates/serve), asked frames
+of calls (oracle/README.md), their arguments, and the ground of their pictures.
 
     with started(program()) as port:
         for answer in asked(port, state, calls): ..
@@ -58,6 +58,30 @@ def drawn(path, height, lines):
     ground = [f'<svg xmlns="http://www.w3.org/2000/svg" {size} {letters}>', f'<rect {size} fill="white"/>']
     with open(path, "w") as file:
         file.write("\n".join([*ground, *lines, "</svg>"]) + "\n")
+
+
+def panel(left, title, shown, across, bounds, runs):
+    """One drawing of how far a number is from its exact value: between the least and the largest difference shown, and
+    from 0 to so many across. A bound is a difference, how it is written, and the points of another bound, if there is
+    one; a run is a color and its points."""
+    width, height, top = 430, 300, 56
+    least, largest = shown
+    x = lambda k: left + 46 + k * (width - 66) / across
+    y = lambda d: top + (largest - d) * height / (largest - least)
+    line = lambda points: " ".join(f"{x(k):.1f},{y(d):.1f}" for k, d in points)
+    level = lambda d: f'x1="{x(0):.1f}" y1="{y(d):.1f}" x2="{x(across):.1f}" y2="{y(d):.1f}"'
+    beside = lambda d, text: f'<text x="{x(0) - 6:.1f}" y="{y(d) + 4:.1f}" text-anchor="end">{text}</text>'
+    out = [f'<text x="{left + 46}" y="{top - 14}" font-weight="bold">{title}</text>']
+    out += [f'<line {level(0)} stroke="#888"/>', beside(0, "0")]
+    for color, points in runs:
+        out.append(f'<polyline points="{line(points)}" fill="none" stroke="{color}" stroke-width="1.2"/>')
+    for bound, written, points in bounds:
+        out += [f'<line {level(bound)} stroke="#b00" stroke-dasharray="6 4"/>', beside(bound, written)]
+        if points:
+            out.append(f'<polyline points="{line(points)}" fill="none" stroke="#06c" stroke-dasharray="2 3"/>')
+    for k in range(0, across + 1, across // 5):
+        out.append(f'<text x="{x(k):.1f}" y="{top + height + 18}" text-anchor="middle">{k}</text>')
+    return out
 
 
 def by_arguments(compare, usual, picture):

@@ -4,14 +4,19 @@
     tests/refusal.py REPLY CALL
 
 REPLY is the number that a log has: word 0 of a call's answer, or what an exported function replied. CALL is the call that
-got it, by its number or its name, or the function's name. A number is decimal, or hexadecimal after 0x.
+got it, by its number or its name, or the function's name. A number is decimal, or hexadecimal after 0x. A number alone is
+that of a call of the model's: a call of the round-trip estimator's goes by its name, or by rtt_ and its number or name.
 
     tests/refusal.py 66562 0                2.4 at 1: initial_rtt is longer than 2^36 ns (68.7 s)
     tests/refusal.py 0x10402 start          the same
+    tests/refusal.py 132098 update_rtt      2.4 at 2: ack_delay is longer than 2^36 ns (68.7 s)
+    tests/refusal.py 132098 rtt_1           the same
+    tests/refusal.py 1 rtt_update_rtt       1: a stored length is longer than 2^36 ns (68.7 s)
     tests/refusal.py 67586 guovssalu_run    2.8 at 1: state is not 408 bytes long
 
-A number that can be no reply to that call is said to be none, and why, and it ends with 1. docs/REFUSALS.md says what to
-ask next. The table is docs/calls.txt."""
+A number that can be no reply to that call is said to be none, and why, and it ends with 1. Where the call's number stood
+alone, and the estimator's call of that number can get the reply, what it then says is added. docs/REFUSALS.md says what
+to ask next. The table is docs/calls.txt."""
 
 import collections
 import re
@@ -29,13 +34,20 @@ TIMES = {row["part"]: int(row["times"]) for row in TABLE.rows("reply")}
 PART = 256
 LAST = PART * max(TIMES.values()) - 1
 BAD = TABLE.reply.BAD_ARGUMENT
-LIST_LENGTH = TABLE.numbered("faults").LIST_LENGTH
+LENGTH, LIST_LENGTH = TABLE.numbered("faults").LENGTH, TABLE.numbered("faults").LIST_LENGTH
 EVENT = "on_congestion_event_start"
 NO_CALL = "the number is no call's"
+# Before the number of a call of the round-trip estimator's, or its name, and what carries them out.
+RTT = "rtt_"
+RTT_RUN = "guovssalu_rtt_run"
+# What 1 says of a call of the estimator's: it has no parameters, and what it stores is lengths and a flag, and the run
+# looks at the flag.
+RTT_STORED = f"a stored length {FAULTS[LENGTH]['said']} ({FAULTS[LENGTH]['plain']})"
 
 # An argument by its place: its name, what is said of it by each fault that it can have, and by each other row.
 Argument = collections.namedtuple("Argument", ["place", "name", "said", "other"])
-# What is said, and of what: of an argument, or of the fields of a record that can have the fault.
+# What is said, and of what: of an argument, of the fields of a record that can have the fault, or, where that is a whole
+# sentence, of nothing.
 Said = collections.namedtuple("Said", ["names", "phrase"])
 
 
@@ -45,7 +57,7 @@ def joined(parts):
 
 
 def sentence(said):
-    return f"{joined(said.names)} {said.phrase}"
+    return f"{joined(said.names)} {said.phrase}".strip().replace("`", "")
 
 
 def reply_of(fault, place):
@@ -96,13 +108,14 @@ def of_record(row):
 
 def of_exported(row):
     name = row["argument"]
-    sized = lambda text: re.sub(r"\b[A-Z]+_BYTES\b", lambda size: str(getattr(TABLE.size, size.group(0))), text)
+    sized = lambda text: re.sub(r"\b[A-Z_]+_BYTES\b", lambda size: str(getattr(TABLE.size, size.group(0))), text)
+    said = lambda text: Said([] if "`" in text else [name], sized(text))
     other = dict([row["else"].split(": ")] if row["else"] else [])
     return Argument(
         int(row["place"]),
         name,
-        {fault: Said([name], sized(row["said"] or FAULTS[fault]["said"])) for fault in faults_of(row)},
-        {int(number): Said([name], sized(text)) for number, text in other.items()},
+        {fault: said(row["said"] or FAULTS[fault]["said"]) for fault in faults_of(row)},
+        {int(number): said(text) for number, text in other.items()},
     )
 
 
@@ -123,6 +136,17 @@ def arguments_of(row):
     return in_order(call, [of_word(one) for one in TABLE.given(call)] + records)
 
 
+def rtt_arguments():
+    """The arguments of the round-trip estimator's calls. No name is the model's too."""
+    calls = {}
+    for row in TABLE.rows("rtt_calls"):
+        call = row["name"]
+        if call in ARGUMENTS:
+            raise Fault(f"{PATH}: {call} stands in [calls] and in [rtt_calls]")
+        calls[call] = in_order(call, [of_word(one) for one in TABLE.given(call, "rtt_arguments")])
+    return calls
+
+
 def exported():
     """The arguments of the exported functions that refuse."""
     functions = {}
@@ -131,9 +155,12 @@ def exported():
     return {name: in_order(name, arguments) for name, arguments in functions.items()}
 
 
-NUMBERS = {int(row["number"]): row["name"] for row in TABLE.rows("calls")}
+NUMBERS, RTT_NUMBERS = ({int(row["number"]): row["name"] for row in TABLE.rows(calls)} for calls in ("calls", "rtt_calls"))
+# The calls that read no stored number, and so are never refused with 1.
+UNREAD = [row["name"] for row in TABLE.rows("rtt_calls") if not row["state"]]
 try:
     ARGUMENTS = {row["name"]: arguments_of(row) for row in TABLE.rows("calls")}
+    RTT_ARGUMENTS = rtt_arguments()
     EXPORTED = exported()
 except Fault as wrong:
     sys.exit(str(wrong))
@@ -178,12 +205,15 @@ def bad_argument(call, arguments, kind, place):
 def of_call(call, row, kind, place):
     """A reply to a call in a run."""
     if row == BAD:
-        return bad_argument(call, ARGUMENTS[call], kind, place)
+        return bad_argument(call, {**ARGUMENTS, **RTT_ARGUMENTS}[call], kind, place)
+    if row == 1 and call in UNREAD:
+        raise Fault(f"{row} is no reply of {call}: it reads no stored number")
     if row > BAD and row not in ASKED:
-        raise Fault(f"{row} is no reply of a call in a run: where the run itself replied it, name the run, as guovssalu_run")
+        run = RTT_RUN if call in RTT_ARGUMENTS else "guovssalu_run"
+        raise Fault(f"{row} is no reply of a call in a run: where the run itself replied it, name the run, as {run}")
     if row > BAD and call not in ASKED[row]:
         raise Fault(f"{row} is no reply of {call}, only of {joined(ASKED[row])}")
-    return f"{row}: {ROWS[row]}"
+    return f"{row}: {RTT_STORED if row == 1 and call in RTT_ARGUMENTS else ROWS[row]}"
 
 
 def of_function(name, row, kind, place):
@@ -196,13 +226,13 @@ def of_function(name, row, kind, place):
     return f"{row}: {sentence(said[0]) if row else ROWS[0]}"
 
 
-def of_no_call(number, row, kind, place):
+def of_no_call(prefix, number, row, kind, place):
     """A reply to a number that is no call's."""
     if (row, kind, place) == (BAD, LIST_LENGTH, 0):
-        return f"{BAD}.{LIST_LENGTH} at 0: {NO_CALL}: {number}"
+        return f"{BAD}.{LIST_LENGTH} at 0: {NO_CALL}: {prefix}{number}"
     if row == 1:
-        return f"1: {ROWS[1]}"
-    raise Fault(f"{number} is no call's number: it is refused with {BAD}.{LIST_LENGTH} at 0, or with 1")
+        return f"1: {RTT_STORED if prefix else ROWS[1]}"
+    raise Fault(f"{prefix}{number} is no call's number: it is refused with {BAD}.{LIST_LENGTH} at 0, or with 1")
 
 
 def number_in(text):
@@ -215,18 +245,51 @@ def number_in(text):
     return number
 
 
-def explained(reply, call):
+def name_in(text):
+    """A call's name, as it is or as the header has it, or a function's; nothing where the text is none."""
+    for prefix, calls in (("guovssalu_call_", ARGUMENTS), ("guovssalu_rtt_call_", RTT_ARGUMENTS), (RTT, RTT_ARGUMENTS)):
+        name = re.sub("^" + prefix, "", text)
+        if name in calls:
+            return name
+    return text if text in EXPORTED else None
+
+
+def told(reply, call):
     """A reply to a call in words, both as they were given."""
-    number, asked = number_in(reply), number_in(call)
+    number, text = number_in(reply), call.lower()
     if number is None:
         raise Fault(f"{reply!r} is no number: a reply is decimal, or hexadecimal after 0x")
-    name = NUMBERS.get(asked) or re.sub("^guovssalu_call_", "", call.lower())
-    if asked is None and name not in ARGUMENTS and name not in EXPORTED:
-        raise Fault(f"{call!r} is no call's number or name, and no function that refuses: {', '.join(EXPORTED)}")
+    prefix, numbers = (RTT, RTT_NUMBERS) if text.startswith(RTT) else ("", NUMBERS)
+    asked = number_in(text[len(prefix) :])
+    name = name_in(text) if asked is None else numbers.get(asked)
+    if asked is None and name is None:
+        taken = f"nor {RTT} and a number, as {RTT}1, for a call of the round-trip estimator's"
+        raise Fault(f"{call!r} is no call's number or name, {taken}, and no function that refuses: {', '.join(EXPORTED)}")
+    if number == BAD and (prefix or name in RTT_ARGUMENTS or name == RTT_RUN):
+        raise Fault(f"{BAD} alone is no reply of the round-trip estimator's: it has a kind and a place")
     parts = parted(number)
     if name in EXPORTED:
         return of_function(name, *parts)
-    return of_call(name, *parts) if name in ARGUMENTS else of_no_call(asked, *parts)
+    return of_call(name, *parts) if name else of_no_call(prefix, asked, *parts)
+
+
+def hint(reply, number):
+    """What a reply says of the round-trip estimator's call of a number that stood alone; nothing where it says nothing."""
+    try:
+        said = told(reply, f"{RTT}{number}") if number in RTT_NUMBERS else None
+    except Fault:
+        said = None
+    return f"; of the round-trip estimator's call ({RTT}{number}) it says: {said}" if said else ""
+
+
+def explained(reply, call):
+    """A reply to a call in words, with a hint where a number alone may be meant for the estimator's."""
+    alone = number_in(call)
+    try:
+        said = told(reply, call)
+    except Fault as fault:
+        raise Fault(f"{fault}{hint(reply, alone)}") from None
+    return said if alone is None or alone in NUMBERS else said + hint(reply, alone)
 
 
 def main():

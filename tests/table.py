@@ -6,7 +6,8 @@
 
 Written are the parts of docs/LAYOUT.md, docs/REFUSALS.md and include/guovssalu.h between the marks, and the whole of
 rust/guovssalu-sys/src/table.rs. What a refusal says of an argument is tests/refusal.py's. tests/held.py holds the Rattle
-source and its definitions to the same table: that is compared, and never written."""
+source and its definitions to the same table, and VALUES, below, says where they have its values: that is compared, and
+never written."""
 
 import difflib
 import os
@@ -30,6 +31,15 @@ MARKS = {
     HEADER: ("/* -- {} of docs/calls.txt -- */", "/* -- end -- */"),
 }
 WIDTH = 100
+# Where the Rattle source and its definitions have the values: the one number that such a line has.
+BOUNDS = {".rt": "crates/state/src/bounds.rt", ".antt": "crates/state/specs/Bounds.antt"}
+VALUES = [
+    ("UNSET", BOUNDS[".rt"], r"^pub const UNSET: u64 = (.*);$"),
+    ("UNSET", BOUNDS[".antt"], r"^bytesOrUnsetOk n = .* eqb n \((.*)\)$"),
+    ("LONGEST", BOUNDS[".rt"], r"^pub const MOST_LENGTH: u64 = (.*);$"),
+    ("LONGEST", BOUNDS[".antt"], r"^lengthOk d = leb \(d \.0\) \((.*)\)$"),
+    ("LONGEST", PATH, r"^4 +Length .*?  (\S+) ns  "),
+]
 
 # What there is to say of a size that is no thing's words or bytes.
 SAID = {"MOST_ACKED": "the most acked numbers in a call itself; more stand in the lists"}
@@ -47,7 +57,14 @@ PARTS = {
     "pair": "a pair of the filter run",
     "samples": "the filter run's answer to a pair",
     "slope": "the slope's output",
+    "rtt_state": "a round-trip estimator",
+    "rtt_call": "a call of the estimator's",
+    "rtt_answer": "an answer of the estimator's",
 }
+# How names begin that are the round-trip estimator's.
+RTT = refusal.RTT.upper()
+# What a run of calls replies with 0.
+GONE = "the calls were gone through. That says nothing of any of them: each has its own reply, in word 0 of its answer"
 
 
 # ---- docs/LAYOUT.md
@@ -93,7 +110,7 @@ def refused(faults):
 
 def marked(said):
     """What is said of an argument, with names as a page has them."""
-    return f"{refusal.joined([f'`{name}`' for name in said.names])} {said.phrase}"
+    return f"{refusal.joined([f'`{name}`' for name in said.names])} {said.phrase}".strip()
 
 
 def fault_name(row):
@@ -121,10 +138,10 @@ def fields(section, part=None):
     return [(span(int(row["word"]), TABLE.words(row)), shown(row["field"]), row["kind"]) for row in rows]
 
 
-def parts_of(whole):
+def parts_of(whole, prefix=""):
     """The parts of a call or an answer: their words, and what they are."""
-    rows = TABLE.rows(whole)
-    starts = [SIZE[f"{row['part'].upper()}_IN_{whole.upper()}"] for row in rows] + [SIZE[f"{whole.upper()}_WORDS"]]
+    rows = TABLE.rows(prefix.lower() + whole)
+    starts = [SIZE[f"{prefix}{row['part'].upper()}_IN_{whole.upper()}"] for row in rows] + [SIZE[f"{prefix}{whole.upper()}_WORDS"]]
     for row, first, end in zip(rows, starts, starts[1:]):
         yield row, str(first) if end == first + 1 else f"{first} to {end - 1}"
 
@@ -154,9 +171,8 @@ def function_replies(function, done, other):
 
 
 def page_run():
-    done = "the calls were gone through. That says nothing of any of them: each has its own reply, in word 0 of its answer"
     malformed = f"the state's {SIZE['STATE_BYTES']} bytes encode no state: a word of them is malformed (below), as a flag of 2 or an unset number that is not 0"
-    return function_replies("guovssalu_run", done, {TABLE.reply.OUT_OF_BOUNDS: malformed})
+    return function_replies("guovssalu_run", GONE, {TABLE.reply.OUT_OF_BOUNDS: malformed})
 
 
 def page_kinds():
@@ -285,6 +301,40 @@ def page_reasons():
     return grid(["reason", "name", "what acted last"], [(row["number"], row["name"], row["what"]) for row in TABLE.rows("reasons")])
 
 
+def page_rtt_sizes():
+    what = {
+        "state": "the estimator",
+        "call": "the call's number, its arguments",
+        "answer": "the reply's number, and four of the estimator's numbers",
+    }
+    rows = [(name, SIZE[f"{RTT}{name.upper()}_WORDS"], SIZE[f"{RTT}{name.upper()}_BYTES"], said) for name, said in what.items()]
+    return grid(["array", "words", "bytes", "what"], rows)
+
+
+def page_rtt_run():
+    malformed = f"the state's {SIZE['RTT_STATE_BYTES']} bytes encode no state: word {TABLE.rtt_state.HAS_FIRST_RTT_SAMPLE}, a flag, is neither 0 nor 1"
+    return function_replies(refusal.RTT_RUN, GONE, {TABLE.reply.OUT_OF_BOUNDS: malformed})
+
+
+def page_rtt_state():
+    return grid(["word", "field", "kind"], fields("rtt_state"))
+
+
+def page_rtt_call():
+    parts = grid(["words", "what"], [(words, row["what"]) for row, words in parts_of("call", RTT)])
+    rows = []
+    for row in TABLE.rows("rtt_calls"):
+        name = f"{row['number']} {row['name']}: {row['what']}"
+        for one in TABLE.given(row["name"], "rtt_arguments"):
+            rows.append((name, one["place"], one["argument"], one["word"], one["kind"], refused(refusal.faults_of(one))))
+            name = f"{row['number']} {row['name']}"
+    return parts + ["", *grid(["call", "place", "argument", "word", "kind", "refused with"], rows)]
+
+
+def page_rtt_answer():
+    return grid(["word", "what", "kind"], fields("rtt_answer"))
+
+
 def page_replies():
     return grid(["reply", "name", "where"], [(row["number"], row["name"], row["what"]) for row in TABLE.rows("replies")])
 
@@ -312,6 +362,11 @@ PAGES = {
     "answer": page_answer,
     "filter run": page_filter,
     "reasons": page_reasons,
+    "the estimator's sizes": page_rtt_sizes,
+    "the estimator's run's replies": page_rtt_run,
+    "the estimator's state": page_rtt_state,
+    "the estimator's calls": page_rtt_call,
+    "the estimator's answer": page_rtt_answer,
     "replies": page_replies,
     "reply": page_parts,
     "faults": page_faults,
@@ -326,7 +381,9 @@ SAYS = ["reply", "in a log", "hexadecimal", "what it says", "the limit in plain 
 
 def desk_replies():
     numbers = {row["name"]: row["number"] for row in TABLE.rows("calls")}
-    calls = {0: "every call", 1: "every call", 2: "every call that has an argument"}
+    unread = [f"{refusal.RTT}{number} {name}" for number, name in refusal.RTT_NUMBERS.items() if name in refusal.UNREAD]
+    reading = f"every call but {joined(unread)}" if unread else "every call"
+    calls = {0: "every call", 1: reading, 2: "every call that has an argument"}
     for row in TABLE.rows("asked"):
         calls[int(row["row"])] = "; ".join(f"{numbers[name]} {name}" for name in row["calls"].split(", "))
     other = {row for found in refusal.EXPORTED.values() for argument in found for row in argument.other}
@@ -360,6 +417,15 @@ def desk_calls():
     return grid(["call", *SAYS], rows + [("any other number", *desk_says(refusal.LIST_LENGTH, 0, refusal.NO_CALL))])
 
 
+def desk_rtt():
+    """The same of the round-trip estimator's calls, each named as tests/refusal.py takes it."""
+    rows = []
+    for number, call in refusal.RTT_NUMBERS.items():
+        for argument in refusal.RTT_ARGUMENTS[call]:
+            rows += desk_argument(f"{refusal.RTT}{number} {call}", argument)
+    return grid(["call", *SAYS], rows + [(f"any other number after {refusal.RTT}", *desk_says(refusal.LIST_LENGTH, 0, refusal.NO_CALL))])
+
+
 def desk_functions():
     rows = []
     for function, found in refusal.EXPORTED.items():
@@ -373,7 +439,8 @@ def desk_functions():
 
 def desk_free():
     """The arguments that any number is right for, and the calls that have none."""
-    free = [f"{argument.name} of {call}" for call, found in [*refusal.ARGUMENTS.items(), *refusal.EXPORTED.items()] for argument in found if not argument.said]
+    named = [*refusal.ARGUMENTS.items(), *refusal.RTT_ARGUMENTS.items(), *refusal.EXPORTED.items()]
+    free = [f"{argument.name} of {call}" for call, found in named for argument in found if not argument.said]
     bare = [row["number"] for row in TABLE.rows("calls") if not refusal.ARGUMENTS[row["name"]]]
     return [
         f"Never refused with 2: {joined(free)}.",
@@ -386,6 +453,7 @@ DESKS = {
     "replies": desk_replies,
     "faults": page_faults,
     "calls": desk_calls,
+    "the estimator's calls": desk_rtt,
     "exported": desk_functions,
     "free": desk_free,
 }
@@ -459,10 +527,11 @@ def header_words(section, names):
 def header_sizes():
     sizes = ((name, number, SAID.get(name)) for name, number, _ in TABLE.size.items())
     places = ((name, number, None) for name, number, _ in TABLE.place.items())
-    unset = TABLE.rows("values")[0]
+    values = []
+    for row in TABLE.rows("values"):
+        values += [f"/* {row['what'].capitalize()}. */", f"#define GUOVSSALU_{row['name']} UINT64_C({row['value']})"]
     return [
-        f"/* {unset['what'].capitalize()}. */",
-        f"#define GUOVSSALU_{unset['name']} UINT64_C({unset['value']})",
+        *values,
         "",
         *enum(["/* Sizes, in words and in bytes; a word has 8 bytes. */"], sizes),
         "",
@@ -470,14 +539,18 @@ def header_sizes():
     ]
 
 
-def header_arguments():
-    """The words of arguments, an event's and its record's, with what each is refused with."""
-    arguments = []
-    for call, names, _ in TABLE.argument.items():
-        given = {int(row["word"]): row for row in TABLE.given(call)}
+def argument_words(arguments, section, prefix=""):
+    """The words of calls' arguments, with what each is refused with."""
+    for call, names, _ in arguments.items():
+        given = {int(row["word"]): row for row in TABLE.given(call, section)}
         for name, number, kind in names.items():
             said = with_fault(kind, refusal.faults_of(given[number]), given[number]["place"])
-            arguments.append((f"ARG_{call.upper()}_{name}", number, said))
+            yield f"{prefix}ARG_{call.upper()}_{name}", number, said
+
+
+def header_arguments():
+    """The words of arguments, an event's and its record's, with what each is refused with."""
+    arguments = argument_words(TABLE.argument, "arguments")
     places = {one.name: one.place for one in refusal.ARGUMENTS[refusal.EVENT]}
     of_sample = [
         "/* An event's arguments, of GUOVSSALU_CALL_ON_CONGESTION_EVENT_START: words of a call. The last two are the",
@@ -526,7 +599,33 @@ def header_calls():
     ]
 
 
-HEADERS = {"replies": header_replies, "sizes": header_sizes, "calls and words": header_calls}
+def header_rtt():
+    """The round-trip estimator's calls, their arguments, and the words of a state and of an answer."""
+    given = lambda row: ", ".join(one["argument"] for one in TABLE.given(row["name"], "rtt_arguments"))
+    calls = ((f"{RTT}CALL_{constant(row['name'])}", row["number"], given(row)) for row in TABLE.rows("rtt_calls"))
+    of_calls = [
+        "/* The numbers of the estimator's calls: the word GUOVSSALU_RTT_NUMBER_IN_CALL of a call. Beside each its",
+        " * arguments in the order of their words. */",
+    ]
+    of_arguments = ["/* Their arguments: words of a call. Beside each its kind, what a bad one is refused with, and its place. */"]
+    of_answer = ["/* Words of an answer: the reply, and the estimator's numbers after the call. */"]
+    return [
+        *enum(of_calls, calls),
+        "",
+        *enum(of_arguments, argument_words(TABLE.rtt_argument, "rtt_arguments", RTT)),
+        "",
+        *enum(["/* Words of the estimator. */"], with_prefix("rtt_state", TABLE.rtt_state)),
+        "",
+        *enum(of_answer, with_prefix("rtt_answer", TABLE.rtt_answer)),
+    ]
+
+
+HEADERS = {
+    "replies": header_replies,
+    "sizes": header_sizes,
+    "calls and words": header_calls,
+    "the round-trip estimator": header_rtt,
+}
 
 
 # ---- rust/guovssalu-sys/src/table.rs
@@ -624,6 +723,16 @@ def rust_argument(argument, indent):
     return f"\n{indent}".join(lines)
 
 
+def rust_called(name, module, arguments, records):
+    """The arguments of each call of a module."""
+    calls = [f"    /// Of each call of `{module}::ALL`, in the same order.", f"    pub const {name}: [&[Argument]; {len(arguments)}] = ["]
+    for call, found in arguments.items():
+        cells = [one.name.upper() if one.name in records else rust_argument(one, " " * 12) for one in found]
+        calls.append(f"        // {call}")
+        calls += ["        &[", *(f"            {cell}," for cell in cells), "        ],"] if cells else ["        &[],"]
+    return calls + ["    ];"]
+
+
 def rust_places():
     """The arguments by call and place, with what is said of each. A record is written once."""
     argument = [
@@ -640,12 +749,8 @@ def rust_places():
     items = [argument]
     for name, found in records.items():
         items.append([f"    /// The argument `{name}` of an event.", f"    pub const {name.upper()}: Argument = {rust_argument(found, '    ')};"])
-    calls = ["    /// Of each call of `call::ALL`, in the same order.", f"    pub const CALLS: [&[Argument]; {len(refusal.ARGUMENTS)}] = ["]
-    for name, found in refusal.ARGUMENTS.items():
-        cells = [one.name.upper() if one.name in records else rust_argument(one, " " * 12) for one in found]
-        calls.append(f"        // {name}")
-        calls += ["        &[", *(f"            {cell}," for cell in cells), "        ],"] if cells else ["        &[],"]
-    items.append(calls + ["    ];"])
+    items.append(rust_called("CALLS", "call", refusal.ARGUMENTS, records))
+    items.append(rust_called(f"{RTT}CALLS", "rtt_call", refusal.RTT_ARGUMENTS, {}))
     for function, found in refusal.EXPORTED.items():
         name = function.replace("guovssalu_", "").upper()
         lines = [f"    /// Of `{function}`.", f"    pub const {name}: [Argument; {len(found)}] = ["]
@@ -674,37 +779,45 @@ def rust_calls():
     return rust_module("call", "The numbers of the calls: a call's first word.", items)
 
 
-def rust_arguments():
+def rust_rtt_calls():
+    rows = TABLE.rows("rtt_calls")
+    items = [rust_const("    ", constant(row["name"]), "u64", row["number"], f"Call {row['number']}: {row['what']}.") for row in rows]
+    items.append(rust_list("    ", "ALL", "u64", [constant(row["name"]) for row in rows], "All of them, in order."))
+    items.append(rust_list("    ", "NAMES", "&str", [f'"{row["name"]}"' for row in rows], "Their names, in the same order."))
+    return rust_module("rtt_call", "The numbers of the round-trip estimator's calls: a call's first word.", items)
+
+
+def rust_arguments(name, what, arguments):
     modules = []
-    for call, names, _ in TABLE.argument.items():
+    for call, names, _ in arguments.items():
         items = [rust_const("        ", one, "usize", at, of_kind(at, kind)) for one, at, kind in names.items()]
         modules.append(rust_module(call, f"Of `{call}`.", items, "    "))
-    return rust_module("argument", "The calls' arguments: words of a call.", modules)
+    return rust_module(name, what, modules)
 
 
 def rust_sizes():
     lines = []
     for name, number, _ in TABLE.size.items():
-        part, _, unit = name.partition("_")
+        part, _, unit = name.rpartition("_")
         said = SAID.get(name) or f"{unit} of {PARTS[part.lower()]}"
         lines += rust_const("", name, "usize", number, said.capitalize() + ".")
     for name, number, _ in TABLE.place.items():
-        part, whole = name.lower().split("_in_")
+        part, whole = re.sub("^" + RTT, "", name).lower().split("_in_")
         said = {"event": "the event's record", "params": "the parameters", "cycle": "the cycle"}.get(part, f"its {part}")
-        article = "an" if whole == "answer" else "a"
-        lines += rust_const("", name, "usize", number, f"The first word of {said} in {article} {whole}.")
+        within = PARTS[refusal.RTT + whole] if name.startswith(RTT) else f"{'an' if whole == 'answer' else 'a'} {whole}"
+        lines += rust_const("", name, "usize", number, f"The first word of {said} in {within}.")
     return lines
 
 
 def rust_text():
-    unset = TABLE.rows("values")[0]
+    values = [rust_const("", row["name"], "u64", f"{int(row['value']):_}", row["what"].capitalize() + ".") for row in TABLE.rows("values")]
     parts = [
         ["//! The calls, their words and their sizes: written from docs/calls.txt by tests/table.py, and not edited."],
-        rust_const("", unset["name"], "u64", f"{int(unset['value']):_}", unset["what"].capitalize() + "."),
+        *values,
         rust_const("", "WORD_BYTES", "usize", WORD_BYTES, "Bytes of a word."),
         rust_sizes(),
         rust_calls(),
-        rust_arguments(),
+        rust_arguments("argument", "The calls' arguments: words of a call.", TABLE.argument),
         rust_words("sample", "An event's arguments, of `call::ON_CONGESTION_EVENT_START`: words of a call.", TABLE.sample),
         rust_words("event", "An event's record: words from `EVENT_IN_CALL` or `EVENT_IN_ANSWER` on.", TABLE.event, "event"),
         rust_words("params", "The parameters: words of a call from `PARAMS_IN_CALL` on.", TABLE.params),
@@ -712,6 +825,10 @@ def rust_text():
         rust_words("pair", "A pair of the filter run.", TABLE.pair),
         rust_words("samples", "The filter run's answer to a pair.", TABLE.samples),
         rust_words("slope", "The slope's output.", TABLE.slope),
+        rust_rtt_calls(),
+        rust_arguments("rtt_argument", "The arguments of the estimator's calls: words of a call.", TABLE.rtt_argument),
+        rust_words("rtt_state", "Words of a round-trip estimator.", TABLE.rtt_state, "rtt_state"),
+        rust_words("rtt_answer", "Words of an answer of the estimator's.", TABLE.rtt_answer, "rtt_answer"),
         rust_reply(),
         rust_faults(),
         rust_places(),
@@ -784,11 +901,27 @@ def taken():
             yield f"{FRAMES}: {name} is {row['number']} there, which is {row['name']}'s, and should be a number of no call"
 
 
+def number_of(text):
+    """A number as source and definitions write it, 0x10_0000_0000 or 2 ^ 64 - 1; nothing where it is written otherwise."""
+    power = re.fullmatch(r"2 ?\^ ?(\d+)(?: - (\d+))?", text)
+    if power:
+        return 2 ** int(power[1]) - int(power[2] or 0)
+    return int(text, 16) if re.fullmatch(r"0x[0-9a-f_]+", text) else None
+
+
+def bounds():
+    """Values that are others in the source or in its definitions."""
+    for name, path, line in VALUES:
+        stands, due = re.findall(line, in_file(path), re.M), getattr(TABLE.value, name)
+        if [number_of(text) for text in stands] != [due]:
+            yield f"{path}: {', '.join(stands) or 'nothing'} stands there for {name}, and should be {due}"
+
+
 def main():
     writes = sys.argv[1:] == ["--write"]
     if sys.argv[1:] and not writes:
         sys.exit(__doc__)
-    faults = [*doubled(), *taken()]
+    faults = [*doubled(), *taken(), *bounds()]
     for path, stands, should in due():
         if writes and stands != should:
             os.makedirs(os.path.dirname(os.path.join(ROOT, path)), exist_ok=True)
@@ -802,7 +935,9 @@ def main():
     if faults:
         print(f"table: differences: {len(faults)}")
         return 1
-    print(f"table: {len(TABLE.rows('calls'))} calls, {SIZE['STATE_WORDS']} words of a state, {SIZE['CALL_WORDS']} of a call, {SIZE['ANSWER_WORDS']} of an answer: as in {PATH}")
+    for calls, prefix, of in (("calls", "", ""), ("rtt_calls", RTT, " of the round-trip estimator")):
+        state, call, answer = (SIZE[f"{prefix}{name}_WORDS"] for name in ("STATE", "CALL", "ANSWER"))
+        print(f"table: {len(TABLE.rows(calls))} calls{of}, {state} words of a state, {call} of a call, {answer} of an answer: as in {PATH}")
     return 0
 
 

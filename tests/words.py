@@ -4,7 +4,9 @@
 
 `call.BDP0` is a call's number; `state.INFLIGHT_LO`, `event.PRIOR_CWND` and the like are the places of words, those of
 `event` and `params` from the first word of the record and of the parameters; `argument.bdp.GAIN` is the place of an
-argument in its call. Of what may be unset, `.._SET` is the first of two words, and the name itself the second."""
+argument in its call. Of what may be unset, `.._SET` is the first of two words, and the name itself the second. Those of
+the round-trip estimator have a prefix: `rtt_call.UPDATE_RTT`, `rtt_state.RTTVAR`, `rtt_argument.update_rtt.ACK_DELAY`,
+`rtt_answer.REPLY`, RTT_STATE_WORDS, RTT_NUMBER_IN_CALL."""
 
 import os
 import re
@@ -73,7 +75,9 @@ class Table:
         self.state, self.event, self.params = (self.placed(name, 0) for name in ("state", "event", "params"))
         self.pair, self.samples, self.slope = (self.placed(name, 0) for name in ("pair", "samples", "slope"))
         self.sample = self.placed("sample", 1)
-        self.argument = self.arguments()
+        self.argument = self.arguments("calls", "arguments")
+        self.rtt_call, self.rtt_argument = self.numbered("rtt_calls"), self.arguments("rtt_calls", "rtt_arguments")
+        self.rtt_state, self.rtt_answer = (self.placed(name, 0) for name in ("rtt_state", "rtt_answer"))
         self.size, self.place = Names(), Names()
         self.reckon()
 
@@ -116,41 +120,49 @@ class Table:
     def placed(self, section, first):
         return self.fill(Names(), self.rows(section), first, f"[{section}]")
 
-    def arguments(self):
+    def arguments(self, calls, section):
         """The places of arguments, by the call's name."""
-        known = [row["name"] for row in self.rows("calls")]
+        known = [row["name"] for row in self.rows(calls)]
         given = {}
-        for row in self.rows("arguments"):
+        for row in self.rows(section):
             if row["call"] not in known:
-                raise Fault(f"{PATH}: [arguments]: {row['call']} is no call")
+                raise Fault(f"{PATH}: [{section}]: {row['call']} is no call")
             given.setdefault(row["call"], []).append(row)
         names = Names()
         for call, rows in given.items():
             names.add(call, self.fill(Names(), rows, 1, call))
         return names
 
-    def given(self, call):
+    def given(self, call, section="arguments"):
         """The rows of a call's arguments."""
-        return [row for row in self.rows("arguments") if row["call"] == call]
+        return [row for row in self.rows(section) if row["call"] == call]
+
+    def room(self, calls, section):
+        """The words of the arguments of the call with the most."""
+        return max(self.width(self.given(row["name"], section)) for row in self.rows(calls))
+
+    def begin(self, whole, words, prefix=""):
+        """Where the parts of a call or an answer begin, each of so many words; and the words of the whole."""
+        at = 0
+        for row in self.rows(prefix.lower() + whole):
+            self.place.add(f"{prefix}{row['part'].upper()}_IN_{whole.upper()}", at)
+            at += words[row["part"]]
+        return at
 
     def reckon(self):
         """The sizes and where parts begin, all from the rows."""
-        arguments = max([self.width(self.rows("sample"))] + [self.width(self.given(row["name"])) for row in self.rows("calls")])
-        parts = {part: self.width(r for r in self.rows("state") if r["part"] == part) for part in ("model", "cycle")}
         single = {"number": 1, "reply": 1, "value": 1}
-        parts.update(event=self.width(self.rows("event")), params=self.width(self.rows("params")), arguments=arguments)
+        parts = {part: self.width(r for r in self.rows("state") if r["part"] == part) for part in ("model", "cycle")}
+        for section in ("event", "params", "pair", "samples", "slope", "rtt_state", "rtt_answer"):
+            parts[section] = self.width(self.rows(section))
+        parts["arguments"] = max(self.width(self.rows("sample")), self.room("calls", "arguments"))
         for whole in ("call", "answer"):
-            at = 0
-            for row in self.rows(whole):
-                self.place.add(f"{row['part'].upper()}_IN_{whole.upper()}", at)
-                at += single.get(row["part"]) or parts[row["part"]]
-            parts[whole] = at
+            parts[whole] = self.begin(whole, {**single, **parts})
         self.place.add("CYCLE_IN_STATE", parts["model"])
         parts["state"] = parts["model"] + parts["cycle"]
-        for section in ("pair", "samples", "slope"):
-            parts[section] = self.width(self.rows(section))
+        parts["rtt_call"] = self.begin("call", {**single, "arguments": self.room("rtt_calls", "rtt_arguments")}, "RTT_")
         order = ("state", "model", "cycle", "call", "arguments", "event", "params", "answer", "pair", "samples", "slope")
-        for part in order:
+        for part in order + ("rtt_state", "rtt_call", "rtt_answer"):
             self.size.add(f"{part.upper()}_WORDS", parts[part])
             self.size.add(f"{part.upper()}_BYTES", WORD_BYTES * parts[part])
         self.size.add("MOST_ACKED", next(self.words(row) for row in self.rows("sample") if row["field"] == "acked_packets"))
@@ -168,4 +180,5 @@ TABLE = read()
 call, reply, phase, state, event, params, sample, argument = (
     getattr(TABLE, name) for name in ("call", "reply", "phase", "state", "event", "params", "sample", "argument")
 )
+rtt_call, rtt_argument, rtt_state, rtt_answer = (getattr(TABLE, "rtt_" + name) for name in ("call", "argument", "state", "answer"))
 globals().update({name: number for names in (TABLE.value, TABLE.size, TABLE.place) for name, number, _ in names.items()})

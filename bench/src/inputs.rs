@@ -1,5 +1,9 @@
 //! The inputs, the same for both sides and in every run.
 
+use std::time::Duration;
+use std::time::Instant;
+
+use guovssalu_sys::table::rtt_call;
 use guovssalu_sys::table::CALL_BYTES;
 use guovssalu_sys::table::EVENT_IN_CALL;
 use guovssalu_sys::table::PAIR_BYTES;
@@ -11,6 +15,7 @@ use crate::model::Sample;
 use crate::model::SendState;
 use crate::model::Start;
 use crate::recovery::gcongestion::Host;
+use crate::recovery::rtt::RttStats;
 use crate::values::Random;
 
 /// Numbers of up to so many bits, gains from 1/1024 to 8, and round trips up to 200 ms.
@@ -48,6 +53,49 @@ pub fn pairs(count: usize) -> Vec<u8> {
     bytes
 }
 
+/// Updates of a round-trip estimator: a sample, a delay and whether the handshake is confirmed, at a
+/// moment that the original's side hands in. And the same as bytes: the state before them, and their
+/// calls.
+pub struct Updates {
+    pub now: Instant,
+    numbers: Vec<[u64; 3]>,
+    pub state: Vec<u8>,
+    pub calls: Vec<u8>,
+}
+
+impl Updates {
+    /// initial_rtt and max_ack_delay.
+    pub const FRESH: [u64; 2] = [333_000_000, 25_000_000];
+
+    /// Samples of 50 to 55 ms and a delay, which in one of six is above the largest.
+    pub fn new(count: usize) -> Self {
+        let mut random = Random::new(13);
+        let mut update = || {
+            let delay = random.below(30_000_000);
+            [50_000_000 + random.below(5_000_000) + delay, delay, 1]
+        };
+        let numbers: Vec<[u64; 3]> = (0..count).map(|_| update()).collect();
+        let call = |&[latest, delay, confirmed]: &[u64; 3]| {
+            bytes(&[rtt_call::UPDATE_RTT, latest, delay, confirmed])
+        };
+        let [initial, limit] = Updates::FRESH.map(Duration::from_nanos);
+        Updates {
+            now: Instant::now(),
+            state: bytes(&RttStats::new(initial, limit).held()),
+            calls: numbers.iter().flat_map(call).collect(),
+            numbers,
+        }
+    }
+
+    /// The updates with lengths of a type.
+    pub fn typed<L>(&self, length: impl Fn(u64) -> L) -> Vec<(L, L, bool)> {
+        let typed = |&[latest, delay, confirmed]: &[u64; 3]| {
+            (length(latest), length(delay), confirmed == 1)
+        };
+        self.numbers.iter().map(typed).collect()
+    }
+}
+
 /// A step of a connection.
 pub enum Step {
     Send([u64; 4]),
@@ -64,11 +112,6 @@ pub struct Trace {
 }
 
 impl Trace {
-    /// How many calls there are.
-    pub fn count(&self) -> usize {
-        self.calls.len() / CALL_BYTES
-    }
-
     /// Sends alone.
     pub fn sends(count: usize) -> Self {
         Maker::new().trace(Maker::send, count)
@@ -132,7 +175,7 @@ impl Maker {
 
     /// So many calls, or a few more.
     fn trace(mut self, turn: impl Fn(&mut Maker), count: usize) -> Trace {
-        while self.trace.count() < count {
+        while self.trace.calls.len() < CALL_BYTES * count {
             turn(&mut self);
         }
         self.trace

@@ -11,6 +11,7 @@ mod inputs;
 mod model;
 mod original;
 mod port;
+mod runs;
 #[path = "../../oracle/src/values.rs"]
 #[allow(dead_code)]
 mod values;
@@ -24,12 +25,13 @@ use std::time::Instant;
 use guovssalu::Duration;
 use guovssalu::Params;
 use guovssalu::Samples;
-use guovssalu_sys::table::ANSWER_BYTES;
-use guovssalu_sys::table::CALL_BYTES;
 use inputs::Numbers;
 use inputs::Step;
 use inputs::Trace;
+use inputs::Updates;
+use original::Original;
 use recovery::bandwidth::Bandwidth;
+use runs::Calls;
 
 /// Named by gcongestion/mod.rs of the original.
 #[derive(Debug)]
@@ -40,7 +42,7 @@ pub enum Error {
 /// How often each side of a case is run.
 const TIMES: usize = 300;
 
-/// Calls in a trace, and pairs in a filter's run.
+/// Calls in a trace or to an estimator, and pairs in a filter's run.
 const CALLS: usize = 1_024;
 const PAIRS: usize = 65_536;
 
@@ -57,6 +59,10 @@ fn main() {
         numbers(bits);
     }
     filter();
+    let (name, updates) = ("an rtt update", Updates::new(CALLS));
+    one_run(name, &updates);
+    runs_of_one(name, &updates);
+    updates_one_by_one(name, &updates);
     for (name, trace) in [
         ("a send", Trace::sends(CALLS)),
         ("an event or its finish", Trace::events(CALLS)),
@@ -203,53 +209,81 @@ fn filter() {
     }
 }
 
-/// A trace in one run over bytes.
-fn one_run(name: &str, trace: &Trace) {
-    let mut state = trace.state.clone();
-    let mut port = vec![1; ANSWER_BYTES * trace.count()];
+/// Calls in one run over bytes.
+fn one_run<C: Calls>(name: &str, given: &C) {
+    let mut state = given.state().to_vec();
+    let mut port = vec![1; C::ANSWER_BYTES * given.count()];
     let mut original = port.clone();
-    let mut model = original::Model::new(&trace.start);
+    let mut model = given.original();
     compare(
         &format!("{name}: one run over bytes"),
-        trace.count(),
+        given.count(),
         || {
-            state.copy_from_slice(&trace.state);
-            guovssalu::run(&mut state, &trace.calls, &mut port).unwrap();
+            state.copy_from_slice(given.state());
+            C::port(&mut state, given.calls(), &mut port).unwrap();
         },
         || {
-            model = original::Model::new(&trace.start);
-            model.run(&trace.calls, &mut original);
+            model = given.original();
+            model.run(given.calls(), &mut original);
         },
     );
     assert!(port == original, "The answers differ.");
     assert!(state == model.state(), "The states differ.");
 }
 
-/// A trace over bytes, in a run for each call.
-fn runs_of_one(name: &str, trace: &Trace) {
-    let mut state = trace.state.clone();
-    let mut port = vec![1; ANSWER_BYTES * trace.count()];
+/// Calls over bytes, in a run for each.
+fn runs_of_one<C: Calls>(name: &str, given: &C) {
+    let mut state = given.state().to_vec();
+    let mut port = vec![1; C::ANSWER_BYTES * given.count()];
     let mut original = port.clone();
-    let mut model = original::Model::new(&trace.start);
-    let calls = || trace.calls.chunks_exact(CALL_BYTES);
+    let mut model = given.original();
+    let calls = || given.calls().chunks_exact(C::CALL_BYTES);
     compare(
         &format!("{name}: runs of one call"),
-        trace.count(),
+        given.count(),
         || {
-            state.copy_from_slice(&trace.state);
-            for (call, answer) in calls().zip(port.chunks_exact_mut(ANSWER_BYTES)) {
-                guovssalu::run(&mut state, call, answer).unwrap();
+            state.copy_from_slice(given.state());
+            for (call, answer) in calls().zip(port.chunks_exact_mut(C::ANSWER_BYTES)) {
+                C::port(&mut state, call, answer).unwrap();
             }
         },
         || {
-            model = original::Model::new(&trace.start);
-            for (call, answer) in calls().zip(original.chunks_exact_mut(ANSWER_BYTES)) {
+            model = given.original();
+            for (call, answer) in calls().zip(original.chunks_exact_mut(C::ANSWER_BYTES)) {
                 model.run(call, answer);
             }
         },
     );
     assert!(port == original, "The answers differ.");
     assert!(state == model.state(), "The states differ.");
+}
+
+/// Updates one at a time, each side with its own types.
+fn updates_one_by_one(name: &str, updates: &Updates) {
+    let port_updates = updates.typed(Duration::from_nanos);
+    let original_updates = updates.typed(std::time::Duration::from_nanos);
+    let mut port = port::estimator();
+    let mut original = updates.original();
+    compare(
+        &format!("{name}: one by one"),
+        updates.count(),
+        || {
+            port = port::estimator();
+            for &(latest, delay, confirmed) in &port_updates {
+                port.update_rtt(latest, delay, confirmed).unwrap();
+            }
+        },
+        || {
+            original = updates.original();
+            for &(latest, delay, confirmed) in &original_updates {
+                original.update(latest, delay, confirmed);
+            }
+        },
+    );
+    assert!(
+        port.as_bytes()[..] == original.state(),
+        "The estimators differ."
+    );
 }
 
 /// A trace one call at a time, each side with its own types.

@@ -6,11 +6,19 @@ use guovssalu::Duration;
 use guovssalu::Moment;
 use guovssalu::NetworkModel;
 use guovssalu::Params;
+use guovssalu::RttStats;
 use guovssalu::Sample;
 use guovssalu::SendTimeState;
 
 use crate::inputs;
+use crate::inputs::Updates;
 use crate::model;
+
+/// A fresh estimator.
+pub fn estimator() -> RttStats {
+    let [initial, limit] = Updates::FRESH.map(Duration::from_nanos);
+    RttStats::new(initial, limit).unwrap()
+}
 
 /// A step of a connection, in the wrapper's types.
 pub enum Step {

@@ -17,4 +17,5 @@ pub const PORT: Port = Port {
     filter_run: sys::guovssalu_filter_run,
     run: sys::guovssalu_run,
     run_lists: sys::guovssalu_run_lists,
+    rtt_run: sys::guovssalu_rtt_run,
 };

@@ -242,12 +242,7 @@ pub fn flaw_call(
     let flaws = places::flaws(Callee::Call(call[c::NUMBER]));
     for _ in 0..flaws.len().min(2) {
         let flaw = dice.pick(&flaws);
-        let ends = match dice.below(3) {
-            0 => edges::inside(&flaw, in_lists),
-            _ => edges::outside(&flaw, in_lists),
-        };
-        let far = edges::far(dice, &flaw, in_lists);
-        let to = dice.pick(&ends).unwrap_or(far);
+        let to = edges::about(dice, &flaw, in_lists);
         edges::set(&flaw, to, &mut state.clone(), call, lists);
         spoilt.call.push(flaw.word);
     }

@@ -10,8 +10,6 @@ use crate::places::Wrong;
 use crate::values::NO_FLAGS;
 use crate::words::call as c;
 use crate::words::state as s;
-use crate::words::Call;
-use crate::words::State;
 use crate::words::UNSET;
 
 /// The most ends that a flaw has on one side.
@@ -132,9 +130,19 @@ pub fn far(dice: &mut Dice, flaw: &Flaw, with_lists: bool) -> i128 {
     }
 }
 
+/// A measure at an end, mostly one that is not allowed, or any other that is not.
+pub fn about(dice: &mut Dice, flaw: &Flaw, with_lists: bool) -> i128 {
+    let ends = match dice.below(3) {
+        0 => inside(flaw, with_lists),
+        _ => outside(flaw, with_lists),
+    };
+    let far = far(dice, flaw, with_lists);
+    dice.pick(&ends).unwrap_or(far)
+}
+
 /// Lets a flaw of a call measure this. Of the words that it goes by only those are changed that have to
 /// be. Acked numbers are in the lists where that is measured: these then have four words or more.
-pub fn set(flaw: &Flaw, to: i128, state: &mut State, call: &mut Call, lists: &[u64]) {
+pub fn set(flaw: &Flaw, to: i128, state: &mut [u64], call: &mut [u64], lists: &[u64]) {
     let at = flaw.word;
     match flaw.wrong {
         Wrong::NoPair if to < TWO => call[at] = to as u64,

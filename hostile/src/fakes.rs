@@ -1,23 +1,21 @@
-//! Ports that are not the archive's: one that replies as the table says, and one for each way of
-//! being wrong. The checks must find the first right and notice every other.
+//! A port that is not the archive's and replies as the table says, of which the wrong ones are made that
+//! the checks must notice. They must find it right.
 
 use std::env;
 use std::os::unix::process::ExitStatusExt;
 use std::process::Command;
-use std::ptr;
 use std::slice;
 
-use guovssalu_sys::table::call as calls;
 use guovssalu_sys::table::reason;
 use guovssalu_sys::table::samples;
 use guovssalu_sys::table::PAIR_BYTES;
 use guovssalu_sys::table::SLOPE_BYTES;
-use guovssalu_sys::table::WORD_BYTES;
 
 use crate::after;
 use crate::cases::random;
 use crate::cases::sweep;
-use crate::events;
+use crate::estimator;
+use crate::estimator::Step;
 use crate::events::Sweep;
 use crate::filter;
 use crate::filter::Samples;
@@ -35,10 +33,11 @@ use crate::tally::Fault;
 use crate::tally::Tally;
 use crate::trial::Trial;
 use crate::words;
-use crate::words::answer as a;
-use crate::words::state as s;
 use crate::words::Answer;
 use crate::words::Call;
+use crate::words::RttAnswer;
+use crate::words::RttCall;
+use crate::words::RttState;
 use crate::words::State;
 
 /// A port that is right by what is known beforehand.
@@ -54,13 +53,14 @@ pub const RIGHT: Port = Port {
     filter_run,
     run,
     run_lists,
+    rtt_run,
 };
 
 /// The tests' seed and how many calls each makes.
-const SEED: u64 = 11;
+pub const SEED: u64 = 11;
 const CALLS: u64 = 40_000;
 
-unsafe extern "C" fn u64_to_f32(n: u64) -> u32 {
+pub unsafe extern "C" fn u64_to_f32(n: u64) -> u32 {
     (n as f32).to_bits()
 }
 
@@ -89,7 +89,7 @@ unsafe extern "C" fn to_bytes_per_period(bandwidth: u64, nanos: u64) -> u64 {
 }
 
 /// Where a range begins, and how many bytes it has.
-type Range = (*mut u8, usize);
+pub type Range = (*mut u8, usize);
 
 /// A lent range as a slice; without bytes the pointer is not used.
 pub unsafe fn lent<'a>((start, len): Range) -> &'a mut [u8] {
@@ -101,7 +101,7 @@ pub unsafe fn lent<'a>((start, len): Range) -> &'a mut [u8] {
 }
 
 /// Where lists begin, and how many words they have.
-type Words = (*const u64, usize);
+pub type Words = (*const u64, usize);
 
 /// Lent lists as a slice; without words the pointer is not used.
 pub unsafe fn lent_words<'a>((start, len): Words) -> &'a [u64] {
@@ -112,7 +112,7 @@ pub unsafe fn lent_words<'a>((start, len): Words) -> &'a [u64] {
     }
 }
 
-unsafe extern "C" fn raise_inflight_high_slope(
+pub unsafe extern "C" fn raise_inflight_high_slope(
     rounds: u64,
     window: u64,
     out: *mut u8,
@@ -148,35 +148,21 @@ exported_filter!(filter_run, |window, src, out| {
 });
 
 /// An update of a filter run: what was written before it, the new sample, and what is due.
-struct Update {
-    before: Option<Samples>,
-    sample: u64,
-    due: Samples,
+pub struct Update {
+    pub before: Option<Samples>,
+    pub sample: u64,
+    pub due: Samples,
 }
 
 impl Update {
     /// The reason that is due.
-    fn reason(&self) -> u64 {
+    pub fn reason(&self) -> u64 {
         self.due[samples::REASON]
-    }
-
-    /// The name of step 2 where it acts, whatever acts after it.
-    fn raised(&self) -> Option<u64> {
-        let before = self.before?;
-        if self.reason() == reason::ALL_REPLACED {
-            None
-        } else if self.sample > before[samples::SECOND] {
-            Some(reason::SECOND_RAISED)
-        } else if self.sample > before[samples::THIRD] {
-            Some(reason::THIRD_RAISED)
-        } else {
-            None
-        }
     }
 }
 
 /// A filter run that writes for each update what a function makes of it.
-fn filter_by(one: impl Fn(&Update) -> Samples, window: u64, src: &[u8], out: &mut [u8]) -> u64 {
+pub fn filter_by(one: impl Fn(&Update) -> Samples, window: u64, src: &[u8], out: &mut [u8]) -> u64 {
     let (rows, due) = filter::due(window, src, out.len());
     let mut before = None;
     let mut written = Vec::new();
@@ -193,7 +179,7 @@ fn filter_by(one: impl Fn(&Update) -> Samples, window: u64, src: &[u8], out: &mu
 }
 
 /// Writes the words of a filter run that no row refuses, and replies.
-fn write_if_done(rows: &Rows, written: &[u64], out: &mut [u8]) -> u64 {
+pub fn write_if_done(rows: &Rows, written: &[u64], out: &mut [u8]) -> u64 {
     if rows.due() == 0 {
         let written = words::bytes(written);
         out[..written.len()].copy_from_slice(&written);
@@ -295,352 +281,58 @@ pub fn step_by(rows: &Rows, state: &mut State, call: &Call, lists: &[u64]) -> An
     answer
 }
 
-/// The right run with something added after it, which gets the reply and the three ranges.
-macro_rules! run_with {
-    ($name:ident, |$reply:ident, $state:ident, $calls:ident, $answers:ident| $more:expr) => {
-        exported_run!($name, |$state, $calls, $answers| {
-            let $reply = run_by(step, lent($state), lent($calls), lent($answers));
-            $more
-        });
-    };
+exported_run!(rtt_run, |state, calls, answers| {
+    rtt_by(rtt_step, lent(state), lent(calls), lent(answers))
+});
+
+/// A run of the estimator that makes each of its calls by a function.
+pub fn rtt_by(
+    one: impl Fn(&mut RttState, &RttCall) -> RttAnswer,
+    state: &mut [u8],
+    calls: &[u8],
+    answers: &mut [u8],
+) -> u64 {
+    let reply = estimator::run_rows(state, calls, answers.len()).reply();
+    if reply != 0 {
+        return reply;
+    }
+    let mut now: RttState = words::words(state);
+    let answers = answers.chunks_exact_mut(words::RTT_ANSWER_BYTES);
+    for (call, answer) in calls.chunks_exact(words::RTT_CALL_BYTES).zip(answers) {
+        answer.copy_from_slice(&words::bytes(&one(&mut now, &words::words(call))));
+    }
+    state.copy_from_slice(&words::bytes(&now));
+    0
+}
+
+/// One call on the estimator.
+pub fn rtt_step(state: &mut RttState, call: &RttCall) -> RttAnswer {
+    let step = Step::new(state, call);
+    *state = step.after;
+    step.answer
 }
 
 /// Flips a bit of the byte at a place.
-unsafe fn flip(start: *mut u8, place: usize) {
+pub unsafe fn flip(start: *mut u8, place: usize) {
     *start.add(place) ^= 0x10;
 }
 
 /// Flips a bit of the byte just after a range, where it may be written.
-unsafe fn flip_after((start, len): Range) {
+pub unsafe fn flip_after((start, len): Range) {
     if len > 0 && (start as usize + len) % page() != 0 {
         flip(start, len);
     }
 }
 
 /// Flips a bit of the byte just before a range, where it may be written.
-unsafe fn flip_before((start, len): Range) {
+pub unsafe fn flip_before((start, len): Range) {
     if len > 0 && start as usize % page() != 0 {
         flip(start.sub(1), 0);
     }
 }
 
-run_with!(other_run_reply, |reply, _s, _c, _a| if reply == 7 {
-    2
-} else {
-    reply
-});
-run_with!(never_refuses_calls, |reply, _s, _c, answers| {
-    if reply == 0 && answers.1 >= words::ANSWER_BYTES && *answers.0 == 5 {
-        *answers.0 = 0;
-    }
-    reply
-});
-run_with!(touches_refused_run, |reply, state, _c, _a| {
-    if reply != 0 && state.1 > 0 {
-        flip(state.0, state.1 - 1);
-    }
-    reply
-});
-run_with!(touches_refused_answers, |reply, _s, _c, answers| {
-    if reply == 7 && answers.1 > 0 {
-        flip(answers.0, 0);
-    }
-    reply
-});
-run_with!(touches_refused_state, |reply, state, _c, answers| {
-    if reply == 0 && answers.1 == words::ANSWER_BYTES && matches!(*answers.0, 1..=5) {
-        flip(state.0, 0);
-    }
-    reply
-});
-run_with!(touches_calls, |reply, _s, calls, _a| {
-    if calls.1 > 0 {
-        flip(calls.0, calls.1 - 1);
-    }
-    reply
-});
-run_with!(writes_past_answers, |reply, _s, calls, answers| {
-    let whole = calls.1 / words::CALL_BYTES * words::ANSWER_BYTES;
-    if reply == 0 && answers.1 > whole {
-        flip(answers.0, answers.1 - 1);
-    }
-    reply
-});
-run_with!(answers_wrong_bit, |reply, _s, calls, answers| {
-    if reply == 0 && calls.1 == words::CALL_BYTES {
-        flip(answers.0, WORD_BYTES * a::VALUE);
-    }
-    reply
-});
-run_with!(answers_a_record, |reply, _s, calls, answers| {
-    if reply == 0
-        && calls.1 == words::CALL_BYTES
-        && *calls.0 != calls::ON_CONGESTION_EVENT_START as u8
-    {
-        flip(answers.0, words::ANSWER_BYTES - 1);
-    }
-    reply
-});
-run_with!(leaves_bad_state, |reply, state, calls, answers| {
-    if reply == 0
-        && calls.1 == words::CALL_BYTES
-        && *calls.0 == calls::RESTART_ROUND_EARLY as u8
-        && *answers.0 == 0
-    {
-        *state.0.add(WORD_BYTES * s::MIN_RTT + 7) = 0xff;
-    }
-    reply
-});
-run_with!(changes_more_at_events, |reply, state, calls, answers| {
-    if reply == 0
-        && calls.1 == words::CALL_BYTES
-        && *calls.0 == calls::ON_CONGESTION_EVENT_START as u8
-        && *answers.0 == 0
-    {
-        flip(state.0, WORD_BYTES * s::MIN_RTT_TIMESTAMP);
-    }
-    reply
-});
-run_with!(long_runs_differ, |reply, state, calls, _a| {
-    if reply == 0 && calls.1 > words::CALL_BYTES {
-        flip(state.0, 0);
-    }
-    reply
-});
-run_with!(writes_after_state, |reply, state, _c, _a| {
-    flip_after(state);
-    reply
-});
-run_with!(writes_before_state, |reply, state, _c, _a| {
-    flip_before(state);
-    reply
-});
-run_with!(writes_after_calls, |reply, _s, calls, _a| {
-    flip_after(calls);
-    reply
-});
-run_with!(writes_before_answers, |reply, _s, _c, answers| {
-    flip_before(answers);
-    reply
-});
-run_with!(writes_after_answers, |reply, _s, _c, answers| {
-    flip_after(answers);
-    reply
-});
-
-run_with!(reads_after_state, |reply, state, _c, _a| {
-    if state.1 > 0 {
-        ptr::read_volatile(state.0.add(state.1));
-    }
-    reply
-});
-
-/// The right run with lists with something added after it, which gets the reply, the lists and the
-/// answers.
-macro_rules! lists_with {
-    ($name:ident, |$reply:ident, $lists:ident, $answers:ident| $more:expr) => {
-        exported_lists!($name, |state, calls, $lists, $answers| {
-            let $reply = run_lists(
-                state.0, state.1, calls.0, calls.1, $lists.0, $lists.1, $answers.0, $answers.1,
-            );
-            $more
-        });
-    };
-}
-
-/// The bytes of lists where they may be written: they then touch no page's end.
-unsafe fn open((start, len): Words) -> Option<Range> {
-    let (start, len) = (start as *mut u8, len * WORD_BYTES);
-    let ends = [start as usize, start as usize + len];
-    (len > 0 && ends.iter().all(|end| end % page() != 0)).then_some((start, len))
-}
-
-lists_with!(touches_lists, |reply, lists, _a| {
-    if let Some((start, len)) = open(lists) {
-        flip(start, len - 1);
-    }
-    reply
-});
-lists_with!(writes_after_lists, |reply, lists, _a| {
-    if let Some(range) = open(lists) {
-        flip_after(range);
-    }
-    reply
-});
-lists_with!(writes_before_lists, |reply, lists, _a| {
-    if let Some(range) = open(lists) {
-        flip_before(range);
-    }
-    reply
-});
-lists_with!(lists_write_after_answers, |reply, _l, answers| {
-    flip_after(answers);
-    reply
-});
-lists_with!(reads_after_lists, |reply, lists, _a| {
-    if lists.1 > 0 {
-        ptr::read_volatile(lists.0.add(lists.1));
-    }
-    reply
-});
-lists_with!(reads_before_lists, |reply, lists, _a| {
-    if lists.1 > 0 {
-        ptr::read_volatile(lists.0.sub(1));
-    }
-    reply
-});
-lists_with!(reads_lists_of_no_words, |reply, lists, _a| {
-    if lists.1 == 0 {
-        ptr::read_volatile(lists.0 as *const u8);
-    }
-    reply
-});
-lists_with!(writes_lists_back, |reply, lists, _a| {
-    if lists.1 > 0 {
-        ptr::write_volatile(lists.0 as *mut u64, *lists.0);
-    }
-    reply
-});
-
-/// The right filter run with something added after it, which gets the reply, the length of the
-/// pairs and the output.
-macro_rules! filter_with {
-    ($name:ident, |$reply:ident, $length:ident, $out:ident| $more:expr) => {
-        exported_filter!($name, |window, src, $out| {
-            let $reply = filter_run(window, src.0, src.1, $out.0, $out.1);
-            let $length = src.1;
-            $more
-        });
-    };
-}
-
-filter_with!(filter_off, |reply, length, out| {
-    if reply == 0 && length > 0 {
-        flip(out.0, 8);
-    }
-    reply
-});
-filter_with!(filter_takes_all, |reply, _l, _o| if reply == 3 {
-    0
-} else {
-    reply
-});
-filter_with!(filter_writes_after, |reply, _l, out| {
-    flip_after(out);
-    reply
-});
-
-/// The right filter run, but for the reason that is written with each update's samples.
-macro_rules! filter_says {
-    ($name:ident $(<$kind:ident>)?, |$update:ident| $reason:expr) => {
-        exported_filter!($name $(<$kind>)?, |window, src, out| {
-            let one = |$update: &Update| {
-                let mut written = $update.due;
-                written[samples::REASON] = $reason;
-                written
-            };
-            filter_by(one, window, lent(src), lent(out))
-        });
-    };
-}
-
-filter_says!(reason_off, |update| update.reason() ^ 1);
-filter_says!(replaced_where_samples_are_new, |update| {
-    if update.due[..samples::REASON] == [update.sample; 3] {
-        reason::ALL_REPLACED
-    } else {
-        update.reason()
-    }
-});
-// All three are the new sample at its time after step 1, and where these steps act, too.
-filter_says!(replaced_where_all_are_new, |update| {
-    match (update.raised(), update.reason()) {
-        (Some(reason::SECOND_RAISED), reason::PROMOTED_ONCE) => reason::ALL_REPLACED,
-        (Some(reason::THIRD_RAISED), reason::PROMOTED_TWICE) => reason::ALL_REPLACED,
-        (_, due) => due,
-    }
-});
-filter_says!(unchanged_where_samples_are, |update| match update.before {
-    Some(before) if before[..samples::REASON] == update.due[..samples::REASON] => reason::UNCHANGED,
-    _ => update.reason(),
-});
-filter_says!(once_for_twice, |update| match update.reason() {
-    reason::PROMOTED_TWICE => reason::PROMOTED_ONCE,
-    due => due,
-});
-filter_says!(quarter_and_half_swapped, |update| match update.reason() {
-    reason::QUARTER_REFRESH => reason::HALF_REFRESH,
-    reason::HALF_REFRESH => reason::QUARTER_REFRESH,
-    due => due,
-});
-
-/// The steps that can both act: step 2, and a later one.
-const BOTH: [(u64, u64); 4] = [
-    (reason::SECOND_RAISED, reason::PROMOTED_ONCE),
-    (reason::THIRD_RAISED, reason::PROMOTED_ONCE),
-    (reason::THIRD_RAISED, reason::PROMOTED_TWICE),
-    (reason::THIRD_RAISED, reason::QUARTER_REFRESH),
-];
-
-filter_says!(earlier_step_named<STEPS>, |update| {
-    let (earlier, later) = BOTH[STEPS];
-    if (update.raised(), update.reason()) == (Some(earlier), later) {
-        earlier
-    } else {
-        update.reason()
-    }
-});
-
-exported_filter!(reason_before_samples, |window, src, out| {
-    let one = |update: &Update| {
-        let mut written = update.due;
-        written.rotate_right(1);
-        written
-    };
-    filter_by(one, window, lent(src), lent(out))
-});
-exported_filter!(three_words_a_pair, |window, src, out| {
-    let (rows, due) = filter::due(window, lent(src), usize::MAX);
-    let written: Vec<u64> = due
-        .iter()
-        .flat_map(|samples| samples[..samples::REASON].to_vec())
-        .collect();
-    let rows = rows.with(7, out.1 < src.1 / PAIR_BYTES * 24);
-    write_if_done(&rows, &written, lent(out))
-});
-
-unsafe extern "C" fn slope_off(rounds: u64, window: u64, out: *mut u8, out_len: usize) -> u64 {
-    raise_inflight_high_slope(rounds.min(29), window, out, out_len)
-}
-
-unsafe extern "C" fn slope_before(rounds: u64, window: u64, out: *mut u8, out_len: usize) -> u64 {
-    flip_before((out, out_len));
-    raise_inflight_high_slope(rounds, window, out, out_len)
-}
-
-unsafe extern "C" fn cut_to_f32(n: u64) -> u32 {
-    let low = n.leading_zeros() + 24;
-    u64_to_f32(if low < 64 {
-        n >> (64 - low) << (64 - low)
-    } else {
-        n
-    })
-}
-
-unsafe extern "C" fn scale_in_whole_numbers(n: u64, gain: u32) -> u64 {
-    (n as f64 * f32::from_bits(gain) as f64) as u64
-}
-
-unsafe extern "C" fn cut_f64(bits: u64) -> u64 {
-    f64::from_bits(bits) as u64
-}
-
-unsafe extern "C" fn period_without_infinite(bandwidth: u64, nanos: u64) -> u64 {
-    (bandwidth as u128 * nanos as u128 / 8_000_000_000).min(u64::MAX as u128) as u64
-}
-
 /// What the checks find of a port.
-fn found(port: Port) -> Tally {
+pub fn found(port: Port) -> Tally {
     let mut trial = Trial::new(&port, SEED);
     random(&mut trial, CALLS);
     trial.tally
@@ -718,7 +410,9 @@ fn everything_is_swept() {
 
 #[test]
 fn everything_is_asked_for_by_chance() {
-    let tally = found(RIGHT);
+    let mut trial = Trial::new(&RIGHT, SEED);
+    random(&mut trial, 2 * CALLS);
+    let tally = trial.tally;
     assert_eq!(tally.fewer_than(20), [""; 0], "{}", tally.report());
     assert!(tally.outside() > 50);
 }
@@ -738,180 +432,12 @@ fn what_was_not_asked_for_is_told() {
     assert!(tally.report().ends_with(" not reached\n"));
 }
 
-#[test]
-fn wrong_replies_are_noticed() {
-    assert_noticed(
-        Fault::Reply,
-        &[
-            ("of a run", other_run_reply as Run),
-            ("of a call", never_refuses_calls),
-        ],
-    );
-    assert_filter_noticed(
-        Fault::Reply,
-        &[
-            ("of a filter run", filter_takes_all as FilterRun),
-            ("with 24 bytes a pair", three_words_a_pair),
-        ],
-    );
-    let port = Port {
-        raise_inflight_high_slope: slope_off,
-        ..RIGHT
-    };
-    assert!(notices(port, Fault::Reply));
-}
-
-#[test]
-fn touched_bytes_are_noticed() {
-    assert_noticed(
-        Fault::Touched,
-        &[
-            ("refused run", touches_refused_run as Run),
-            ("refused run's answers", touches_refused_answers),
-            ("refused call", touches_refused_state),
-            ("calls", touches_calls),
-            ("past the answers", writes_past_answers),
-            ("after the state", writes_after_state),
-            ("before the state", writes_before_state),
-            ("after the calls", writes_after_calls),
-            ("before the answers", writes_before_answers),
-            ("after the answers", writes_after_answers),
-        ],
-    );
-    assert_lists_noticed(
-        Fault::Touched,
-        &events::SWEEPS,
-        &[
-            ("lists", touches_lists as RunLists),
-            ("after the lists", writes_after_lists),
-            ("before the lists", writes_before_lists),
-            ("after the answers", lists_write_after_answers),
-        ],
-    );
-    assert_filter_noticed(
-        Fault::Touched,
-        &[("after the samples", filter_writes_after as FilterRun)],
-    );
-    let port = Port {
-        raise_inflight_high_slope: slope_before,
-        ..RIGHT
-    };
-    assert!(notices(port, Fault::Touched));
-}
-
-#[test]
-fn wrong_answers_and_states_are_noticed() {
-    assert_noticed(
-        Fault::Content,
-        &[
-            ("number", answers_wrong_bit as Run),
-            ("record", answers_a_record),
-            ("out of bounds", leaves_bad_state),
-            ("within bounds", changes_more_at_events),
-            ("run and single calls", long_runs_differ),
-        ],
-    );
-    assert_filter_noticed(Fault::Content, &[("samples", filter_off as FilterRun)]);
-}
-
-#[test]
-fn wrong_reasons_are_noticed() {
-    assert_filter_noticed(
-        Fault::Content,
-        &[
-            ("off by a bit", reason_off as FilterRun),
-            ("replaced, by samples", replaced_where_samples_are_new),
-            ("replaced, by estimates", replaced_where_all_are_new),
-            ("unchanged, by samples", unchanged_where_samples_are),
-            ("once for twice", once_for_twice),
-            ("quarter and half swapped", quarter_and_half_swapped),
-            ("before the samples", reason_before_samples),
-            ("24 bytes a pair", three_words_a_pair),
-        ],
-    );
-}
-
-#[test]
-fn an_earlier_step_named_is_noticed() {
-    for (name, filter_run) in [
-        (
-            "second raised, then once",
-            earlier_step_named::<0> as FilterRun,
-        ),
-        ("third raised, then once", earlier_step_named::<1>),
-        ("third raised, then twice", earlier_step_named::<2>),
-        ("third raised, then quarter", earlier_step_named::<3>),
-    ] {
-        let port = Port {
-            filter_run,
-            ..RIGHT
-        };
-        assert!(found(port).count(Fault::Content) > 20, "{}", name);
-    }
-}
-
-#[test]
-fn wrong_numbers_are_noticed() {
-    for port in [
-        Port {
-            u64_to_f32: cut_to_f32,
-            ..RIGHT
-        },
-        Port {
-            scale: scale_in_whole_numbers,
-            ..RIGHT
-        },
-        Port {
-            f64_round_to_u64: cut_f64,
-            ..RIGHT
-        },
-        Port {
-            to_bytes_per_period: period_without_infinite,
-            ..RIGHT
-        },
-    ] {
-        assert!(notices(port, Fault::Content));
-    }
-}
-
-/// A test that ends the process, by a run with lists that reads or writes where it must not.
-macro_rules! ends_the_process {
-    ($name:ident, $run_lists:ident) => {
-        #[test]
-        #[ignore = "it ends the process, and another test starts it"]
-        fn $name() {
-            let run_lists = $run_lists;
-            found(Port { run_lists, ..RIGHT });
-        }
-    };
-}
-
-ends_the_process!(reads_past_lists, reads_after_lists);
-ends_the_process!(reads_ahead_of_lists, reads_before_lists);
-ends_the_process!(reads_no_words, reads_lists_of_no_words);
-ends_the_process!(writes_into_lists, writes_lists_back);
-
-#[test]
-#[ignore = "it ends the process, and another test starts it"]
-fn reads_past_a_range() {
-    found(Port {
-        run: reads_after_state,
-        ..RIGHT
-    });
-}
-
-#[test]
-fn a_read_or_write_where_none_may_be_ends_the_process() {
-    for name in [
-        "reads_past_a_range",
-        "reads_past_lists",
-        "reads_ahead_of_lists",
-        "reads_no_words",
-        "writes_into_lists",
-    ] {
+/// Fails for a test that doesn't end its process by a signal.
+pub fn assert_ends_the_process(names: &[&str]) {
+    for name in names {
         let tests = env::current_exe().expect("the tests have a path");
         let ended = Command::new(tests)
-            .args(["--ignored", "--exact", &format!("fakes::{}", name)])
+            .args(["--ignored", "--exact", name])
             .output()
             .expect("the tests can be started");
         let signal = ended.status.signal();

@@ -32,6 +32,7 @@ pub struct Port {
     pub filter_run: FilterRun,
     pub run: Run,
     pub run_lists: RunLists,
+    pub rtt_run: Run,
 }
 
 // SAFETY, for all calls: on numbers they take any. On bytes they take ranges that may be read and
@@ -104,5 +105,10 @@ impl Port {
         let (state, calls, answers) = (state.len(), both.len(), answers.len());
         let lists = start as *const u64;
         unsafe { (self.run_lists)(s, state, start, calls, lists, words, a, answers) }
+    }
+
+    pub fn rtt_run(&self, state: &mut Ground, calls: &mut Ground, answers: &mut Ground) -> u64 {
+        let (s, c, a) = (state.pointer(), calls.pointer(), answers.pointer());
+        unsafe { (self.rtt_run)(s, state.len(), c, calls.len(), a, answers.len()) }
     }
 }

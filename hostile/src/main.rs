@@ -1,9 +1,10 @@
 //! Gives the exported calls hostile input: random bytes, numbers at, past and far past their
 //! bounds, lengths that are off, several refusals at once. What is due is known beforehand, from a
 //! reading of documents 01 and 02 and the original that is independent of the port (`table`, `places`,
-//! `after`, `next`, `filter`, `slope`), and every lent range is guarded (`lent`).
+//! `after`, `next`, `estimator`, `filter`, `slope`), and every lent range is guarded (`lent`).
 
 mod after;
+mod aims;
 #[cfg(not(test))]
 mod archive;
 mod bounds;
@@ -12,6 +13,7 @@ mod checks;
 mod choose;
 mod dice;
 mod edges;
+mod estimator;
 mod events;
 #[cfg(test)]
 mod fakes;
@@ -24,24 +26,49 @@ mod limits;
 mod lists;
 mod meets;
 #[cfg(test)]
+mod misexports;
+#[cfg(test)]
+mod misfilters;
+#[cfg(test)]
+mod misjudges;
+#[cfg(test)]
+mod misleaves;
+#[cfg(test)]
 mod misnames;
+#[cfg(test)]
+mod misnotes;
 #[cfg(test)]
 mod misplaces;
 #[cfg(test)]
 mod misreads;
 #[cfg(test)]
+mod misruns;
+#[cfg(test)]
 mod missends;
+#[cfg(test)]
+mod mistakes;
+#[cfg(test)]
+mod mistimes;
+#[cfg(test)]
+mod mistouches;
 mod model;
+#[cfg(test)]
+mod named_by_hand;
 mod next;
 mod numbers;
 mod pages;
 mod places;
 mod reckon;
+#[cfg(test)]
+mod rows_by_hand;
+mod rtt;
 mod sends;
 mod slope;
 mod table;
 mod tally;
 mod trial;
+mod trips;
+mod turns;
 mod values;
 #[cfg(not(test))]
 mod watch;

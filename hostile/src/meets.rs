@@ -133,6 +133,9 @@ impl Met {
         let lists = if self.with_lists { ", with lists" } else { "" };
         match self.callee {
             Callee::Call(number) => format!("call {} {}{}", number, words::name(number), lists),
+            Callee::RttCall(number) => {
+                format!("rtt call {} {}", number, words::rtt_name(number))
+            }
             other => format!("{:?}{}", other, lists),
         }
     }
@@ -199,23 +202,29 @@ pub struct Meets {
     places: [u64; 5],
 }
 
-/// How many calls are told apart: each number up to the last call's and, as one, all above it.
+/// How many calls are told apart: each number up to the last call's and, as one, all above it. The same
+/// of the estimator's.
 const CALLS: usize = words::CALLS_END as usize + 1;
+const RTT_CALLS: usize = words::RTT_CALLS_END as usize + 1;
 
 impl Default for Meets {
     fn default() -> Self {
         let calls = |with_lists| {
             (0..CALLS as u64).map(move |number| Met::new(Callee::Call(number), with_lists))
         };
+        let rtt_calls =
+            (0..RTT_CALLS as u64).map(|number| Met::new(Callee::RttCall(number), false));
         let exports = [
             (Callee::Run, false),
             (Callee::Run, true),
+            (Callee::RttRun, false),
             (Callee::FilterRun, false),
             (Callee::Slope, false),
         ];
         let exports = exports.map(|(callee, with_lists)| Met::new(callee, with_lists));
+        let calls = calls(false).chain(calls(true)).chain(rtt_calls);
         Meets {
-            met: calls(false).chain(calls(true)).chain(exports).collect(),
+            met: calls.chain(exports).collect(),
             kinds: [0; 10],
             places: [0; 5],
         }
@@ -225,13 +234,16 @@ impl Default for Meets {
 impl Meets {
     /// Counts what a callee was given, by the rows that hold.
     pub fn count(&mut self, callee: Callee, with_lists: bool, given: &Given, rows: &Rows) {
+        const EXPORTS: usize = 2 * CALLS + RTT_CALLS;
         let at = match callee {
             Callee::Call(number) => {
                 with_lists as usize * CALLS + number.min(words::CALLS_END) as usize
             }
-            Callee::Run => 2 * CALLS + with_lists as usize,
-            Callee::FilterRun => 2 * CALLS + 2,
-            Callee::Slope => 2 * CALLS + 3,
+            Callee::RttCall(number) => 2 * CALLS + number.min(words::RTT_CALLS_END) as usize,
+            Callee::Run => EXPORTS + with_lists as usize,
+            Callee::RttRun => EXPORTS + 2,
+            Callee::FilterRun => EXPORTS + 3,
+            Callee::Slope => EXPORTS + 4,
         };
         self.met[at].count(given, rows);
         if rows.due() == 2 {
@@ -267,5 +279,28 @@ impl Meets {
         let ends = self.met.iter().map(|met| met.ends().count()).sum();
         let pairs = self.met.iter().map(|met| met.pairs().count()).sum();
         (ends, pairs)
+    }
+}
+
+#[cfg(test)]
+mod tests {
+    use super::*;
+
+    /// How many ends and pairs of refusals have to be met: of a run of the estimator and of each of its
+    /// calls, by hand, and in all.
+    #[test]
+    fn so_much_has_to_be_met() {
+        for (callee, ends, pairs) in [
+            (Callee::RttRun, 6, 5),
+            (Callee::RttCall(0), 4, 1),
+            (Callee::RttCall(1), 7, 6),
+            (Callee::RttCall(2), 2, 1),
+            (Callee::RttCall(3), 1, 1),
+        ] {
+            let met = Met::new(callee, false);
+            let sizes = (met.ends().count(), met.pairs().count());
+            assert_eq!(sizes, (ends, pairs), "{}", met.name());
+        }
+        assert_eq!(Meets::default().sizes(), (694, 2_762));
     }
 }

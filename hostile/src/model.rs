@@ -1,14 +1,12 @@
 //! Hostile runs of the model, with lists and without.
 
 use guovssalu_sys::table::call as calls;
-use guovssalu_sys::table::CALL_WORDS;
 use guovssalu_sys::table::STATE_WORDS;
 use guovssalu_sys::table::WORD_BYTES;
 
 use crate::after;
 use crate::checks;
 use crate::choose;
-use crate::choose::Beside;
 use crate::choose::Spoilt;
 use crate::dice::Dice;
 use crate::kinds;
@@ -24,7 +22,6 @@ use crate::tally::Export;
 use crate::tally::Fault;
 use crate::tally::Tally;
 use crate::trial::Trial;
-use crate::values;
 use crate::words;
 use crate::words::answer as a;
 use crate::words::call as c;
@@ -36,7 +33,7 @@ use crate::words::CALL_BYTES;
 use crate::words::STATE_BYTES;
 
 /// The longest ranges that are lent: more than a run of the most calls has.
-const LONGEST_STATE: usize = 1_200;
+pub const LONGEST_STATE: usize = 1_200;
 const LONGEST_CALLS: usize = 4_800;
 const LONGEST_ANSWERS: usize = 2_200;
 
@@ -45,10 +42,6 @@ const MOST: u64 = 10;
 
 /// After so many cases the state that is carried on is left for a fresh one.
 const CARRIED: u32 = 64;
-
-/// Of the calls but events, every word is swept in a run with lists at one number of so many: they
-/// don't look at lists. 63 numbers are swept, so that each word gets others than the one before it.
-const SPARSE: usize = 13;
 
 /// The ranges of bytes that a run is lent.
 #[derive(Clone, Copy)]
@@ -175,90 +168,10 @@ impl Model {
         self.run(trial, &lent);
     }
 
-    /// For every call, and for the first numbers that are none, each word of the state and each word
-    /// of the call in turn at each number where something turns, all else being good. With lists an
-    /// event takes its numbers from them, and of the other calls there are fewer.
-    pub fn each_word(&mut self, trial: &mut Trial) {
-        for number in 0..=words::CALLS_END {
-            self.each_word_of(trial, number, false, 1);
-            let every = if is_event(number) { 1 } else { SPARSE };
-            self.each_word_of(trial, number, true, every);
-        }
-    }
-
-    /// The same for one call, at one number of so many.
-    fn each_word_of(&mut self, trial: &mut Trial, number: u64, with_lists: bool, every: usize) {
-        for (index, value) in turns(STATE_WORDS).step_by(every) {
-            let (mut state, call, lists) = good(&mut trial.dice, number, with_lists);
-            state[index] = value;
-            self.one(trial, &state, &call, lists);
-        }
-        let words = turns(CALL_WORDS).filter(|&(index, _)| index != c::NUMBER);
-        for (index, value) in words.step_by(every) {
-            let (state, mut call, lists) = good(&mut trial.dice, number, with_lists);
-            call[index] = value;
-            self.one(trial, &state, &call, lists);
-        }
-    }
-
-    /// For every call, each word that it uses and that can be malformed, in each way in turn: alone, and
-    /// with something else that is refused. Events are made with lists, too.
-    pub fn each_malformed(&mut self, trial: &mut Trial) {
-        for number in 0..words::CALLS_END {
-            for with_lists in [false, true] {
-                if with_lists && !is_event(number) {
-                    continue;
-                }
-                for (place, kind) in kinds::used(number) {
-                    for (way, beside) in Beside::with_each(0..kinds::ways(kind)) {
-                        let (mut state, mut call, lists) =
-                            good(&mut trial.dice, number, with_lists);
-                        beside.put(&mut state, &mut call);
-                        kinds::malform(&mut call, place, kind, way);
-                        self.one(trial, &state, &call, lists);
-                    }
-                }
-            }
-        }
-    }
-
-    /// Each number that is no call's: alone, with something else that is refused, and between two
-    /// calls of a run.
-    pub fn each_no_call(&mut self, trial: &mut Trial) {
-        for with_lists in [false, true] {
-            for (number, beside) in Beside::with_each(choose::NO_CALLS.into_iter()) {
-                let (mut state, mut call, lists) = good(&mut trial.dice, number, with_lists);
-                let before = choose::good_call(&mut trial.dice, &state, calls::ON_PACKET_SENT);
-                let number = choose::number(&mut trial.dice);
-                let after = choose::good_call(&mut trial.dice, &state, number);
-                beside.put(&mut state, &mut call);
-                self.one(trial, &state, &call, lists.clone());
-                let run = [before, call, after];
-                let lent = Lent::new(&mut trial.dice, &state, &run, lists);
-                self.run(trial, &lent);
-            }
-        }
-    }
-
     /// One call in a state, with ranges of the right lengths.
     pub fn one(&mut self, trial: &mut Trial, state: &State, call: &Call, lists: Option<Vec<u64>>) {
         let lent = Lent::new(&mut trial.dice, state, &[*call], lists);
         self.run(trial, &lent);
-    }
-
-    /// Each of the three ranges of bytes in turn at each length, the others being right for one call,
-    /// with lists and without.
-    pub fn each_length(&mut self, trial: &mut Trial) {
-        let ranges = Range::ALL.map(|range| [(range, false), (range, true)]);
-        for length in 0..=LONGEST_STATE {
-            for (range, with_lists) in ranges.concat() {
-                let number = choose::number(&mut trial.dice);
-                let (state, call, lists) = good(&mut trial.dice, number, with_lists);
-                let mut lent = Lent::new(&mut trial.dice, &state, &[call], lists);
-                choose::resize(&mut trial.dice, lent.range(range), length);
-                self.run(trial, &lent);
-            }
-        }
     }
 
     /// A state and calls to lend, the state of the right length.
@@ -480,24 +393,8 @@ impl Model {
 }
 
 /// Whether it is the number of an event, which has acked numbers.
-fn is_event(number: u64) -> bool {
+pub fn is_event(number: u64) -> bool {
     number == calls::ON_CONGESTION_EVENT_START
-}
-
-/// A good state, a good call in it, and lists if they are asked for; an event takes its numbers from
-/// these.
-fn good(dice: &mut Dice, number: u64, with_lists: bool) -> (State, Call, Option<Vec<u64>>) {
-    let state = choose::good_state(dice);
-    let mut call = choose::good_call(dice, &state, number);
-    if !with_lists {
-        return (state, call, None);
-    }
-    let mut lists = lists::chosen(dice, &state);
-    if is_event(number) {
-        lists.resize(lists.len().max(lists::FEWEST), 0);
-        lists::place(dice, &state, &mut call, &mut lists);
-    }
-    (state, call, Some(lists))
 }
 
 /// A call for a run, good or hostile. Where no number that was sent can end the round there are more
@@ -575,11 +472,6 @@ fn count_acked(tally: &mut Tally, before: &State, call: &Call, lent: &Lent, rows
             tally.never_sent(in_a_list, rows);
         }
     }
-}
-
-/// Each of so many words, with each number where something turns.
-fn turns(count: usize) -> impl Iterator<Item = (usize, u64)> {
-    (0..count).flat_map(|index| values::turns().map(move |value| (index, value)))
 }
 
 /// A case in readable form: lengths, the words made hostile, and the words that aren't 0.

@@ -8,6 +8,8 @@
 
 use guovssalu_sys::table::argument as arg;
 use guovssalu_sys::table::call as calls;
+use guovssalu_sys::table::rtt_argument as rtt;
+use guovssalu_sys::table::rtt_call as rtt_calls;
 use guovssalu_sys::table::CALL_WORDS;
 
 use crate::bounds::Bound;
@@ -43,6 +45,8 @@ use Field::Whole;
 pub enum Callee {
     Call(u64),
     Run,
+    RttCall(u64),
+    RttRun,
     FilterRun,
     Slope,
 }
@@ -230,10 +234,32 @@ fn arguments(number: u64) -> Option<&'static [Argument]> {
     })
 }
 
+/// The same of a call on the estimator of round-trip times, in the order of rtt.rs, whose moment is not
+/// handed in. They are tested at the first sample, too.
+fn rtt_arguments(number: u64) -> Option<&'static [Argument]> {
+    Some(match number {
+        rtt_calls::NEW => &[
+            (1, &[(rtt::new::INITIAL_RTT, Upto(Length))]),
+            (2, &[(rtt::new::MAX_ACK_DELAY, Upto(Length))]),
+        ],
+        rtt_calls::UPDATE_RTT => &[
+            (1, &[(rtt::update_rtt::LATEST_RTT, Upto(Length))]),
+            (2, &[(rtt::update_rtt::ACK_DELAY, Upto(Length))]),
+            (3, &[(rtt::update_rtt::HANDSHAKE_CONFIRMED, Flag)]),
+        ],
+        rtt_calls::UPDATE_MAX_ACK_DELAY => &[(
+            1,
+            &[(rtt::update_max_ack_delay::MAX_ACK_DELAY, Upto(Length))],
+        )],
+        _ => return None,
+    })
+}
+
 /// The arguments of the exported functions, up to the last that is not free: the state and the calls of
-/// a run, with lists after them or not; a filter's window, and pairs; the slope's rounds, which are row
-/// 1's, and a window.
+/// a run, with lists after them or not, and of a run of the estimator; a filter's window, and pairs; the
+/// slope's rounds, which are row 1's, and a window.
 const RUN: &[Argument] = &[(1, &[(0, Exactly(408))]), (2, &[(1, Whole(392))])];
+const RTT_RUN: &[Argument] = &[(1, &[(0, Exactly(48))]), (2, &[(1, Whole(32))])];
 const FILTER_RUN: &[Argument] = &[(1, &[]), (2, &[(0, Whole(16))])];
 const SLOPE: &[Argument] = &[(1, &[]), (2, &[(0, Upto(Window))])];
 
@@ -271,6 +297,8 @@ pub fn each_flaw(callee: Callee, mut look: impl FnMut(Flaw)) {
     let arguments = match callee {
         Callee::Call(number) => arguments(number),
         Callee::Run => Some(RUN),
+        Callee::RttCall(number) => rtt_arguments(number),
+        Callee::RttRun => Some(RTT_RUN),
         Callee::FilterRun => Some(FILTER_RUN),
         Callee::Slope => Some(SLOPE),
     };
@@ -337,255 +365,21 @@ pub fn record_ok(record: &[u64]) -> bool {
 
 #[cfg(test)]
 mod tests {
-    use guovssalu_sys::table::STATE_WORDS;
-
     use super::*;
-
-    const ONE: u64 = 0x3f80_0000;
-    const EIGHT: u64 = 0x4100_0000;
-
-    /// A word, the last number that is allowed there, and the kind that names the next.
-    type ByHand = (usize, u64, u64);
-
-    /// The record and the sample, from the documents: of a pair both words.
-    const EVENT_BY_HAND: [ByHand; 16] = [
-        (22, 1 << 62, 9),
-        (23, 1 << 40, 1),
-        (24, 1 << 40, 2),
-        (25, 1 << 40, 2),
-        (26, 1 << 62, 5),
-        (27, 1 << 62, 5),
-        (28, 1, 8),
-        (29, 1, 8),
-        (30, 1, 8),
-        (31, 1 << 40, 3),
-        (32, 1, 8),
-        (33, 1 << 36, 4),
-        (34, 1, 8),
-        (35, 1, 8),
-        (36, 1 << 62, 5),
-        (37, 1 << 40, 2),
-    ];
-    const SAMPLE_BY_HAND: [ByHand; 17] = [
-        (1, 1, 8),
-        (2, 1 << 40, 3),
-        (3, 1, 8),
-        (4, 1 << 40, 3),
-        (5, 1, 8),
-        (6, 1 << 40, 3),
-        (7, 1, 8),
-        (8, 1, 8),
-        (9, 1 << 36, 4),
-        (10, 1 << 40, 2),
-        (11, 1 << 40, 2),
-        (12, 1, 8),
-        (13, 1, 8),
-        (14, 1 << 62, 5),
-        (15, 1 << 40, 2),
-        (16, 1 << 62, 5),
-        (17, 1 << 62, 5),
-    ];
-
-    /// A call, a place, and what can be wrong there: from the documents, in the order of the places.
-    const BY_HAND: [(u64, u64, &[ByHand]); 31] = [
-        (0, 1, &[(2, 1 << 36, 4)]),
-        (0, 2, &[(1, 1 << 62, 9)]),
-        (1, 1, &[(1, 1 << 62, 9)]),
-        (1, 2, &[(2, 1 << 40, 2)]),
-        (1, 4, &[(4, 1 << 40, 2)]),
-        (3, 1, &[(18, 3, 8)]),
-        (3, 2, &EVENT_BY_HAND),
-        (3, 3, &SAMPLE_BY_HAND),
-        (4, 1, &EVENT_BY_HAND),
-        (5, 1, &EVENT_BY_HAND),
-        (6, 1, &EVENT_BY_HAND),
-        (7, 1, &EVENT_BY_HAND),
-        (9, 1, &[(1, EIGHT, 7)]),
-        (10, 1, &[(1, 1 << 40, 3)]),
-        (10, 2, &[(2, EIGHT, 7)]),
-        (11, 1, &[(1, 1 << 40, 3)]),
-        (15, 1, &[(1, EIGHT, 7)]),
-        (16, 1, &[(1, EIGHT, 7)]),
-        (17, 1, &[(1, 1 << 40, 2)]),
-        (18, 1, &[(1, 1 << 40, 2)]),
-        (22, 1, &[(1, 1 << 36, 4)]),
-        (40, 1, &[(1, 1, 8)]),
-        (40, 2, &[(2, 1, 8)]),
-        (40, 3, &[(3, 1 << 62, 9)]),
-        (41, 1, &[(1, 1 << 62, 9)]),
-        (42, 1, &[(1, 30, 6)]),
-        (42, 2, &[(2, 1 << 62, 9)]),
-        (43, 1, &[(1, 1 << 62, 9)]),
-        (43, 2, &[(2, 1 << 40, 1)]),
-        (45, 1, &[(1, 1 << 40, 1)]),
-        (8, 0, &[]),
-    ];
-
-    /// The words that say whether the next is set.
-    fn is_set(number: u64, word: usize) -> bool {
-        matches!(word, 30 | 32) || (number == 3 && matches!(word, 1 | 3 | 5 | 8))
-    }
-
-    /// A call without flaws: zeros, but for gains of 1.
-    fn plain(number: u64) -> [u64; CALL_WORDS] {
-        let mut call = [0; CALL_WORDS];
-        call[0] = number;
-        match number {
-            9 | 15 | 16 => call[1] = ONE,
-            10 => call[2] = ONE,
-            _ => {}
-        }
-        call
-    }
-
-    /// The reply of row 2 to a call with these words, in a state whose minimum round trip is of this
-    /// moment; 0 where there is no flaw.
-    fn reply(call: &[u64], moment: u64) -> u64 {
-        let mut state = [0; STATE_WORDS];
-        state[7] = moment;
-        let given = Given {
-            state: &state,
-            words: call,
-            lists: &[],
-        };
-        let flaws = flaws(Callee::Call(call[0]));
-        let first = flaws.iter().find(|flaw| flaw.holds(&given));
-        first.map_or(0, |flaw| flaw.named.reply())
-    }
-
-    #[test]
-    fn each_word_is_named_as_by_hand() {
-        for (number, place, words) in BY_HAND {
-            for &(word, last, kind) in words {
-                let mut call = plain(number);
-                if word > 0 && is_set(number, word - 1) {
-                    call[word - 1] = 1;
-                }
-                call[word] = last;
-                assert_eq!(reply(&call, 0), 0, "call {}, word {}", number, word);
-                call[word] += 1;
-                let due = 2 + (kind << 8) + (place << 16);
-                assert_eq!(reply(&call, 0), due, "call {}, word {}", number, word);
-            }
-        }
-    }
-
-    /// By hand there are as many flaws, and in the same order, but for the high bits of a gain and for
-    /// the postponed moment.
-    #[test]
-    fn no_word_is_left_out() {
-        for number in (0..46).filter(|number| ![2, 39].contains(number)) {
-            let of_call = BY_HAND.iter().filter(|(call, ..)| *call == number);
-            let by_hand = of_call.flat_map(|&(_, place, words)| {
-                let words = words.iter();
-                words.map(move |&(word, _, kind)| (place, kind, word))
-            });
-            let mut flaws = flaws(Callee::Call(number));
-            flaws.retain(|flaw| !matches!(flaw.wrong, Wrong::HighBits | Wrong::Postponed));
-            let flaws = flaws.iter().map(|flaw| {
-                let held = (flaw.wrong == Wrong::HeldAbove) as usize;
-                let Named { bound, place } = flaw.named;
-                (place, bound as u64, flaw.word + held)
-            });
-            assert!(by_hand.eq(flaws), "call {}", number);
-        }
-    }
 
     /// Places are counted from 1, and none is left out.
     #[test]
     fn places_are_counted_from_one() {
-        for number in (0..46).filter_map(arguments) {
+        let all = (0..46).filter_map(arguments);
+        for number in all.chain((0..3).filter_map(rtt_arguments)) {
             let places = number.iter().map(|&(place, _)| place);
             assert!(places.eq(1..=number.len() as u64));
         }
         for number in [2, 39, 46, 47, 1 << 32, u64::MAX] {
             assert!(arguments(number).is_none(), "{}", number);
         }
-    }
-
-    /// A call, words of it, the stored moment of the minimum round trip, and the reply.
-    type Worked = (u64, &'static [(usize, u64)], u64, u64);
-
-    const PAST: u64 = (1 << 62) + 1;
-    const LARGE: u64 = 1 << 41;
-    const LONG: u64 = (1 << 36) + 1;
-    const NAN: u64 = 0x7fc0_0000;
-
-    const WORKED: [Worked; 42] = [
-        (2, &[], 0, 2050),
-        (39, &[], 0, 2050),
-        (46, &[(1, PAST)], 0, 2050),
-        (u64::MAX, &[], 0, 2050),
-        (8, &[(1, PAST), (2, PAST), (23, PAST)], 1 << 62, 0),
-        (1, &[(1, PAST), (2, LARGE)], 0, 67_842),
-        (1, &[(1, PAST)], 0, 0x1_0902),
-        (1, &[(2, LARGE), (4, LARGE)], 0, 0x2_0202),
-        (1, &[(3, u64::MAX), (4, LARGE)], 0, 0x4_0202),
-        (0, &[(1, PAST), (2, LONG)], 0, 66_562),
-        (0, &[(1, PAST), (2, 1 << 36)], 0, 0x2_0902),
-        (3, &[(23, LARGE), (1, 1), (2, LARGE)], 0, 131_330),
-        (3, &[(22, PAST), (23, LARGE)], 0, 0x2_0902),
-        (3, &[(18, 4), (22, PAST), (1, 2)], 0, 67_586),
-        (3, &[(1, 1), (2, LARGE), (17, PAST)], 0, 0x3_0302),
-        (3, &[(1, 2), (2, LARGE)], 0, 0x3_0802),
-        (3, &[(1, 0), (2, 1)], 0, 0x3_0802),
-        (3, &[(8, 1), (9, LONG), (10, LARGE)], 0, 0x3_0402),
-        (3, &[(12, 0), (14, PAST), (16, PAST)], 0, 0x3_0502),
-        (3, &[(12, 0), (15, LARGE)], 0, 0x3_0202),
-        (3, &[(13, 2), (12, 2)], 0, 0x3_0802),
-        (3, &[(11, LARGE), (7, 2)], 0, 0x3_0802),
-        (3, &[(11, LARGE), (12, 2)], 0, 0x3_0202),
-        (4, &[(27, PAST), (28, 2)], 0, 0x1_0502),
-        (4, &[(28, 2), (30, 1), (31, LARGE)], 0, 0x1_0802),
-        (4, &[(30, 1), (31, LARGE), (32, 2)], 0, 0x1_0302),
-        (5, &[(32, 1), (33, LONG), (34, 2)], 0, 0x1_0402),
-        (6, &[(1, u64::MAX), (37, LARGE)], 0, 0x1_0202),
-        (7, &[(34, 0), (36, PAST)], 0, 0x1_0502),
-        (9, &[(1, NAN)], 0, 0x1_0702),
-        (9, &[(1, NAN | 1 << 32)], 0, 0x1_0802),
-        (10, &[(1, LARGE), (2, NAN)], 0, 0x1_0302),
-        (10, &[(2, 0x8000_0000)], 0, 0x2_0702),
-        (10, &[(2, ONE | 1 << 63)], 0, 0x2_0802),
-        (17, &[(1, u64::MAX)], 0, 0),
-        (18, &[(1, u64::MAX - 1)], 0, 0x1_0202),
-        (22, &[(1, LONG)], 1 << 62, 66_562),
-        (22, &[(1, 1)], 1 << 62, 67_842),
-        (22, &[(1, 0)], 1 << 62, 0),
-        (40, &[(1, 2), (2, 2), (3, PAST)], 0, 0x1_0802),
-        (42, &[(1, 31), (2, PAST)], 0, 0x1_0602),
-        (43, &[(1, PAST), (2, LARGE)], 0, 0x1_0902),
-    ];
-
-    #[test]
-    fn worked_calls_give_their_replies() {
-        for (number, words, moment, due) in WORKED {
-            let mut call = plain(number);
-            for &(at, word) in words {
-                call[at] = word;
-            }
-            assert_eq!(reply(&call, moment), due, "call {}, {:?}", number, words);
-        }
-    }
-
-    #[test]
-    fn worked_exports_give_their_replies() {
-        const RUN: Callee = Callee::Run;
-        for (callee, numbers, due) in [
-            (RUN, &[408, 392][..], 0),
-            (RUN, &[408, 0], 0),
-            (RUN, &[400, 392], 67_586),
-            (RUN, &[409, 393], 67_586),
-            (RUN, &[408, 391], 0x2_0802),
-            (Callee::FilterRun, &[48], 0),
-            (Callee::FilterRun, &[47], 133_122),
-            (Callee::Slope, &[1 << 40], 0),
-            (Callee::Slope, &[(1 << 40) + 1], 131_330),
-        ] {
-            let given = Given::numbers(numbers);
-            let flaws = flaws(callee);
-            let first = flaws.iter().find(|flaw| flaw.holds(&given));
-            let reply = first.map_or(0, |flaw| flaw.named.reply());
-            assert_eq!(reply, due, "{:?}, {:?}", callee, numbers);
+        for number in [3, 46, 256, 257, 1 << 32, u64::MAX] {
+            assert!(rtt_arguments(number).is_none(), "{}", number);
         }
     }
 }

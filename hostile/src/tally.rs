@@ -5,6 +5,8 @@ use std::sync::atomic::Ordering;
 
 use guovssalu_sys::table::reason;
 
+use crate::aims::Aims;
+use crate::estimator::Step;
 use crate::limits;
 use crate::limits::Greatest;
 use crate::limits::WAYS;
@@ -20,6 +22,9 @@ pub static MADE: AtomicU64 = AtomicU64::new(0);
 /// So many wrong cases are told.
 const TOLD: usize = 10;
 
+/// So many counts at most are shown one by one.
+const SHOWN: usize = 15;
+
 /// What is counted apart: each exported call, and the calls within runs that were made alone.
 #[derive(Clone, Copy, PartialEq, Debug)]
 pub enum Export {
@@ -27,6 +32,8 @@ pub enum Export {
     OneCall,
     RunLists,
     OneCallOfLists,
+    RttRun,
+    OneRttCall,
     FilterRun,
     Slope,
     ToF32,
@@ -38,11 +45,16 @@ pub enum Export {
     BytesPerPeriod,
 }
 
-const NAMES: [&str; 13] = [
+/// How many there are.
+const EXPORTS: usize = 15;
+
+const NAMES: [&str; EXPORTS] = [
     "guovssalu_run",
     "  of which one call, its own reply",
     "guovssalu_run_lists",
     "  of which one call, its own reply",
+    "guovssalu_rtt_run",
+    "  calls in those done, their replies",
     "guovssalu_filter_run",
     "guovssalu_raise_inflight_high_slope",
     "guovssalu_u64_to_f32",
@@ -56,25 +68,26 @@ const NAMES: [&str; 13] = [
 
 impl Export {
     /// Those that have a reply.
-    pub const REPLYING: [Export; 6] = [
+    pub const REPLYING: [Export; 8] = [
         Export::Run,
         Export::OneCall,
         Export::RunLists,
         Export::OneCallOfLists,
+        Export::RttRun,
+        Export::OneRttCall,
         Export::FilterRun,
         Export::Slope,
     ];
 
-    /// Whether it is a call within a run, which is counted with the run.
-    fn is_within(self) -> bool {
-        matches!(self, Export::OneCall | Export::OneCallOfLists)
-    }
+    /// Those that are calls within a run, which are counted with the run.
+    const WITHIN: [Export; 3] = [Export::OneCall, Export::OneCallOfLists, Export::OneRttCall];
 
     /// The replies that have to be met.
     pub fn replies(self) -> &'static [u64] {
         match self {
-            Export::Run | Export::RunLists | Export::Slope => &[0, 1, 2, 7],
+            Export::Run | Export::RunLists | Export::RttRun | Export::Slope => &[0, 1, 2, 7],
             Export::OneCall | Export::OneCallOfLists => &[0, 1, 2, 3, 4, 10, 5],
+            Export::OneRttCall => &[0, 1, 2],
             Export::FilterRun => &[0, 2, 3, 7],
             _ => &[],
         }
@@ -131,14 +144,15 @@ pub enum Fault {
 
 #[derive(Default)]
 pub struct Tally {
-    calls: [u64; 13],
-    replies: [[u64; REPLIES]; 13],
+    calls: [u64; EXPORTS],
+    replies: [[u64; REPLIES]; EXPORTS],
     reasons: [u64; 8],
     rounds: [[u64; WAYS]; 2],
     sends: [[u64; WAYS]; 2],
     beside: [[u64; BESIDE.len()]; 2],
     of_run: [u64; OF_RUN.len()],
     outside: u64,
+    aims: Aims,
     meets: Meets,
     overlaps: u64,
     malformed: u64,
@@ -153,7 +167,7 @@ impl Tally {
     /// Counts a call without a reply.
     pub fn answered(&mut self, export: Export) {
         self.calls[export as usize] += 1;
-        if !export.is_within() {
+        if !Export::WITHIN.contains(&export) {
             MADE.fetch_add(1, Ordering::Relaxed);
         }
     }
@@ -176,6 +190,11 @@ impl Tally {
     /// Counts what a callee was given, with lists or without, by the rows that hold.
     pub fn asked(&mut self, callee: Callee, with_lists: bool, given: &Given, rows: &Rows) {
         self.meets.count(callee, with_lists, given, rows);
+    }
+
+    /// Counts a run of the estimator by its rows, and its calls, if it is done.
+    pub fn estimated(&mut self, rows: &Rows, steps: &[Step]) {
+        self.aims.count(rows, steps);
     }
 
     /// Counts a reason that was due in a filter run.
@@ -234,8 +253,8 @@ impl Tally {
 
     /// How many exported calls were made.
     pub fn made(&self) -> u64 {
-        let within = [Export::OneCall, Export::OneCallOfLists];
-        let within: u64 = within.iter().map(|&one| self.calls[one as usize]).sum();
+        let within = Export::WITHIN.iter();
+        let within: u64 = within.map(|&one| self.calls[one as usize]).sum();
         self.calls.iter().sum::<u64>() - within
     }
 
@@ -317,6 +336,8 @@ impl Tally {
     pub fn missing(&self) -> Vec<String> {
         let mut missing = self.fewer_than(1);
         missing.extend(self.meets.missing());
+        let excluded = self.aims.excluded().into_iter();
+        missing.extend(excluded.map(|name| format!("{}: it was, and can't be", name)));
         missing
     }
 
@@ -333,7 +354,7 @@ impl Tally {
         fewer.map(|(name, _)| name).collect()
     }
 
-    /// What is counted of events by their numbers.
+    /// What is counted of events by their numbers, and of the estimator's calls.
     fn counted(&self) -> Vec<Counted> {
         let rounds = by_place("events done", limits::BY_END, &self.rounds);
         let sends = by_place(
@@ -355,7 +376,10 @@ impl Tally {
             OF_RUN.map(|row| format!("with {}", row)),
             &self.of_run,
         );
-        rounds.chain(sends).chain(beside).chain([of_run]).collect()
+        let aims = self.aims.all().into_iter();
+        let aims = aims.map(|(title, counts)| Counted { title, counts });
+        let events = rounds.chain(sends).chain(beside).chain([of_run]);
+        events.chain(aims).collect()
     }
 
     /// The calls and replies, a line for each exported call.
@@ -402,13 +426,17 @@ impl Counted {
         }
     }
 
-    /// All of them in a line.
+    /// All of them in a line, or, if they are many, how many and the least.
     fn line(&self) -> String {
         let counts = self.counts.iter();
-        let named: Vec<String> = counts
-            .map(|(name, count)| format!("{} {}", count, name))
-            .collect();
-        format!("{}: {}\n", self.title, named.join(", "))
+        let told = |(name, count): &(String, u64)| format!("{} {}", count, name);
+        let line = match counts.clone().min_by_key(|(_, count)| count) {
+            Some(least) if counts.len() > SHOWN => {
+                format!("{}, the rarest {}", counts.len(), told(least))
+            }
+            _ => counts.map(told).collect::<Vec<_>>().join(", "),
+        };
+        format!("{}: {}\n", self.title, line)
     }
 
     /// Each with all of its name.

@@ -1,9 +1,13 @@
-//! The words of states, calls and answers, as docs/LAYOUT.md numbers them.
+//! The words of states, calls and answers, as docs/LAYOUT.md numbers them. Those of the estimator of
+//! round-trip times have its prefix; their places are used as docs/calls.txt names them.
 
 use guovssalu_sys::table;
 
 pub use guovssalu_sys::table::ANSWER_BYTES;
 pub use guovssalu_sys::table::CALL_BYTES;
+pub use guovssalu_sys::table::RTT_ANSWER_BYTES;
+pub use guovssalu_sys::table::RTT_CALL_BYTES;
+pub use guovssalu_sys::table::RTT_STATE_BYTES;
 pub use guovssalu_sys::table::STATE_BYTES;
 pub use guovssalu_sys::table::UNSET;
 
@@ -12,8 +16,13 @@ pub type Call = [u64; table::CALL_WORDS];
 pub type Answer = [u64; table::ANSWER_WORDS];
 pub type Record = [u64; table::EVENT_WORDS];
 
+pub type RttState = [u64; table::RTT_STATE_WORDS];
+pub type RttCall = [u64; table::RTT_CALL_WORDS];
+pub type RttAnswer = [u64; table::RTT_ANSWER_WORDS];
+
 /// The first number after the last call's.
 pub const CALLS_END: u64 = table::call::ALL[table::call::ALL.len() - 1] + 1;
+pub const RTT_CALLS_END: u64 = table::rtt_call::ALL[table::rtt_call::ALL.len() - 1] + 1;
 
 /// The words of a state; of a pair the first.
 pub mod state {
@@ -135,8 +144,18 @@ pub mod answer {
 
 /// The name of a call.
 pub fn name(number: u64) -> &'static str {
-    let place = table::call::ALL.iter().position(|&call| call == number);
-    place.map_or("no call", |place| table::call::NAMES[place])
+    named(number, &table::call::ALL, &table::call::NAMES)
+}
+
+/// The name of a call on the estimator.
+pub fn rtt_name(number: u64) -> &'static str {
+    named(number, &table::rtt_call::ALL, &table::rtt_call::NAMES)
+}
+
+/// The name that stands where a number does.
+fn named(number: u64, numbers: &[u64], names: &[&'static str]) -> &'static str {
+    let place = numbers.iter().position(|&call| call == number);
+    place.map_or("no call", |place| names[place])
 }
 
 /// Words as bytes, the lowest byte first.

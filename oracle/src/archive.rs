@@ -52,3 +52,18 @@ pub fn run_bytes(state: &mut [u8], calls: &[u8], lists: Option<&[u64]>, answers:
         }
     }
 }
+
+/// A run of an estimator over these bytes; its reply.
+pub fn rtt_run(state: &mut [u8], calls: &[u8], answers: &mut [u8]) -> u64 {
+    // SAFETY: slices, none in another, each with its length.
+    unsafe {
+        guovssalu_sys::guovssalu_rtt_run(
+            state.as_mut_ptr(),
+            state.len(),
+            calls.as_ptr(),
+            calls.len(),
+            answers.as_mut_ptr(),
+            answers.len(),
+        )
+    }
+}

@@ -39,12 +39,14 @@ enum What {
 }
 
 impl Difference {
-    /// Whether the other one is in the same word of the same call.
+    /// Whether the other one is in the same word of the same call. Of an estimator's
+    /// run it may be in any word, since they move when one of its calls is dropped.
     fn is_like(&self, other: &Difference) -> bool {
         let call = |difference: &Difference| difference.run.last().map(text::name);
+        let moves = matches!(self.run.last(), Some(Step::RttRun(_)));
         match (&self.what, &other.what) {
             (What::Word { word, .. }, What::Word { word: same, .. }) => {
-                word == same && call(self) == call(other)
+                call(self) == call(other) && (moves || word == same)
             }
             (What::Silence(_), What::Silence(_)) => true,
             _ => false,
@@ -202,6 +204,7 @@ fn conclude(comparison: Comparison, difference: Option<Difference>) -> bool {
         tally,
         unsent,
         named,
+        rtt,
         ..
     } = &comparison.world;
     if !tally.is_empty() {
@@ -211,10 +214,12 @@ fn conclude(comparison: Comparison, difference: Option<Difference>) -> bool {
     }
     unsent.tell("");
     named.tell("");
+    rtt.tell("");
     let Some(difference) = difference else {
         tally.hold();
         unsent.hold();
         named.hold();
+        rtt.hold();
         println!("{calls} calls, 0 differences");
         return true;
     };
@@ -249,7 +254,7 @@ fn tell(difference: &Difference) {
 }
 
 /// A difference that is left when calls are dropped, many at once and then one
-/// by one, and then numbers that are put. The first step stays.
+/// by one, and then parts of them. The first step stays.
 fn shortest(port: &mut Port, mut found: Difference, begins: Begins) -> Difference {
     // Another difference of the kind, in a run that isn't longer.
     let mut differs = |steps: Vec<Step>, found: &Difference| {
@@ -278,24 +283,28 @@ fn shortest(port: &mut Port, mut found: Difference, begins: Begins) -> Differenc
     simplest(found, differs)
 }
 
-/// A difference that is left when numbers that are put are dropped one by one.
+/// A difference that is left when numbers that are put, and the calls of an
+/// estimator's run, are dropped one by one.
 fn simplest(
     mut found: Difference,
     mut differs: impl FnMut(Vec<Step>, &Difference) -> Option<Difference>,
 ) -> Difference {
-    let (mut at, mut pair) = (0, 0);
+    let (mut at, mut part) = (0, 0);
     while at < found.run.len() {
         let mut run = found.run.clone();
         match &mut run[at] {
-            Step::Put(pairs) if pair < pairs.len() => pairs.remove(pair),
+            Step::Put(pairs) if part < pairs.len() => {
+                pairs.remove(part);
+            }
+            Step::RttRun(lent) if part < lent.whole() => lent.drop(part),
             _ => {
-                (at, pair) = (at + 1, 0);
+                (at, part) = (at + 1, 0);
                 continue;
             }
         };
         match differs(run, &found) {
             Some(simpler) => found = simpler,
-            None => pair += 1,
+            None => part += 1,
         }
     }
     found

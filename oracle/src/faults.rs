@@ -192,7 +192,7 @@ fn malformed_parameters(run: &mut Run) {
 
 /// Numbers that are no call's.
 fn no_calls(run: &mut Run) {
-    for number in [2, 39, 50, 100, HIGH + 1, u64::MAX] {
+    for number in [2, 39, 51, 100, HIGH + 1, u64::MAX] {
         run.expect_words(bad(8, 0), Call::Bdp0, &[(NUMBER_IN_CALL, number)]);
     }
 }

@@ -18,6 +18,7 @@ use crate::frame::Asked;
 use crate::frame::Frame;
 use crate::number_steps::NumberSteps;
 use crate::replies;
+use crate::rtt_steps::RttSteps;
 use crate::world::Step;
 use crate::world::World;
 use crate::world::FILLER;
@@ -57,14 +58,16 @@ impl Files {
         asked.last().map(|asked| asked.answer)
     }
 
-    /// Makes this many calls on windowed filters, as many on numbers and as
-    /// many of the exported filter and slope.
+    /// Makes this many calls on windowed filters, as many on numbers, as many of
+    /// the exported filter and slope, and as many runs of the estimator.
     pub fn choose_others(&mut self, seed: u64, mut numbers: NumberSteps, each: u64) {
         let mut filters = FilterSteps::new(seed);
         self.take(each, |world| filters.next(world));
         self.take(each, |_| numbers.next());
         let mut exports = ExportSteps::new(seed);
         self.take(each, |_| exports.next());
+        let mut rtt = RttSteps::new(seed);
+        self.take(each, |_| rtt.next());
     }
 
     /// Takes steps until this many calls are made.
@@ -118,9 +121,11 @@ impl Files {
         }
         self.world.unsent.tell("frames: ");
         self.world.named.tell("frames: ");
+        self.world.rtt.tell("frames: ");
         self.world.tally.hold();
         self.world.unsent.hold();
         self.world.named.hold();
+        self.world.rtt.hold();
         let (asked, answered) = (self.requests.len(), self.answers.len());
         eprintln!(
             "frames: {} calls, {asked} and {answered} bytes",

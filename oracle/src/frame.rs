@@ -30,12 +30,14 @@ pub const EVENT: u64 = table::call::ON_CONGESTION_EVENT_START;
 
 /// The numbers of calls that are not the model's: on a windowed filter, of
 /// functions on numbers, of the exported run of a filter, of the exported
-/// slope, and of what puts numbers into the state; that of the last but one,
-/// in a frame's first call, also has the answers summed up.
+/// slope, of the exported run of an estimator, and of what puts numbers into the
+/// state; that of the last but one, in a frame's first call, also has the answers
+/// summed up.
 pub const WINDOWED_FILTER: u64 = 46;
 pub const NUMBERS: u64 = 47;
 pub const FILTER_RUN: u64 = 48;
 pub const SLOPE: u64 = 49;
+pub const RTT_RUN: u64 = 50;
 pub const SUMMED: u64 = 98;
 pub const PUT: u64 = 99;
 
@@ -47,6 +49,21 @@ pub const MOST_PUT: usize = (CALL - 2) / 2;
 /// that a run of a filter is given: one pair more than it has room for.
 pub const MEMORY: usize = table::WORD_BYTES * (ANSWER - table::EVENT_IN_ANSWER);
 pub const MOST_PAIRS: u64 = (table::PAIR_BYTES * (MEMORY / table::SAMPLES_BYTES + 1)) as u64;
+
+/// The words of the state's memory of an estimator, one more than a state has, and
+/// where they and the calls after them stand in a call. In an answer the state's
+/// memory is followed by that of the answers.
+pub const RTT_STATE: usize = table::RTT_STATE_WORDS + 1;
+pub const RTT_STATE_IN_CALL: usize = 4;
+pub const RTT_CALLS_IN_CALL: usize = RTT_STATE_IN_CALL + RTT_STATE;
+
+/// The most bytes of state, of calls and of answers that a run of an estimator is
+/// lent.
+pub const MOST_RTT: [usize; 3] = [
+    table::WORD_BYTES * RTT_STATE,
+    table::WORD_BYTES * (CALL - RTT_CALLS_IN_CALL),
+    MEMORY - table::WORD_BYTES * RTT_STATE,
+];
 
 /// A call: its number, its arguments, the record and the parameters.
 pub type CallWords = [u64; CALL];

@@ -12,15 +12,11 @@ use crate::frame;
 use crate::frame::CallWords;
 use crate::frame::CARRIED;
 use crate::model::field::LIMITED_IN_ROUND;
-use crate::places::Fault;
-use crate::places::Kind;
+use crate::places::CALLS_LENGTH;
+use crate::places::STATE_LENGTH;
 use crate::replies;
 use crate::values::Random;
 use crate::wanted::Wanted;
-
-/// The state is the first argument of a run, and the calls are the second.
-const STATE_LENGTH: Fault = Fault::new(Kind::Form, 1);
-const CALLS_LENGTH: Fault = Fault::new(Kind::Form, 2);
 
 /// What has to occur, each at least `LEAST` times in `MANY` runs.
 const WANTED: [&str; 7] = [

@@ -6,6 +6,7 @@ mod archive;
 mod bounds;
 mod calls;
 mod diff;
+mod estimator;
 mod export_steps;
 mod faults;
 mod files;
@@ -30,6 +31,11 @@ mod places;
 mod port;
 mod reasons;
 mod replies;
+mod rtt_cases;
+mod rtt_counts;
+#[cfg(feature = "archive")]
+mod rtt_runs;
+mod rtt_steps;
 mod run;
 mod scalars;
 mod sequences;
@@ -57,6 +63,7 @@ use list::List;
 use malformed::Mixed;
 use number_steps::NumberSteps;
 use port::Port;
+use rtt_steps::RttSteps;
 use steps::Steps;
 
 /// Named by gcongestion/mod.rs of the original.
@@ -74,6 +81,7 @@ Name one folder, into which the lists are written, or one of these:
   filter SEED CALLS        the same, for windowed filters
   numbers SEED CALLS       the same, for conversions, scaling and bandwidth
   exports SEED CALLS       the same, for the exported filter run and slope
+  rtt SEED CALLS           the same, for the exported run of an estimator
   patterns FUNCTION NUMBER the same, for all patterns of an f32, as the bits that
                            to_u64 takes, or as the gain that scale and
                            bandwidth_mul take with NUMBER
@@ -81,18 +89,20 @@ Name one folder, into which the lists are written, or one of these:
   lists SEED CALLS         compares the original with the archive, which is linked
                            by the feature `archive`: events with long lists of
                            acked numbers, among other calls
+  rtt-runs SEED CALLS      the same, for runs of an estimator of any length
   serve                    is the original as a port";
 
 /// The seed of the kept frames' chosen calls, how many there are of each kind,
 /// and how often at least each reason, each pair of steps that both act, each
-/// case of numbers that were sent or never sent, and each argument that can be
-/// named occurs.
+/// case of numbers that were sent or never sent, each argument that can be
+/// named, and each case of the estimator occurs.
 const KEPT_SEED: u64 = 1;
 const KEPT_CALLS: u64 = 100;
 const KEPT_REASONS: u64 = 20;
 const KEPT_PAIRS: u64 = 1;
 const KEPT_UNSENT: u64 = 1;
 const KEPT_NAMED: u64 = 1;
+const KEPT_RTT: u64 = 1;
 
 fn main() {
     let arguments: Vec<String> = env::args().skip(1).collect();
@@ -130,6 +140,10 @@ fn compare(arguments: &[&str]) -> bool {
             let mut steps = ExportSteps::new(number(seed));
             diff::run(&mut port(), number(calls), |_| true, |_| steps.next())
         }
+        ["rtt", seed, calls] => {
+            let mut steps = RttSteps::new(number(seed));
+            diff::run(&mut port(), number(calls), |_| true, |_| steps.next())
+        }
         ["patterns", name, other] => {
             let function = scalars::on_patterns(name).unwrap_or_else(|| fail(USAGE));
             let mut patterns = number_steps::patterns(function, number(other));
@@ -141,19 +155,26 @@ fn compare(arguments: &[&str]) -> bool {
             let steps = text::steps(&text).unwrap_or_else(|why| fail(&why));
             diff::follow(&mut port(), steps)
         }
-        ["lists", seed, calls] => long_lists(number(seed), number(calls)),
+        ["lists", seed, calls] => of_archive("lists", number(seed), number(calls)),
+        ["rtt-runs", seed, calls] => of_archive("rtt-runs", number(seed), number(calls)),
         _ => fail(USAGE),
     }
 }
 
+/// A comparison with the archive.
 #[cfg(feature = "archive")]
-fn long_lists(seed: u64, calls: u64) -> bool {
-    long_lists::run(seed, calls)
+fn of_archive(command: &str, seed: u64, calls: u64) -> bool {
+    match command {
+        "lists" => long_lists::run(seed, calls),
+        _ => rtt_runs::run(seed, calls),
+    }
 }
 
 #[cfg(not(feature = "archive"))]
-fn long_lists(_: u64, _: u64) -> bool {
-    fail("The command `lists` needs the archive: build with `--features archive`.")
+fn of_archive(command: &str, _: u64, _: u64) -> bool {
+    fail(&format!(
+        "The command `{command}` needs the archive: build with `--features archive`."
+    ))
 }
 
 fn port() -> Port {
@@ -182,6 +203,7 @@ fn kept() -> Files {
     sequences::add(&mut files);
     limits::add(&mut files);
     faults::add(&mut files);
+    rtt_cases::add(&mut files);
     let mut steps = Steps::new(KEPT_SEED);
     files.take(KEPT_CALLS, |world| steps.next(world));
     files.choose_others(KEPT_SEED, NumberSteps::at_random(KEPT_SEED), KEPT_CALLS);
@@ -195,16 +217,17 @@ fn kept() -> Files {
     files.world.tally.demand(KEPT_REASONS, KEPT_PAIRS);
     files.world.unsent.demand(KEPT_UNSENT);
     files.world.named.demand(KEPT_NAMED);
+    files.world.rtt.demand(KEPT_RTT);
     files
 }
 
-/// Frames of so many calls, of which a tenth each is on filters, on numbers and
-/// of the exported filter and slope, with sums for the answers.
+/// Frames of so many calls, of which a tenth each is on filters, on numbers, of
+/// the exported filter and slope, and of the estimator, with sums for the answers.
 fn fresh(seed: u64, calls: u64) -> Files {
     let mut files = Files::new(true);
     let tenth = calls / 10;
     let mut steps = Mixed::new(seed);
-    files.take(calls - 3 * tenth, |world| steps.next(world));
+    files.take(calls - 4 * tenth, |world| steps.next(world));
     files.choose_others(seed, NumberSteps::new(seed), tenth);
     files
 }

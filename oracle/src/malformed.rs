@@ -47,7 +47,7 @@ const PARAMETERS: [Field; 7] = [
 const NO_CALLS: [u64; 10] = [
     2,
     39,
-    50,
+    51,
     97,
     255,
     (1 << 8) + 1,

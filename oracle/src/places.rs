@@ -59,6 +59,10 @@ pub struct Fault {
 /// A number that is no call's.
 pub const NO_CALL: Fault = Fault::new(Kind::Form, 0);
 
+/// Of a run: the length of the state, its first argument, and that of the calls.
+pub const STATE_LENGTH: Fault = Fault::new(Kind::Form, 1);
+pub const CALLS_LENGTH: Fault = Fault::new(Kind::Form, 2);
+
 /// Of the exported filter run: the length of the pairs, after the window.
 pub const PAIRS_LENGTH: Fault = Fault::new(Kind::Form, 2);
 
@@ -107,7 +111,7 @@ pub type Field = (usize, Held);
 const A_WINDOW: Held = UpTo(BYTES, Kind::Window);
 const A_COUNT: Held = UpTo(BYTES, Kind::Bytes);
 const A_BANDWIDTH: Held = UpTo(BANDWIDTH, Kind::Bandwidth);
-const A_LENGTH: Held = UpTo(LENGTH, Kind::Length);
+pub const A_LENGTH: Held = UpTo(LENGTH, Kind::Length);
 const A_TOTAL: Held = UpTo(TOTAL, Kind::Total);
 const A_MOMENT: Held = UpTo(MOMENT, Kind::Moment);
 const BANDWIDTH_OR_NONE: Held = Pair(BANDWIDTH, Kind::Bandwidth);
@@ -226,7 +230,7 @@ impl Held {
 
     /// The kind of bound that it passes, if any, where these are the words from its
     /// first on and lists of so many words are lent.
-    fn passed(self, words: &[u64], lists: usize) -> Option<Kind> {
+    pub fn passed(self, words: &[u64], lists: usize) -> Option<Kind> {
         match self {
             UpTo(most, kind) => (words[0] > most).then_some(kind),
             Bound => (words[0] > BYTES && words[0] != UNSET).then_some(Kind::Bytes),

@@ -7,6 +7,7 @@ use guovssalu_sys::table::ARGUMENTS_IN_CALL;
 use guovssalu_sys::table::EVENT_IN_CALL;
 use guovssalu_sys::table::NUMBER_IN_CALL;
 
+use crate::estimator::Lent;
 use crate::frame;
 use crate::frame::Answer;
 use crate::frame::CARRIED;
@@ -14,9 +15,13 @@ use crate::frame::FILTER_RUN;
 use crate::frame::MEMORY;
 use crate::frame::MOST_PAIRS;
 use crate::frame::MOST_PUT;
+use crate::frame::MOST_RTT;
 use crate::frame::NUMBERS;
 use crate::frame::PUT;
 use crate::frame::RECORD;
+use crate::frame::RTT_CALLS_IN_CALL;
+use crate::frame::RTT_RUN;
+use crate::frame::RTT_STATE_IN_CALL;
 use crate::frame::SLOPE;
 use crate::frame::SUMMED;
 use crate::frame::WINDOWED_FILTER;
@@ -60,6 +65,11 @@ fn answer(world: &mut World, words: &[u64]) -> Option<Answer> {
             window: words[2],
             lent: words[3].min(MEMORY as u64),
         },
+        RTT_RUN => Step::RttRun(Lent {
+            state: words[RTT_STATE_IN_CALL..RTT_CALLS_IN_CALL].to_vec(),
+            calls: words[RTT_CALLS_IN_CALL..].to_vec(),
+            bytes: [1, 2, 3].map(|at| words[at].min(MOST_RTT[at - 1] as u64) as usize),
+        }),
         _ if is_refused(world, words) => Step::Words(words.to_vec()),
         _ => step(world, words)?,
     };

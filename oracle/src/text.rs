@@ -3,6 +3,8 @@
 use guovssalu_sys::table::argument;
 use guovssalu_sys::table::call;
 use guovssalu_sys::table::event;
+use guovssalu_sys::table::rtt_answer;
+use guovssalu_sys::table::rtt_state;
 use guovssalu_sys::table::state;
 use guovssalu_sys::table::ANSWER_WORDS;
 use guovssalu_sys::table::CALL_WORDS;
@@ -10,15 +12,20 @@ use guovssalu_sys::table::EVENT_IN_ANSWER;
 use guovssalu_sys::table::EVENT_WORDS;
 use guovssalu_sys::table::PARAMS_WORDS;
 use guovssalu_sys::table::REPLY_IN_ANSWER;
+use guovssalu_sys::table::RTT_ANSWER_WORDS;
 use guovssalu_sys::table::STATE_WORDS;
 use guovssalu_sys::table::VALUE_IN_ANSWER;
 use guovssalu_sys::table::WORD_BYTES;
 
+use crate::estimator::Lent;
 use crate::frame::FILTER_RUN;
 use crate::frame::MEMORY;
 use crate::frame::MOST_PAIRS;
+use crate::frame::MOST_RTT;
 use crate::frame::NUMBERS;
 use crate::frame::PUT;
+use crate::frame::RTT_RUN;
+use crate::frame::RTT_STATE;
 use crate::frame::SLOPE;
 use crate::frame::START;
 use crate::frame::WINDOWED_FILTER;
@@ -35,17 +42,21 @@ use crate::world::Step;
 const NUMBERS_END: usize = EVENT_IN_ANSWER + scalars::RUN as usize;
 
 /// The number, no call's, of the step that makes a call of any words.
-const WORDS: u64 = 50;
+const WORDS: u64 = 97;
+
+/// The word of an answer after the memory of an estimator's state.
+const RTT_ANSWERS: usize = EVENT_IN_ANSWER + RTT_STATE;
 
 /// The steps that are no call of the model: number, name, and how many
 /// arguments. What puts numbers has any even number; a run of a filter also has
-/// the words of its pairs.
-const OTHERS: [(u64, &str, usize); 7] = [
+/// the words of its pairs, and one of an estimator those of its calls.
+const OTHERS: [(u64, &str, usize); 8] = [
     (SET_RECORD, "record", EVENT_WORDS),
     (WINDOWED_FILTER, "windowed_filter", 3),
     (NUMBERS, "numbers", 3),
     (FILTER_RUN, "filter_run", 3),
     (SLOPE, "slope", 3),
+    (RTT_RUN, "rtt_run", 3 + RTT_STATE),
     (WORDS, "words", CALL_WORDS),
     (PUT, "put", 0),
 ];
@@ -108,6 +119,15 @@ pub fn word(step: &Step, word: usize) -> String {
                 WORD_BYTES * (word - EVENT_IN_ANSWER)
             )
         }
+        (Step::RttRun(_), EVENT_IN_ANSWER..RTT_ANSWERS) => {
+            let name = rtt_state::NAMES.get(word - EVENT_IN_ANSWER);
+            format!("state, {}", name.unwrap_or(&"after its words"))
+        }
+        (Step::RttRun(_), _) => {
+            let word = word - RTT_ANSWERS;
+            let name = rtt_answer::NAMES[word % RTT_ANSWER_WORDS];
+            format!("answer to its call {}, {name}", 1 + word / RTT_ANSWER_WORDS)
+        }
         (_, EVENT_IN_ANSWER..ANSWER_WORDS) => field(STATE_WORDS + word - EVENT_IN_ANSWER),
         _ => field(word - ANSWER_WORDS),
     }
@@ -169,6 +189,10 @@ fn numbers(step: &Step) -> Vec<u64> {
             window,
             lent,
         } => vec![SLOPE, *rounds, *window, *lent],
+        Step::RttRun(lent) => {
+            let bytes = lent.bytes.map(|bytes| bytes as u64);
+            [&[RTT_RUN], &bytes[..], &lent.state, &lent.calls].concat()
+        }
     }
 }
 
@@ -214,6 +238,12 @@ fn parse(call: &str, arguments: &[&str]) -> Result<Step, String> {
                 && parsed.len() == count + parsed[1].div_ceil(WORD_BYTES as u64) as usize
         }
         SLOPE => parsed.len() == count && parsed[2] <= MEMORY as u64,
+        RTT_RUN => {
+            let mut lent = parsed.iter().zip(MOST_RTT);
+            parsed.len() >= count
+                && lent.all(|(lent, most)| *lent <= most as u64)
+                && parsed.len() == count + parsed[1].div_ceil(WORD_BYTES as u64) as usize
+        }
         _ => parsed.len() == count,
     };
     if !fits {
@@ -270,6 +300,11 @@ fn step(number: u64, arguments: &[u64]) -> Step {
             window: arguments[1],
             lent: arguments[2],
         },
+        RTT_RUN => Step::RttRun(Lent {
+            state: arguments[3..][..RTT_STATE].to_vec(),
+            calls: arguments[3 + RTT_STATE..].to_vec(),
+            bytes: [0, 1, 2].map(|at| arguments[at] as usize),
+        }),
         _ => Step::Call(Call::of(number, arguments, &Host::usual_start()).unwrap()),
     }
 }

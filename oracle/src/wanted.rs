@@ -19,9 +19,14 @@ impl Wanted {
         *self.0.get_mut(what).expect(what) += u64::from(holds);
     }
 
+    /// Each thing, and how often it occurs.
+    pub fn told(&self) -> impl Iterator<Item = (&str, u64)> {
+        self.0.iter().map(|(what, &count)| (what.as_str(), count))
+    }
+
     /// Prints the counts, after such a word.
     pub fn tell(&self, of: &str) {
-        for (what, count) in &self.0 {
+        for (what, count) in self.told() {
             eprintln!("{of}{count:4} x {what}");
         }
     }

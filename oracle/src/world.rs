@@ -14,6 +14,7 @@ use guovssalu_sys::table::VALUE_IN_ANSWER;
 
 use crate::bounds::BYTES;
 use crate::bounds::UP_ROUNDS;
+use crate::estimator::Lent;
 use crate::frame;
 use crate::frame::Answer;
 use crate::frame::Asked;
@@ -25,6 +26,7 @@ use crate::frame::MEMORY;
 use crate::frame::MOST_PUT;
 use crate::frame::NUMBERS;
 use crate::frame::PUT;
+use crate::frame::RTT_RUN;
 use crate::frame::SLOPE;
 use crate::frame::START;
 use crate::frame::WINDOWED_FILTER;
@@ -43,6 +45,7 @@ use crate::places;
 use crate::reasons::Tally;
 use crate::recovery::gcongestion::Host;
 use crate::replies;
+use crate::rtt_counts::RttCounts;
 use crate::scalars;
 use crate::unsent::Unsent;
 use crate::windowed;
@@ -78,6 +81,8 @@ pub enum Step {
     },
     /// The exported slope, with `lent` bytes of output.
     Slope { rounds: u64, window: u64, lent: u64 },
+    /// The exported run of an estimator.
+    RttRun(Lent),
 }
 
 /// Fills up a frame.
@@ -95,6 +100,8 @@ pub struct World {
     pub unsent: Unsent,
     /// What the refusals with 2 so far have named.
     pub named: Named,
+    /// What the runs of the estimator so far show.
+    pub rtt: RttCounts,
 }
 
 impl World {
@@ -109,6 +116,7 @@ impl World {
             tally: Tally::default(),
             unsent: Unsent::new(),
             named: Named::new(),
+            rtt: RttCounts::new(),
         };
         world.host.put(&world.state, &usual);
         world
@@ -166,6 +174,11 @@ impl World {
                 window,
                 lent,
             } => Some(frame::bare_call(SLOPE, &[*rounds, *window, *lent])),
+            Step::RttRun(lent) => {
+                let bytes = lent.bytes.map(|bytes| bytes as u64);
+                let arguments = [&bytes[..], &lent.state, &lent.calls].concat();
+                Some(frame::bare_call(RTT_RUN, &arguments))
+            }
         }
     }
 
@@ -219,6 +232,11 @@ impl World {
                 let (reply, numbers) = slope(*rounds, *window, *lent);
                 self.named.look_at_slope(*window, reply);
                 memory(reply, &numbers)
+            }
+            Step::RttRun(lent) => {
+                let ran = lent.run();
+                self.rtt.look(lent, &ran);
+                memory(ran.reply, &[ran.state.clone(), ran.answers()].concat())
             }
         }
     }

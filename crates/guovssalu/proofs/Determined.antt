@@ -10,6 +10,7 @@ use Rattle.guovssalu.proofs.slope.guovssalu_raise_inflight_high_slope a
 use Rattle.guovssalu.proofs.filter_run.guovssalu_filter_run as filter
 use Rattle.guovssalu.proofs.model_run.guovssalu_run as run
 use Rattle.guovssalu.proofs.model_run.guovssalu_run_lists as lists
+use Rattle.guovssalu.proofs.rtt_run.guovssalu_rtt_run as rtt
 
 pub one-u64-to-f32 : OneReply conversions.guovssalu_u64_to_f32.Reads.Learnt
 one-u64-to-f32 κ a x y s t p q = p ∙ sym q
@@ -51,3 +52,8 @@ pub one-run-lists :
     (κ : Lfts 4) (a : Dens κ lists.Kinds.ps) (x y : resT lists.Kinds.r κ .Denot) (s t : AtExit (endedOf 4 lists.Kinds.ps lists.Kinds.r) κ) →
     lists.Reads.Learnt κ a x s → lists.Reads.Learnt κ a y t → (x ≡ y) × ((now (s .0) ≡ now (t .0)) × (now (s .1 .1 .1 .0) ≡ now (t .1 .1 .1 .0)))
 one-run-lists κ a x y s t p q = (p .0 ∙ sym (q .0), (p .1 .0 ∙ sym (q .1 .0), p .1 .1 ∙ sym (q .1 .1)))
+
+pub one-rtt-run :
+    (κ : Lfts 3) (a : Dens κ rtt.Kinds.ps) (x y : resT rtt.Kinds.r κ .Denot) (s t : AtExit (endedOf 3 rtt.Kinds.ps rtt.Kinds.r) κ) →
+    rtt.Reads.Learnt κ a x s → rtt.Reads.Learnt κ a y t → (x ≡ y) × ((now (s .0) ≡ now (t .0)) × (now (s .1 .1 .0) ≡ now (t .1 .1 .0)))
+one-rtt-run κ a x y s t p q = (p .0 ∙ sym (q .0), (p .1 .0 ∙ sym (q .1 .0), p .1 .1 ∙ sym (q .1 .1)))

@@ -4,3 +4,4 @@ pub mod Examples
 pub mod Rows
 pub mod ModelRun
 pub mod FilterRun
+pub mod RttRun

@@ -1,7 +1,8 @@
 -- Worked calls: what the definitions say of a few inputs. The slope's are document 01's example 11; the filter run's
 -- first two pairs are those of example 9. The run of the model has two lists: runs on a state of zeros, and a run that
--- begins with a start (`startExamples`). Longer ones, with an event: crates/theorems/specs/Examples.antt.
-use Prim.Native.Nat.{ℕ, _-_, _*_, _^_}
+-- begins with a start (`startExamples`). Longer ones, with an event: crates/theorems/specs/Examples.antt. The
+-- round-trip estimator's is the run of docs/LAYOUT.md (`tripExamples`).
+use Prim.Native.Nat.{ℕ, _+_, _-_, _*_, _^_}
 use mathlib.Core.Bool.{Bool}
 use mathlib.Core.List.{List, [], _∷_, _++_}
 use lib.Dec.{eqb}
@@ -11,6 +12,7 @@ use Rattle.dispatch.specs.Examples.{same, zeros, with}
 use Rattle.pairs.specs.Pairs.{runRow}
 use Rattle.guovssalu.specs.FilterRun.{runOut}
 use Rattle.guovssalu.specs.ModelRun.{noLists, modelRow, stateOut, answersOut}
+use Rattle.guovssalu.specs.RttRun.{rttReply, rttStateOut, rttAnswersOut}
 use Rattle.guovssalu.specs.Slope.{slopeRow, slopeOut}
 
 -- bytes that a call may write over
@@ -150,4 +152,37 @@ startExamples =
     -- of the state left: the packet last sent, the round trip and its moment, inflight_lo, which is unset, the last
     -- accepted moment, and that something was sent
     ∷ same (wordsIn firstState (1 ∷ 6 ∷ 7 ∷ 17 ∷ 33 ∷ 34 ∷ [])) (7 ∷ 100 ∷ 5 ∷ (2 ^ 64 - 1) ∷ 9 ∷ 1 ∷ [])
+    ∷ []
+
+-- ---- a run of the round-trip estimator, on 48 zero bytes: `new` with 333 ms and a largest ack delay of 25 ms; the
+-- first sample; one less its ack delay of 5 ms; and one with an ack delay of 2^36 + 1 ns
+abbrev pub fourTrips : List ℕ
+fourTrips =
+    allBytes
+    (0 ∷ 333000000 ∷ 25000000 ∷ 0
+    ∷ 1 ∷ 80000001 ∷ 0 ∷ 0
+    ∷ 1 ∷ 90000000 ∷ 5000000 ∷ 1
+    ∷ 1 ∷ 90000000 ∷ (2 ^ 36 + 1) ∷ 1
+    ∷ [])
+
+unfoldable pub tripExamples : List Bool
+tripExamples =
+    eqb (rttReply (zeros 48) fourTrips 161) 0
+    -- the fourth is refused with 2.4 at 2, and answered with zeros; the byte behind the answers stays
+    ∷ writes (rttAnswersOut (zeros 48) fourTrips (room 161))
+    (0 ∷ 0 ∷ (2 ^ 64 - 1) ∷ 333000000 ∷ 166500000
+    ∷ 0 ∷ 80000001 ∷ 80000001 ∷ 80000001 ∷ 40000000
+    ∷ 0 ∷ 90000000 ∷ 80000001 ∷ 80625000 ∷ 31249999
+    ∷ 132098 ∷ 0 ∷ 0 ∷ 0 ∷ 0
+    ∷ [])
+    -- and changes nothing
+    ∷ same (rttStateOut (zeros 48) fourTrips (room 161))
+    (allBytes (90000000 ∷ 80000001 ∷ 80625000 ∷ 31249999 ∷ 25000000 ∷ 1 ∷ []))
+    -- a flag that is neither 0 nor 1, a byte less of the state, of the calls, of the answers: nothing is written
+    ∷ eqb (rttReply (allBytes (with (zeros 6) 5 2)) fourTrips 160) 1
+    ∷ eqb (rttReply (zeros 47) fourTrips 160) 0x10802
+    ∷ eqb (rttReply (zeros 48) (take 127 fourTrips) 160) 0x20802
+    ∷ eqb (rttReply (zeros 48) fourTrips 159) 7
+    ∷ same (rttAnswersOut (zeros 48) fourTrips (room 159)) (room 159)
+    ∷ same (rttStateOut (zeros 48) fourTrips (room 159)) (zeros 48)
     ∷ []

@@ -4,5 +4,6 @@ pub mod Examples
 pub mod FilterRun
 pub mod ModelRun
 pub mod Reply
+pub mod RttRun
 pub mod Slope
 pub mod Inner

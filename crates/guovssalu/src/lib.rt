@@ -2,4 +2,5 @@
 pub mod conversions;
 pub mod filter_run;
 pub mod model_run;
+pub mod rtt_run;
 pub mod slope;

@@ -2,6 +2,7 @@
 ghost use mathlib.Core.Path.{_≡_};
 ghost use lib.ListN.{length};
 use crate::copy::copy;
+use crate::estimator;
 use crate::filter;
 use crate::lent;
 use crate::neighbours;
@@ -26,6 +27,10 @@ pub fn answer_call(state: &mut [u8; 408], call: &[u8], answer: &mut [u8])
     }
     if number == 49 {
         lent::slope(call, answer);
+        return;
+    }
+    if number == 50 {
+        estimator::rtt_run(call, answer);
         return;
     }
     state_call(number, state, call, answer);

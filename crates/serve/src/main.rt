@@ -2,6 +2,7 @@
 // The comparison with the original asks this program.
 mod call;
 mod copy;
+mod estimator;
 mod filter;
 mod frame;
 mod lent;

@@ -105,7 +105,7 @@ pub row-asked : (w : List ℕ) (s : State) → rowsOf w s .argument ≡ not (eqb
 row-asked w s = every (At w s) 46 (each w s) (above w s) (getD w 0 0) refl
 
 -- ---- a row is a byte
-row-below : (n : ℕ) (r : Rows) → Exactly n r → n < 256
+pub row-below : (n : ℕ) (r : Rows) → Exactly n r → n < 256
 row-below n r x = go (r .stored) (r .argument) (r .earlier) (r .lower) (r .unsent) (r .full) refl refl refl refl refl refl
   where
     go : (s a e l u f : Bool) → r .stored ≡ s → r .argument ≡ a → r .earlier ≡ e → r .lower ≡ l → r .unsent ≡ u → r .full ≡ f → n < 256
@@ -142,14 +142,14 @@ call-blames w s =
       word = word-named (outcomeIn w s .reply) _ (row-below _ (rowsOf w s) row) (λ two z. two-some (rowsOf w s .argument) _ (row-asked w s) (row .is2 .0 two .1) z);
     }
 
-byte : (word : ℕ) → rowIn word < 256
+pub byte : (word : ℕ) → rowIn word < 256
 byte word = omega arith
 
 -- ---- the exported runs: row 2 holds exactly where a length or the window is at fault
-worded : (reply row : ℕ) (faults : List ℕ) (argument : Bool) → reply ≡ replied row (first faults) → row < 256 → (row ≡ 2 → argument ≡ true) → argument ≡ not (eqb (first faults) 0) → Named reply row faults
+pub worded : (reply row : ℕ) (faults : List ℕ) (argument : Bool) → reply ≡ replied row (first faults) → row < 256 → (row ≡ 2 → argument ≡ true) → argument ≡ not (eqb (first faults) 0) → Named reply row faults
 worded reply row faults argument is small two asked = rw is (word-named row faults small (λ e z. two-some argument (first faults) asked (two e) z))
 
-either-uneven : (t u : Bool) → (not t || not u) ≡ not (t && (u && true))
+pub either-uneven : (t u : Bool) → (not t || not u) ≡ not (t && (u && true))
 either-uneven true u = ap not (sym (and-one u))
 either-uneven false u = refl
 

@@ -85,7 +85,7 @@ one-outcome =
     }
 
 -- ---- the row of a reply
-below : (s a e l f short : Bool) → orShort (rowOf s a e l f) short < 256
+pub below : (s a e l f short : Bool) → orShort (rowOf s a e l f) short < 256
 unfolding orShort rowOf
 below true a e l f short = omega arith
 below false true e l f short = omega arith
@@ -115,12 +115,12 @@ pub filter-done : (r : FilterRun) → Filtered r → r .reply ≡ 0 → runRow (
 filter-done r h done = sym (filter-row-is r h) ∙ ap (λ (n : ℕ). rowIn n) done
 
 -- a row of 0 names nothing
-done-word : (row x : ℕ) → row ≡ 0 → replied row x ≡ 0
+pub done-word : (row x : ℕ) → row ≡ 0 → replied row x ≡ 0
 unfolding named
 done-word row x e = rw e
 
 -- ---- refused, lent bytes are as they were
-answered-refused : (row : ℕ) (answer out : List ℕ) → (row ≡ 0 → ⊥) → answered row answer out ≡ out
+pub answered-refused : (row : ℕ) (answer out : List ℕ) → (row ≡ 0 → ⊥) → answered row answer out ≡ out
 unfolding answered
 answered-refused row answer out h = rw (ne-eqb row 0 h)
 
@@ -197,7 +197,7 @@ given false true c = (refl, refl, refl, refl)
 given false false true = (refl, refl, refl, refl)
 given false false false = (refl, refl, refl, refl)
 
-stored-row : (n : ℕ) (a b c : Bool) → n ≡ orShort (rowOf a b false false false) c → FirstRow n 1 a 2 b c
+pub stored-row : (n : ℕ) (a b c : Bool) → n ≡ orShort (rowOf a b false false false) c → FirstRow n 1 a 2 b c
 stored-row n a b c e = row n 1 2 a b c (subst (λ (k : ℕ). Tells k 1 2 a b c) (sym e) (stored a b c))
 
 given-row : (n : ℕ) (a b c : Bool) → n ≡ orShort (rowOf false a b false false) c → FirstRow n 2 a 3 b c

@@ -17,5 +17,8 @@ pub mod Events
 pub mod Follow
 pub mod Casts
 pub mod Estimates
+pub mod Rtt
+pub mod RttCalls
+pub mod RttAnswers
 pub mod Theorems
 pub mod Examples

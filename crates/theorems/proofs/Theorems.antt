@@ -21,6 +21,9 @@ use Rattle.words.specs.Word.{flagFits}
 use Rattle.dispatch.proofs.RoundTrip.{round-trip}
 use Rattle.arguments.proofs.Tested.{fits-where, tested}
 use Rattle.calls.specs.Enter.{downAt}
+use Rattle.rtt.proofs.Exact as estimates
+use Rattle.rtt.proofs.Examples as samples
+use Rattle.trips.proofs.Returned as returned
 use Rattle.worth.proofs.Worth.{every-run}
 use Rattle.worth.proofs.Returned.{every-returned}
 use Rattle.worth.proofs.Examples.{worked}
@@ -39,6 +42,9 @@ use Rattle.theorems.proofs.Numbers.{every-number}
 use Rattle.theorems.proofs.Refused.{refused}
 use Rattle.theorems.proofs.Blames.{call-blames, run-blames, filter-blames, slope-blames}
 use Rattle.theorems.proofs.Rows.{every-row}
+use Rattle.theorems.proofs.Rtt.{rtt-is, one-rtt-outcome, rtt-row, rtt-keeps, left-is, in-bytes}
+use Rattle.theorems.proofs.RttAnswers.{word-is, left-bounds, left-encodes, in-answers}
+use Rattle.theorems.proofs.RttCalls.{every-rtt-call, every-rtt-reply, rtt-blames}
 
 -- call 40 with a flag that is neither 0 nor 1 is given a moment that is out of bounds
 down-flags : (a b n : ℕ) → momentOk (downAt a b n) ≡ true → (a ≤ 1) × (b ≤ 1) × (downAt a b n ≡ moment n)
@@ -53,6 +59,7 @@ unasked =
       run-lists = λ κ a. tt;
       filter-run = λ κ a. tt;
       raise-slope = λ κ a. tt;
+      rtt-run = λ κ a. tt;
       u64-to-f32 = λ κ a. tt;
       u64-to-f64 = λ κ a. tt;
       f32-to-u64 = λ κ a. tt;
@@ -69,12 +76,15 @@ theorems =
       run-row = exported.run-row;
       filter-row = exported.filter-row;
       slope-row = exported.slope-row;
+      rtt-row = rtt-row;
       run-fault = run-blames;
       filter-fault = filter-blames;
       slope-fault = slope-blames;
+      rtt-fault = rtt-blames;
       run-keeps = exported.run-keeps;
       filter-keeps = exported.filter-keeps;
       slope-keeps = exported.slope-keeps;
+      rtt-keeps = rtt-keeps;
       run-bounds = λ r ran b c done h. elim h [ inl e ↦ left-within r ran done (from-form (r .state) b) c e | inr e ↦ started-within r ran done (from-form (r .state) b) c e ];
       run-again = λ r ran b c done. left-taken r ran done (from-form (r .state) b) c;
       run-left = left-whole;
@@ -88,12 +98,20 @@ theorems =
       calls = every-reply;
       calls-faults = every-fault;
       calls-bounds = every-call;
+      rtt-calls = every-rtt-reply;
+      rtt-call = every-rtt-call;
+      rtt-left = left-is;
+      rtt-bounds = left-bounds;
+      rtt-again = left-encodes;
+      rtt-answered = word-is;
       run-defined = exported.run-is;
       filter-defined = exported.filter-is;
       slope-defined = exported.slope-is;
+      rtt-defined = rtt-is;
       conversions = exported.conversions;
       casts = casts;
       one-outcome = exported.one-outcome;
+      one-rtt-outcome = one-rtt-outcome;
       steps = every-outcome;
       numbers = every-number;
       examples = marked-examples;
@@ -115,4 +133,10 @@ theorems =
       bandwidth = follow.bandwidth;
       usual-inflight = follow.usual-inflight;
       usual-bandwidth = follow.usual-bandwidth;
+      rtt = estimates.every-run;
+      rtt-returned = returned.every-returned;
+      rtt-bytes = in-bytes;
+      rtt-answers = in-answers;
+      rtt-examples = samples.rtt-examples;
+      rtt-worked = samples.worked;
     }

@@ -4,5 +4,6 @@ pub mod Rows
 pub mod Blames
 pub mod Runs
 pub mod Casts
+pub mod Rtt
 pub mod Theorems
 pub mod Examples

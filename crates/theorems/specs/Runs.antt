@@ -32,6 +32,7 @@ use Rattle.guovssalu.proofs.conversions as conversions
 use Rattle.guovssalu.proofs.filter_run.guovssalu_filter_run as filter
 use Rattle.guovssalu.proofs.model_run.guovssalu_run as model
 use Rattle.guovssalu.proofs.model_run.guovssalu_run_lists as with-lists
+use Rattle.guovssalu.proofs.rtt_run.guovssalu_rtt_run as rtt
 use Rattle.guovssalu.proofs.slope.guovssalu_raise_inflight_high_slope as slope
 use Rattle.drift.specs.Calls.{Call, State}
 use Rattle.drift.specs.Exact as X
@@ -58,6 +59,7 @@ pub record Unasked : Type 0 where
   pub run-lists : AsksNothing with-lists.Reads.Asked
   pub filter-run : AsksNothing filter.Reads.Asked
   pub raise-slope : AsksNothing slope.Reads.Asked
+  pub rtt-run : AsksNothing rtt.Reads.Asked
   pub u64-to-f32 : AsksNothing conversions.guovssalu_u64_to_f32.Reads.Asked
   pub u64-to-f64 : AsksNothing conversions.guovssalu_u64_to_f64.Reads.Asked
   pub f32-to-u64 : AsksNothing conversions.guovssalu_f32_to_u64.Reads.Asked
@@ -257,7 +259,7 @@ pub record Starts (r : Run) : Type 0 where
   pub some : 0 < count r
   pub first : word (call r 0) 0 ≡ 0
 
-abbrev pub Each : (Run → Type 0) → List Run → Type 0
+abbrev pub Each : {A : Type 0} → (A → Type 0) → List A → Type 0
 Each P [] = Unit {0}
 Each P (r ∷ runs) = P r × Each P runs
 

@@ -13,18 +13,19 @@
 -- `pub` and `use` lines add nothing to what is said.
 --
 -- Bytes, words, the numbers of the calls, of the refusals and of the reasons are explained in docs/LAYOUT.md, "document
--- 01" and "document 02" in docs/README.md. The statements are made of names from five files beside this one:
+-- 01" and "document 02" in docs/README.md. The statements are made of names from six files beside this one:
 --   Runs.antt     an exported call as bytes lent and bytes left, of which no more is known than its contract; runs, by
 --                 `guovssalu_run` or with lists, one after the other; where in the bytes a word stands; the exact value
 --                 beside them
 --   Steps.antt    the 49 words of a call, with the lists, as the step that they ask for, and what it does to a state
 --   Rows.antt     by the number of a call in a run, which rows of the table hold: document 01's, and request i's 10
 --   Blames.antt   which argument the reply to a call of a run names: request b
+--   Rtt.antt      the exported run of the round-trip estimator, and its calls: request a
 --   Casts.antt    that the casts of the definitions are those of the Rust Reference
 -- and Examples.antt has five runs worked out in bytes, so that one sees what the statements speak of.
 -- Any other name stands in the crate that its `use` line names; what the lower bounds, exact values and `Follows` are
 -- is explained in crates/drift/specs/Drift.antt.
-use Prim.Native.Nat.{ℕ, _^_, _≤_, _<_}
+use Prim.Native.Nat.{ℕ, _*_, _^_, _≤_, _<_}
 use mathlib.Core.Bool.{true, false}
 use mathlib.Core.List.{List, [], _∷_, _++_}
 use mathlib.Core.Logic.{_⊎_}
@@ -51,6 +52,15 @@ use Rattle.arguments.specs.Tested.{Tested}
 use Rattle.words.specs.Word.{word}
 use Rattle.calls.specs.Enter.{downAt}
 use Rattle.pairs.specs.Pairs.{pairs, runRow, pairsFaults}
+use Rattle.rtt.specs.declared.rtt.RttStats.{RttStats}
+use Rattle.rtt.specs.Rtt.{statsOk}
+use Rattle.rtt.specs.Exact as Averages
+use Rattle.rtt.specs.Examples as Samples
+use Rattle.rtt.specs.Examples.{rttExamples}
+use Rattle.trips.specs.Trips as Trips
+use Rattle.trips.specs.Trips.{statsWords, statsIn, answerAt, rttRow, rttFaults}
+use Rattle.trips.specs.Returned as Returned
+use Rattle.guovssalu.specs.RttRun.{rttReply, rttStateOut, rttAnswersOut}
 use Rattle.worth.specs.Worth.{EveryRun}
 use Rattle.worth.specs.Returned.{EveryReturned}
 use Rattle.worth.specs.Examples.{Worked}
@@ -65,6 +75,7 @@ use Rattle.units.specs.declared.maybe.MaybeNumber.{MaybeNumber}
 use Rattle.drift.specs.Drift.{Follows, IsBeta, usualBeta, usualParts, Under}
 use Rattle.theorems.specs.Blames.{Named, Blames}
 use Rattle.theorems.specs.Rows.{rowsOf}
+use Rattle.theorems.specs.Rtt.{RttRun, RttRan, RttRow, rttCount, OneRttOutcome, RttCall, EveryRttReply, rttBefore, rttWord, RttStarts, InRttBytes, InRttAnswers}
 use Rattle.theorems.specs.Casts.{Casts}
 use Rattle.theorems.specs.Steps.{moment, Makes, Refused, Numbered, stepOf, outcomeIn, noteAfter, lastAfter}
 use Rattle.theorems.specs.Runs.{Unasked, Run, Ran, FilterRun, Filtered, SlopeRun, Raised, OneOutcome, Conversions, RunRow, FilterRow, SlopeRow, PairShows, AreBytes, isWithin, count, call, before, answer, answerWord, Accepted, Starts, Each, History, exactAfter, exactRuns, exactBefore, lowWord, inflightIn, bandwidthIn, HasBetaWord, HasSmallWords, OfEvents}
@@ -104,6 +115,7 @@ pub record Theorems : Type 0 where
   pub run-row : (r : Run) → Ran r → RunRow r
   pub filter-row : (r : FilterRun) → Filtered r → FilterRow r
   pub slope-row : (r : SlopeRun) → Raised r → SlopeRow r
+  pub rtt-row : (r : RttRun) → RttRan r → RttRow r
   -- Refused with 2, it names the first of its own faults, by kind and place (document 02, request b)
   pub run-fault : (r : Run) → Ran r →
       Named (r .reply) (modelRow (r .state) (r .calls) (length (r .answers))) (lengthFaults (r .state) (r .calls))
@@ -111,10 +123,13 @@ pub record Theorems : Type 0 where
       Named (r .reply) (runRow (r .window) (r .pairs) (length (r .output))) (pairsFaults (r .pairs))
   pub slope-fault : (r : SlopeRun) → Raised r →
       Named (r .reply) (slopeRow (r .rounds) (r .window) (length (r .output))) (windowFaults (r .window))
+  pub rtt-fault : (r : RttRun) → RttRan r →
+      Named (r .reply) (rttRow (r .state) (r .calls) (length (r .answers))) (rttFaults (r .state) (r .calls))
   -- Refused, it leaves every lent byte as it was
   pub run-keeps : (r : Run) → Ran r → (r .reply ≡ 0 → ⊥) → (r .left ≡ r .state) × (r .written ≡ r .answers)
   pub filter-keeps : (r : FilterRun) → Filtered r → (r .reply ≡ 0 → ⊥) → r .written ≡ r .output
   pub slope-keeps : (r : SlopeRun) → Raised r → (r .reply ≡ 0 → ⊥) → r .written ≡ r .output
+  pub rtt-keeps : (r : RttRun) → RttRan r → (r .reply ≡ 0 → ⊥) → (r .left ≡ r .state) × (r .written ≡ r .answers)
   -- A run that is done leaves a state within document 01's bounds, if it was lent one or its first call is a start. The
   -- premise `AreBytes` says that each byte is below 256: a list here may hold any numbers
   pub run-bounds : (r : Run) → Ran r → AreBytes (r .state) → AreBytes (r .calls) → r .reply ≡ 0 →
@@ -149,6 +164,20 @@ pub record Theorems : Type 0 where
   pub calls : EveryReply
   pub calls-faults : EveryFault
   pub calls-bounds : EveryCall
+  -- The round-trip estimator (document 02, request a): the same of its public functions and, whatever its words are, of
+  -- a call of its run. A run that is done leaves the words of the estimator that the calls lead to, 48 bytes that the
+  -- next run takes, within the bounds if it was lent such or begins with `new`; and word j of answer i is that of the
+  -- call's answer, on the estimator that the calls before it left
+  pub rtt-calls : EveryRttReply
+  pub rtt-call : (s : RttStats) (n a b c : ℕ) → RttCall s n a b c
+  pub rtt-left : (r : RttRun) → RttRan r → r .reply ≡ 0 →
+      r .left ≡ allBytes (statsWords (rttBefore r (rttCount r)))
+  pub rtt-bounds : (r : RttRun) → RttRan r → r .reply ≡ 0 →
+      (statsOk (statsIn (r .state)) ≡ true) ⊎ RttStarts r → statsOk (statsIn (r .left)) ≡ true
+  pub rtt-again : (r : RttRun) → RttRan r → AreBytes (r .state) → r .reply ≡ 0 →
+      (length (r .left) ≡ 48) × (Trips.encodesNone (r .left) ≡ false)
+  pub rtt-answered : (r : RttRun) → RttRan r → r .reply ≡ 0 → (i j : ℕ) → i < rttCount r → j < 5 →
+      rttWord r i j ≡ word (answerAt (rttBefore r i) (r .calls) (32 * i)) j
   --
   -- ==== Demand 2. What an exported call replies and leaves is what its definition says, and nothing else is allowed.
   -- Where nothing is refused it is written from the Rust: an event's, since request i, over events that pass row 10
@@ -162,10 +191,15 @@ pub record Theorems : Type 0 where
   pub slope-defined : (r : SlopeRun) → Raised r →
       (r .reply ≡ slopeReply (r .rounds) (r .window) (length (r .output)))
       × (r .written ≡ slopeOut (r .rounds) (r .window) (r .output))
+  pub rtt-defined : (r : RttRun) → RttRan r →
+      (r .reply ≡ rttReply (r .state) (r .calls) (length (r .answers)))
+      × (r .left ≡ rttStateOut (r .state) (r .calls) (r .answers))
+      × (r .written ≡ rttAnswersOut (r .state) (r .calls) (r .answers))
   -- The seven conversions; and their casts are those of the Rust Reference, their rounding that of Rust's `f64::round`
   pub conversions : Conversions
   pub casts : Casts
   pub one-outcome : OneOutcome
+  pub one-rtt-outcome : OneRttOutcome
   -- A call of a run leaves what its step leaves, and the step is that of the call's number, whatever its words are
   pub steps : (w : List ℕ) (s : State) → Makes w s
   pub numbers : (w : List ℕ) → Numbered (stepOf w) (word w 0)
@@ -214,6 +248,20 @@ pub record Theorems : Type 0 where
   -- At beta 0.3 b is 11744051 / 2^24, and they are under 3.34 bytes and under 1.67 bits per second
   pub usual-inflight : InflightNear usualBeta usualParts (Under 334)
   pub usual-bandwidth : BandwidthNear usualBeta usualParts (Under 167)
+  --
+  -- ==== The round-trip estimator's averages (document 02, request a; crates/rtt/specs/Exact.antt, `Follows`), after
+  -- any run of calls that begins with `new`: the smoothed value is never above the exact average of the same adjusted
+  -- samples and less than 14 ns below it, the variation less than 20 ns below and less than 14 ns above the exact one,
+  -- whose deviations are taken from the exact average; both are within their bounds, and the minimum is the least of
+  -- all samples. Of the definitions, of what the public functions return, of the bytes that the exported runs leave,
+  -- one after the other, and of each accepted call's answer in them. Then the estimator worked out, with runs in which
+  -- no smaller whole number bounds the averages
+  pub rtt : Averages.EveryRun
+  pub rtt-returned : Returned.EveryReturned
+  pub rtt-bytes : InRttBytes
+  pub rtt-answers : InRttAnswers
+  pub rtt-examples : all rttExamples ≡ true
+  pub rtt-worked : Samples.Worked
 
 -- ==== What else must be believed
 -- The kit: that its checker accepts only proofs; that its models of floats and of the machine are those of the
@@ -223,6 +271,6 @@ pub record Theorems : Type 0 where
 -- which are only read, share bytes. The page docs/LAYOUT.md. And the definitions that this page is made of, written
 -- from documents 01 and 02, the original and docs/LAYOUT.md: all files of specs/ to which `use` lines lead from here,
 -- with their remarks. A script of the gate counts their lines (tests/contracts.py):
---   numbers 257, units 125, filters 442, words 137, state 939, worth 274, layout 216, events 464, phases 208, changes
---   62, judge 199, arguments 222, reads 18, places 142, pairs 63, calls 204, laws 658, drift 379, dispatch 242,
---   guovssalu 180, theorems 863: together 6294
+--   numbers 257, units 125, filters 442, words 137, state 939, worth 274, rtt 481, layout 216, events 464, phases 208,
+--   changes 62, judge 199, arguments 222, reads 18, places 142, pairs 63, trips 188, calls 204, laws 658, drift 379,
+--   dispatch 242, guovssalu 206, theorems 1130: together 7256

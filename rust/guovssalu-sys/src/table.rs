@@ -1,7 +1,10 @@
 //! The calls, their words and their sizes: written from docs/calls.txt by tests/table.py, and not edited.
 
-/// An unset number of bytes, 2^64 - 1.
+/// An unset number of bytes, or an unset length, 2^64 - 1.
 pub const UNSET: u64 = 18_446_744_073_709_551_615;
+
+/// The longest length of time that is taken, in nanoseconds: 2^36, 68.7 s.
+pub const LONGEST: u64 = 68_719_476_736;
 
 /// Bytes of a word.
 pub const WORD_BYTES: usize = 8;
@@ -50,6 +53,18 @@ pub const SAMPLES_BYTES: usize = 32;
 pub const SLOPE_WORDS: usize = 2;
 /// Bytes of the slope's output.
 pub const SLOPE_BYTES: usize = 16;
+/// Words of a round-trip estimator.
+pub const RTT_STATE_WORDS: usize = 6;
+/// Bytes of a round-trip estimator.
+pub const RTT_STATE_BYTES: usize = 48;
+/// Words of a call of the estimator's.
+pub const RTT_CALL_WORDS: usize = 4;
+/// Bytes of a call of the estimator's.
+pub const RTT_CALL_BYTES: usize = 32;
+/// Words of an answer of the estimator's.
+pub const RTT_ANSWER_WORDS: usize = 5;
+/// Bytes of an answer of the estimator's.
+pub const RTT_ANSWER_BYTES: usize = 40;
 /// The most acked numbers in a call itself; more stand in the lists.
 pub const MOST_ACKED: usize = 3;
 /// The first word of its number in a call.
@@ -68,6 +83,10 @@ pub const VALUE_IN_ANSWER: usize = 1;
 pub const EVENT_IN_ANSWER: usize = 2;
 /// The first word of the cycle in a state.
 pub const CYCLE_IN_STATE: usize = 35;
+/// The first word of its number in a call of the estimator's.
+pub const RTT_NUMBER_IN_CALL: usize = 0;
+/// The first word of its arguments in a call of the estimator's.
+pub const RTT_ARGUMENTS_IN_CALL: usize = 1;
 
 /// The numbers of the calls: a call's first word.
 pub mod call {
@@ -864,6 +883,106 @@ pub mod slope {
     pub const PROBE_UP_BYTES: usize = 1;
 }
 
+/// The numbers of the round-trip estimator's calls: a call's first word.
+pub mod rtt_call {
+    /// Call 0: a fresh estimator, with no sample yet.
+    pub const NEW: u64 = 0;
+
+    /// Call 1: a sample, and the delay that the peer reports with it.
+    pub const UPDATE_RTT: u64 = 1;
+
+    /// Call 2: the largest delay that the peer announces.
+    pub const UPDATE_MAX_ACK_DELAY: u64 = 2;
+
+    /// All of them, in order.
+    pub const ALL: [u64; 3] = [NEW, UPDATE_RTT, UPDATE_MAX_ACK_DELAY];
+
+    /// Their names, in the same order.
+    pub const NAMES: [&str; 3] = ["new", "update_rtt", "update_max_ack_delay"];
+}
+
+/// The arguments of the estimator's calls: words of a call.
+pub mod rtt_argument {
+    /// Of `new`.
+    pub mod new {
+        /// Word 1: length.
+        pub const INITIAL_RTT: usize = 1;
+
+        /// Word 2: length.
+        pub const MAX_ACK_DELAY: usize = 2;
+    }
+
+    /// Of `update_rtt`.
+    pub mod update_rtt {
+        /// Word 1: length.
+        pub const LATEST_RTT: usize = 1;
+
+        /// Word 2: length.
+        pub const ACK_DELAY: usize = 2;
+
+        /// Word 3: flag.
+        pub const HANDSHAKE_CONFIRMED: usize = 3;
+    }
+
+    /// Of `update_max_ack_delay`.
+    pub mod update_max_ack_delay {
+        /// Word 1: length.
+        pub const MAX_ACK_DELAY: usize = 1;
+    }
+}
+
+/// Words of a round-trip estimator.
+pub mod rtt_state {
+    /// Word 0: length.
+    pub const LATEST_RTT: usize = 0;
+
+    /// Word 1: length.
+    pub const MIN_RTT: usize = 1;
+
+    /// Word 2: length.
+    pub const SMOOTHED_RTT: usize = 2;
+
+    /// Word 3: length.
+    pub const RTTVAR: usize = 3;
+
+    /// Word 4: length.
+    pub const MAX_ACK_DELAY: usize = 4;
+
+    /// Word 5: flag.
+    pub const HAS_FIRST_RTT_SAMPLE: usize = 5;
+
+    /// The names of its words, in order.
+    pub const NAMES: [&str; 6] = [
+        "latest_rtt",
+        "min_rtt",
+        "smoothed_rtt",
+        "rttvar",
+        "max_ack_delay",
+        "has_first_rtt_sample",
+    ];
+}
+
+/// Words of an answer of the estimator's.
+pub mod rtt_answer {
+    /// Word 0: reply.
+    pub const REPLY: usize = 0;
+
+    /// Word 1: length.
+    pub const LATEST_RTT: usize = 1;
+
+    /// Word 2: length or unset.
+    pub const MIN_RTT: usize = 2;
+
+    /// Word 3: length.
+    pub const SMOOTHED_RTT: usize = 3;
+
+    /// Word 4: length.
+    pub const RTTVAR: usize = 4;
+
+    /// The names of its words, in order.
+    pub const NAMES: [&str; 5] = ["reply", "latest_rtt", "min_rtt", "smoothed_rtt", "rttvar"];
+}
+
 /// The replies: an answer's first word, and what an exported call replies.
 pub mod reply {
     /// Reply 0.
@@ -1172,6 +1291,25 @@ pub mod place {
         ],
     ];
 
+    /// Of each call of `rtt_call::ALL`, in the same order.
+    pub const RTT_CALLS: [&[Argument]; 3] = [
+        // new
+        &[
+            Argument { name: "initial_rtt", faults: &[(4, "initial_rtt is longer than 2^36 ns")] },
+            Argument { name: "max_ack_delay", faults: &[(4, "max_ack_delay is longer than 2^36 ns")] },
+        ],
+        // update_rtt
+        &[
+            Argument { name: "latest_rtt", faults: &[(4, "latest_rtt is longer than 2^36 ns")] },
+            Argument { name: "ack_delay", faults: &[(4, "ack_delay is longer than 2^36 ns")] },
+            Argument { name: "handshake_confirmed", faults: &[(8, "handshake_confirmed is neither 0 nor 1")] },
+        ],
+        // update_max_ack_delay
+        &[
+            Argument { name: "max_ack_delay", faults: &[(4, "max_ack_delay is longer than 2^36 ns")] },
+        ],
+    ];
+
     /// Of `guovssalu_run`.
     pub const RUN: [Argument; 3] = [
         Argument { name: "state", faults: &[(8, "state is not 408 bytes long")] },
@@ -1199,6 +1337,13 @@ pub mod place {
         Argument { name: "rounds", faults: &[] },
         Argument { name: "window", faults: &[(1, "window is larger than 2^40 bytes")] },
         Argument { name: "out", faults: &[] },
+    ];
+
+    /// Of `guovssalu_rtt_run`.
+    pub const RTT_RUN: [Argument; 3] = [
+        Argument { name: "state", faults: &[(8, "state is not 48 bytes long")] },
+        Argument { name: "calls", faults: &[(8, "calls is no whole number of 32 bytes")] },
+        Argument { name: "answers", faults: &[] },
     ];
 
     /// What is said at place 0.

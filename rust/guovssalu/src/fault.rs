@@ -7,6 +7,7 @@ use crate::table::fault;
 use crate::table::place;
 use crate::table::place::Argument;
 use crate::table::reply;
+use crate::table::rtt_call;
 
 /// What kind of bound an argument passed: the number after the dot of a refusal with 2.
 #[derive(Clone, Copy, Debug, PartialEq, Eq, Hash)]
@@ -79,8 +80,9 @@ impl FaultKind {
 /// [`Cycle::new`](crate::Cycle::new), which goes by a start, has one argument, at place 1.
 ///
 /// The text names the argument, and of a record each field that can be meant. An
-/// [`Answer`](crate::Answer) doesn't know its call: see [`Fault::of_call`]. Two faults are equal where kind
-/// and place are: the call is known for the text alone.
+/// [`Answer`](crate::Answer) doesn't know its call: see [`Fault::of_call`], and for an
+/// [`RttAnswer`](crate::RttAnswer) [`Fault::of_rtt_call`]. Two faults are equal where kind and place are:
+/// the call is known for the text alone.
 #[derive(Clone, Copy, Debug)]
 pub struct Fault {
     kind: FaultKind,
@@ -116,10 +118,18 @@ impl Fault {
     /// The same fault of the call of a number, [`table::call`](crate::table::call): the text then names
     /// the argument. Of a number that is no call's no argument is known.
     pub fn of_call(self, number: u64) -> Self {
-        self.of(match u8::try_from(number) {
-            Ok(number) => Asked::Call(number),
-            Err(_) => Asked::Unknown,
-        })
+        self.of_number(number, Asked::Call)
+    }
+
+    /// The same of the round-trip estimator's call of a number,
+    /// [`table::rtt_call`](crate::table::rtt_call).
+    pub fn of_rtt_call(self, number: u64) -> Self {
+        self.of_number(number, Asked::RttCall)
+    }
+
+    /// The same fault of one of these calls, by its number.
+    fn of_number(self, number: u64, call: fn(u8) -> Asked) -> Self {
+        self.of(u8::try_from(number).map_or(Asked::Unknown, call))
     }
 
     /// The same fault of what was asked.
@@ -188,12 +198,15 @@ pub(crate) enum Asked {
     Unknown,
     /// The call of this number.
     Call(u8),
+    /// The round-trip estimator's call of this number.
+    RttCall(u8),
     NewCycle,
     FromBytes,
     Run,
     RunLists,
     FilterRun,
     Slope,
+    RttRun,
 }
 
 /// What `from_bytes` is given.
@@ -207,6 +220,7 @@ impl Asked {
         match self {
             Asked::Unknown => &[],
             Asked::Call(number) => arguments_of(u64::from(number)),
+            Asked::RttCall(number) => found(u64::from(number), &rtt_call::ALL, &place::RTT_CALLS),
             // A start's, but for its first, initial_rtt.
             Asked::NewCycle => arguments_of(call::START).get(1..).unwrap_or(&[]),
             Asked::FromBytes => &BYTES,
@@ -214,13 +228,19 @@ impl Asked {
             Asked::RunLists => &place::RUN_LISTS,
             Asked::FilterRun => &place::FILTER_RUN,
             Asked::Slope => &place::RAISE_INFLIGHT_HIGH_SLOPE,
+            Asked::RttRun => &place::RTT_RUN,
         }
     }
 }
 
-/// The arguments of the call of a number, none where it is no call's.
+/// The arguments of the model's call of a number.
 fn arguments_of(number: u64) -> &'static [Argument] {
-    let mut calls = call::ALL.into_iter().zip(place::CALLS);
-    let found = calls.find(|(call, _)| *call == number);
+    found(number, &call::ALL, &place::CALLS)
+}
+
+/// The arguments of the call of a number, in the order of the numbers; none where it is no call's.
+fn found(number: u64, calls: &[u64], arguments: &[&'static [Argument]]) -> &'static [Argument] {
+    let mut calls = calls.iter().zip(arguments);
+    let found = calls.find(|(call, _)| **call == number);
     found.map_or(&[], |(_, arguments)| arguments)
 }

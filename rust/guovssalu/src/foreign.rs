@@ -72,3 +72,16 @@ pub fn run_lists(state: &mut [u8], calls: &[u8], lists: &[u64], answers: &mut [u
         )
     }
 }
+
+pub fn rtt_run(state: &mut [u8], calls: &[u8], answers: &mut [u8]) -> u64 {
+    unsafe {
+        sys::guovssalu_rtt_run(
+            state.as_mut_ptr(),
+            state.len(),
+            calls.as_ptr(),
+            calls.len(),
+            answers.as_mut_ptr(),
+            answers.len(),
+        )
+    }
+}

@@ -1,18 +1,19 @@
-//! The BBRv2 network model of quiche 0.30.0, proved in Rattle, for Rust: a safe wrapper over the
-//! archive that `rt staticlib guovssalu` writes for x86-64.
+//! The BBRv2 network model and the round-trip estimator of quiche 0.30.0, proved in Rattle, for Rust: a
+//! safe wrapper over the archive that `rt staticlib guovssalu` writes for x86-64.
 //!
-//! A [`NetworkModel`] and a [`Cycle`] hold their state as bytes, and their methods have the
-//! original's names. Each call is done, or it is refused with a [`Refusal`] and changes nothing. (One
-//! exception, in a [`run`] over bytes: a refused start replaces the state by a fresh one at
-//! moment 0.) The clock is the caller's: a [`Moment`] is a number of nanoseconds after a base moment
-//! of its choice. Nothing allocates and nothing is kept between calls.
+//! A [`NetworkModel`], a [`Cycle`] and the round-trip estimator, an [`RttStats`], hold their state as bytes,
+//! and their methods have the original's names. Each call is done, or it is refused with a [`Refusal`] and
+//! changes nothing. (One exception, over bytes: a refused start in a [`run`] replaces the state by a fresh
+//! one at moment 0, and a refused `new` in an [`rtt_run`] the estimator by a fresh one of 0 and 0.) The clock
+//! is the caller's: a [`Moment`] is a number of nanoseconds after a base moment of its choice. Nothing
+//! allocates and nothing is kept between calls.
 //!
-//! Beside the model stand the functions on numbers, and the windowed filter: a [`filter_run`] says
-//! after each pair which [`Samples`] it holds and why they moved, a [`Reason`].
+//! Beside them stand the functions on numbers, and the windowed filter: a [`filter_run`] says after each
+//! pair which [`Samples`] it holds and why they moved, a [`Reason`].
 //!
 //! What is proved is what the archive does with the bytes it is lent. This crate, which writes and
 //! reads those bytes, is tested. The numbers of calls, the places of words and the sizes are in
-//! [`table`], for those who write the bytes of a [`run`] themselves.
+//! [`table`], for those who write the bytes of a [`run`] or an [`rtt_run`] themselves.
 //!
 //! # A loss
 //!
@@ -46,6 +47,32 @@
 //! assert_eq!(model.last_sent_packet(), 1);
 //! # Ok::<(), Refusal>(())
 //! ```
+//!
+//! # A round trip
+//!
+//! The first sample, 80,000,001 ns, is taken whole. Off the second, 90 ms, the 5 ms are taken by which the
+//! peer says that it waited: 85 ms are left, which are not below the smallest sample.
+//!
+//! ```
+//! use guovssalu::{Duration, Refusal, RttStats};
+//!
+//! let mut stats = RttStats::new(Duration::from_millis(333), Duration::from_millis(25))?;
+//! assert_eq!(stats.min_rtt(), Ok(None));
+//!
+//! let first = Duration::from_nanos(80_000_001);
+//! stats.update_rtt(first, Duration::ZERO, true)?;
+//! stats.update_rtt(Duration::from_millis(90), Duration::from_millis(5), true)?;
+//! assert_eq!(stats.rttvar(), Ok(Duration::from_nanos(31_249_999)));
+//! assert_eq!(stats.rtt(), Ok(Duration::from_nanos(80_625_000)));
+//! assert_eq!(stats.min_rtt(), Ok(Some(first)));
+//! # Ok::<(), Refusal>(())
+//! ```
+//!
+//! Both averages are whole nanoseconds, rounded down with each sample, and this does not add up. Proved, for
+//! any updates of a fresh estimator, of which those that are refused don't count: [`rtt`](RttStats::rtt) is
+//! never above the exact average of the same samples, less their delays, and less than 14 ns below it
+//! (above, 0.875 ns); [`rttvar`](RttStats::rttvar) is less than 20 ns below the exact one, and less than
+//! 14 ns above it (docs/DRIFT.md).
 //!
 //! # Which argument
 //!
@@ -113,6 +140,7 @@ mod model;
 mod numbers;
 mod params;
 mod refusal;
+mod rtt;
 mod time;
 mod words;
 
@@ -141,6 +169,10 @@ pub use numbers::u64_to_f32;
 pub use numbers::u64_to_f64;
 pub use params::Params;
 pub use refusal::Refusal;
+pub use rtt::rtt_run;
+pub use rtt::RttAnswer;
+pub use rtt::RttCall;
+pub use rtt::RttStats;
 pub use table::STATE_BYTES;
 pub use time::Duration;
 pub use time::Moment;

@@ -8,7 +8,8 @@ use crate::FaultKind;
 
 /// Why a call was refused: rows 1 to 7 and 10 of the table of refusals. Where several rows apply, the
 /// first of 1, 2, 3, 4, 10, 5, 7 is given. A refused call has changed nothing, but for a start (call 0)
-/// in a [`run`](crate::run), which has then replaced the state by a fresh one at moment 0.
+/// in a [`run`](crate::run), which has then replaced the state by a fresh one at moment 0, and a `new`
+/// (call 0) in an [`rtt_run`](crate::rtt_run), which has then left a fresh estimator of 0 and 0.
 ///
 /// Malformed words (docs/LAYOUT.md) can only be in calls that were not written by this package, or by
 /// [`Call::new`](crate::Call::new) with other arguments than the call has, and in an event with a list
@@ -16,7 +17,8 @@ use crate::FaultKind;
 #[derive(Clone, Copy, Debug, PartialEq, Eq, Hash)]
 pub enum Refusal {
     /// 1: a stored number or a parameter is outside its bounds, a parameter's word is malformed, or
-    /// bytes encode no state.
+    /// bytes encode no state. Of the round-trip estimator, which takes no parameters: a stored length is
+    /// above 2^36 ns, or, of bytes, the last word is neither 0 nor 1.
     OutOfBounds,
     /// 2: an argument is outside its bounds or its word is malformed, a number is no call's, bytes
     /// have a wrong length, or a postponed moment would pass 2^62. The [`Fault`] says which argument it
@@ -110,6 +112,14 @@ impl Refusal {
         }
     }
 
+    /// The same refusal of the round-trip estimator's call of a number: [`Fault::of_rtt_call`].
+    pub fn of_rtt_call(self, number: u64) -> Self {
+        match self {
+            Refusal::BadArgument(fault) => Refusal::BadArgument(fault.of_rtt_call(number)),
+            other => other,
+        }
+    }
+
     /// What a reply says of an exported call.
     pub(crate) fn of(reply: u64, asked: Asked) -> Result<(), Refusal> {
         Refusal::of_reply(reply).map_err(|refusal| match refusal {
@@ -122,7 +132,9 @@ impl Refusal {
 impl fmt::Display for Refusal {
     fn fmt(&self, f: &mut fmt::Formatter) -> fmt::Result {
         f.write_str(match self {
-            Refusal::OutOfBounds => "a stored number or a parameter is out of bounds or malformed",
+            Refusal::OutOfBounds => {
+                "a stored number, a stored length or a parameter is out of bounds or malformed"
+            }
             Refusal::BadArgument(fault) => return fmt::Display::fmt(fault, f),
             Refusal::EarlierMoment => "the moment is earlier than the last accepted one",
             Refusal::LowerTotal => "a total is lower than the stored one",

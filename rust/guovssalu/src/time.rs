@@ -4,6 +4,8 @@ use std::ops::Add;
 use std::ops::Sub;
 use std::time;
 
+use crate::table;
+
 /// A moment, in whole nanoseconds after a base moment of the caller's choice.
 ///
 /// The calls take moments up to 2^62, which is 146 years, and refuse those that are earlier than the
@@ -50,13 +52,24 @@ impl Sub for Moment {
 
 /// A length of time, in whole nanoseconds.
 ///
-/// The calls take lengths up to 2^36 nanoseconds, which is 68 seconds.
+/// The calls take lengths up to 2^36 nanoseconds, which is 68.7 seconds: [`Duration::LONGEST`].
 #[derive(Clone, Copy, Debug, Default, PartialEq, Eq, PartialOrd, Ord, Hash)]
 pub struct Duration(u64);
 
 impl Duration {
     /// No time.
     pub const ZERO: Duration = Duration(0);
+
+    /// The longest that the calls take, 2^36 nanoseconds. What someone else says, as a peer's ack delay, is
+    /// cut to it before it is handed in:
+    ///
+    /// ```
+    /// use guovssalu::Duration;
+    ///
+    /// assert_eq!(Duration::LONGEST.as_nanos(), 1 << 36);
+    /// assert_eq!(Duration::from_secs(70).min(Duration::LONGEST), Duration::LONGEST);
+    /// ```
+    pub const LONGEST: Duration = Duration(table::LONGEST);
 
     /// A length of so many nanoseconds.
     pub const fn from_nanos(nanos: u64) -> Self {

@@ -2,6 +2,7 @@
 //! refused call writes nothing.
 
 use guovssalu::filter_run;
+use guovssalu::rtt_run;
 use guovssalu::run;
 use guovssalu::run_lists;
 use guovssalu::table;
@@ -19,11 +20,15 @@ use guovssalu::table::WORD_BYTES as WORD;
 use guovssalu::Answer;
 use guovssalu::Call;
 use guovssalu::CongestionEvent;
+use guovssalu::Duration;
 use guovssalu::Fault;
 use guovssalu::FaultKind;
 use guovssalu::Moment;
 use guovssalu::Params;
 use guovssalu::Refusal;
+use guovssalu::RttAnswer;
+use guovssalu::RttCall;
+use guovssalu::RttStats;
 use guovssalu::Sample;
 use guovssalu::STATE_BYTES;
 
@@ -523,5 +528,81 @@ fn a_filter_run_needs_room_for_the_reasons() {
                 assert_eq!(word(out, 4 * count - 1), [0, 7, 5][count - 1]);
             }
         }
+    }
+}
+
+/// A fresh estimator, a sample, and a larger delay.
+fn rtt_calls() -> Vec<u8> {
+    let length = Duration::from_nanos;
+    let mut calls = Vec::new();
+    calls.extend(RttCall::new(length(9), length(5)).as_bytes());
+    calls.extend(RttCall::update_rtt(length(101), length(7), true).as_bytes());
+    calls.extend(RttCall::update_max_ack_delay(length(6)).as_bytes());
+    calls
+}
+
+fn words(bytes: &[u8]) -> Vec<u64> {
+    (0..bytes.len() / WORD).map(|at| word(bytes, at)).collect()
+}
+
+#[test]
+fn a_run_of_round_trips_stays_within_its_bytes() {
+    let calls = rtt_calls();
+    for spare in [0, 1, 7, RttAnswer::BYTES] {
+        let mut state = Guarded::new(&[0; RttStats::BYTES]);
+        let mut answers = Guarded::new(&vec![0x77; 3 * RttAnswer::BYTES + spare]);
+        let mut lent = Guarded::new(&calls);
+        assert_eq!(
+            rtt_run(state.content(), lent.content(), answers.content()),
+            Ok(())
+        );
+        assert!(lent.checked() == calls);
+        assert_eq!(words(state.checked()), [101, 101, 101, 50, 6, 1]);
+        let (given, beyond) = answers.checked().split_at(3 * RttAnswer::BYTES);
+        let (fresh, sampled) = ([0, 0, u64::MAX, 9, 4], [0, 101, 101, 101, 50]);
+        assert_eq!(words(given), [fresh, sampled, sampled].concat());
+        assert!(beyond.len() == spare && beyond.iter().all(|&byte| byte == 0x77));
+    }
+    // No calls: every state stays, out of its bounds or not.
+    for byte in [0, 0x77] {
+        let mut kept = vec![byte; RttStats::BYTES];
+        kept[WORD * 5..].copy_from_slice(&1_u64.to_le_bytes());
+        let mut state = Guarded::new(&kept);
+        assert_eq!(rtt_run(state.content(), &[], &mut []), Ok(()));
+        assert!(state.checked() == kept);
+    }
+}
+
+/// A wrong length of the state, of the calls and of the answers, and what is no state: row 1 comes before
+/// row 2, and that before row 7. No byte is written.
+#[test]
+fn a_run_of_round_trips_refuses_and_writes_nothing() {
+    let refused = |state: &[u8], calls: &[u8], room: usize, refusal: Refusal| {
+        let mut lent = Guarded::new(state);
+        let mut answers = Guarded::new(&vec![0x77; room]);
+        let reply = rtt_run(lent.content(), calls, answers.content());
+        assert_eq!(reply, Err(refusal));
+        assert!(lent.checked() == state);
+        assert!(answers.checked().iter().all(|&byte| byte == 0x77));
+    };
+    let (state, calls, room) = ([0; 49], rtt_calls(), 3 * RttAnswer::BYTES);
+    for length in [0, 1, 40, 47, 49] {
+        refused(&state[..length], &calls, room, malformed(1));
+        refused(&state[..length], &calls[1..], 0, malformed(1));
+    }
+    let state = &state[..48];
+    for length in [1, 31, 33, 95] {
+        refused(state, &calls[..length], room, malformed(2));
+        refused(state, &calls[..length], 0, malformed(2));
+    }
+    for short in [0, 1, 39, 40, 119] {
+        refused(state, &calls, short, Refusal::ShortOutput);
+    }
+    for (at, byte) in [(40, 2), (40, 255), (41, 1), (47, 128)] {
+        let mut state = [0; 48];
+        state[at] = byte;
+        refused(&state, &calls, room, Refusal::OutOfBounds);
+        refused(&state, &calls[1..], 0, Refusal::OutOfBounds);
+        refused(&state, &[], 0, Refusal::OutOfBounds);
     }
 }

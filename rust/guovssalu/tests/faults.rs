@@ -7,6 +7,7 @@ use std::collections::BTreeSet;
 
 use guovssalu::filter_run;
 use guovssalu::raise_inflight_high_slope;
+use guovssalu::rtt_run;
 use guovssalu::run;
 use guovssalu::run_lists;
 use guovssalu::table;
@@ -23,6 +24,7 @@ use guovssalu::Moment;
 use guovssalu::NetworkModel;
 use guovssalu::Params;
 use guovssalu::Refusal;
+use guovssalu::RttStats;
 use guovssalu::Sample;
 use guovssalu::STATE_BYTES;
 
@@ -887,6 +889,20 @@ fn texts_of_wrong_lengths() {
         assert_eq!(text(run(&mut lent, &asked, &mut [])), due);
         assert_eq!(text(run_lists(&mut lent, &asked, &[1], &mut [])), due);
     }
+    let state = "2.8 at 1: state is not 48 bytes long";
+    let calls = "2.8 at 2: calls is no whole number of 32 bytes";
+    for (lent, asked, due) in [
+        (47, 0, state),
+        (0, 32, state),
+        (49, 31, state),
+        (48, 31, calls),
+        (48, 65, calls),
+    ] {
+        let (mut lent, asked) = (vec![0; lent], vec![0; asked]);
+        assert_eq!(text(rtt_run(&mut lent, &asked, &mut [])), due);
+    }
+    let mut stats = RttStats::from_bytes(&[0; 48]).unwrap();
+    assert_eq!(text(stats.run(&[0; 33], &mut [])), calls);
     for length in [1, 15, 17, 47] {
         let made = filter_run(8, &vec![0; length], &mut []);
         assert_eq!(text(made), "2.8 at 2: src is no whole number of 16 bytes");
@@ -895,6 +911,7 @@ fn texts_of_wrong_lengths() {
     let bytes = "2.8 at 1: bytes has a wrong length";
     assert_eq!(text(NetworkModel::from_bytes(&[0; 279]).map(drop)), bytes);
     assert_eq!(text(Cycle::from_bytes(&[0; 129]).map(drop)), bytes);
+    assert_eq!(text(RttStats::from_bytes(&[0; 49]).map(drop)), bytes);
 }
 
 /// Whether its call is known or not.

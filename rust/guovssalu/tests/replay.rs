@@ -1,7 +1,7 @@
 //! The calls of the kept frames, each made by the wrapper in the state in which the original was:
 //! reply, answer, event and state are held to the original's, once by the methods, once by a run over
 //! bytes and once by a run with lists. A call with malformed words, which no method writes, goes into both
-//! runs as it is.
+//! runs as it is. The runs of the round-trip estimator are made as they are, and their calls by the methods.
 //!
 //! The numbers of calls, places of words and sizes in this file are written by hand, and not taken from
 //! the table that the package is written with: a wrong table is noticed here.
@@ -22,6 +22,7 @@ use guovssalu::Moment;
 use guovssalu::NetworkModel;
 use guovssalu::Params;
 use guovssalu::Refusal;
+use guovssalu::RttStats;
 use guovssalu::Sample;
 use guovssalu::SendTimeState;
 
@@ -38,6 +39,7 @@ const FILTER: u64 = 46;
 const NUMBERS: u64 = 47;
 const FILTER_RUN: u64 = 48;
 const SLOPE: u64 = 49;
+const RTT_RUN: u64 = 50;
 const PUT: u64 = 99;
 
 /// One call of a frame: the state before it, its words and those of the original's answer.
@@ -58,6 +60,7 @@ fn kept_frames() {
             FILTER | NUMBERS | PUT => continue,
             FILTER_RUN => (&[by_filter_run], true),
             SLOPE => (&[by_slope], true),
+            RTT_RUN => (&[by_rtt_run], true),
             _ if case.is_malformed() => (&[by_words], false),
             _ => (&[by_methods, by_bytes, by_lists], true),
         };
@@ -72,8 +75,8 @@ fn kept_frames() {
             }
         }
     }
-    // The model's and the cycle's 44, and the two exported ones with an output.
-    assert_eq!(seen.len(), 46);
+    // The model's and the cycle's 44, and the three exported ones with an output.
+    assert_eq!(seen.len(), 47);
     // Of the replies every row, and of row 2 every kind and every place.
     let rows: BTreeSet<u64> = replies.iter().map(|reply| reply % 256).collect();
     assert!(rows.into_iter().eq([0, 1, 2, 3, 4, 5, 7, 10]));
@@ -111,7 +114,7 @@ fn cases() -> Vec<Case> {
                 call: call.to_vec(),
                 answer: answer.to_vec(),
             };
-            if !(NUMBERS..=SLOPE).contains(&call[0]) {
+            if !(NUMBERS..=RTT_RUN).contains(&call[0]) {
                 state = case.after().to_vec();
             }
             cases.push(case);
@@ -132,12 +135,13 @@ fn kept(name: &str) -> Vec<u64> {
 impl Case {
     /// The same call with expectations that are wrong in one number: the reply (of a bad argument also
     /// its kind and its place), the answer (of an exported call, words of its output; the filter's first
-    /// sample and first reason are among them), and unless it is a refused start, which leaves no state to the caller of a method, a
-    /// word of the state.
+    /// sample and first reason are among them, and the estimator's state and first answer), and unless it is
+    /// a refused start, which leaves no state to the caller of a method, a word of the state.
     fn changed(&self) -> Vec<Case> {
         let (number, reply) = (self.call[0], self.answer[0]);
         let mut places = match (number, reply) {
             (FILTER_RUN, _) => vec![0, 2, 5, ANSWER - 1],
+            (RTT_RUN, _) => vec![0, 2, 7, 9, 10, ANSWER - 1],
             (SLOPE, 0) => vec![0, 2, 3],
             (SLOPE, 7) => vec![],
             (SLOPE, _) => vec![0],
@@ -512,6 +516,62 @@ fn by_slope(case: &Case) -> Result<(), String> {
         return Err(format!("{:?}, not {:?}", seen, expected));
     }
     Ok(())
+}
+
+/// Runs the round-trip estimator on the bytes that the call lends; all of the memory is compared. Where the
+/// run is done its calls are made by the methods, too.
+fn by_rtt_run(case: &Case) -> Result<(), String> {
+    let lent = [56, 304, 480];
+    let lent = [0, 1, 2].map(|at| case.argument(at).min(lent[at]) as usize);
+    let before = bytes(&case.call[4..11]);
+    let calls = &bytes(&case.call[11..])[..lent[1]];
+    let (mut memory, mut answers) = (before.clone(), [165; 480]);
+    let reply = guovssalu::rtt_run(&mut memory[..lent[0]], calls, &mut answers[..lent[2]]);
+    let mut seen = bytes(&numbers(reply.map(|()| 0)));
+    seen.extend(&memory);
+    seen.extend(answers);
+    if seen != bytes(&case.answer) {
+        return Err(format!("{:?}", seen));
+    }
+    if reply.is_ok() {
+        let mut stats = RttStats::from_bytes(&before[..48]).unwrap();
+        for (call, answer) in calls.chunks(32).zip(answers.chunks(40)) {
+            rtt_method(&mut stats, call, answer);
+        }
+        assert_eq!(stats.as_bytes()[..], memory[..48]);
+    }
+    Ok(())
+}
+
+/// Makes a call of the estimator by the method of its name, unless it is malformed: reply and answer are held
+/// to those of the run. A refused new leaves an estimator of 0 and 0 in a run, and none to the caller of a
+/// method.
+fn rtt_method(stats: &mut RttStats, call: &[u8], answer: &[u8]) {
+    let length = |at: usize| Duration::from_nanos(word(call, at));
+    let reply = match (word(call, 0), word(call, 3)) {
+        (0, _) => {
+            let made = RttStats::new(length(1), length(2));
+            let zeros = RttStats::from_bytes(&[0; 48]).unwrap();
+            *stats = made.clone().unwrap_or(zeros);
+            made.map(drop)
+        }
+        (1, flag @ 0..=1) => stats.update_rtt(length(1), length(2), flag == 1),
+        (2, _) => stats.update_max_ack_delay(length(1)),
+        _ => return,
+    };
+    let nanos = |length: Result<Duration, Refusal>| length.map_or(0, Duration::as_nanos);
+    let smallest = |smallest: Option<Duration>| smallest.map_or(u64::MAX, Duration::as_nanos);
+    let mut seen = vec![numbers(reply.map(|()| 0))[0]];
+    seen.extend(match reply {
+        Err(_) => [0; 4],
+        Ok(()) => [
+            nanos(stats.latest_rtt()),
+            stats.min_rtt().map_or(0, smallest),
+            nanos(stats.rtt()),
+            nanos(stats.rttvar()),
+        ],
+    });
+    assert_eq!(bytes(&seen), answer);
 }
 
 fn bytes(words: &[u64]) -> Vec<u8> {

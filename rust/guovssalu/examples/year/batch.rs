@@ -186,7 +186,7 @@ impl Batch {
 }
 
 /// The word at a place (docs/LAYOUT.md).
-fn word(bytes: &[u8], at: usize) -> u64 {
+pub fn word(bytes: &[u8], at: usize) -> u64 {
     let mut word = [0; WORD_BYTES];
     word.copy_from_slice(&bytes[WORD_BYTES * at..][..WORD_BYTES]);
     u64::from_le_bytes(word)

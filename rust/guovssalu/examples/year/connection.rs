@@ -22,6 +22,7 @@ use crate::rules::Rules;
 use crate::rules::Turn;
 use crate::rules::MOST_BYTES;
 use crate::tally::Tally;
+use crate::trips::Trips;
 use crate::weeks::week;
 
 /// The smallest window, one packet.
@@ -36,6 +37,7 @@ const FULL: usize = 128;
 pub struct Connection {
     pub tally: Tally,
     pub batch: Batch,
+    pub trips: Trips,
     pub now: u64,
     random: Random,
     rules: Rules,
@@ -62,6 +64,7 @@ impl Connection {
         let mut connection = Connection {
             tally: Tally::new(),
             batch: Batch::new(),
+            trips: Trips::new(seed).expect("the lengths are within their bounds"),
             now: 0,
             random: Random::new(seed),
             rules: Rules::new(),
@@ -135,6 +138,7 @@ impl Connection {
     /// Makes the calls that wait; then the window is held by what the model says.
     pub fn make(&mut self) -> Result<(), String> {
         self.batch.make(&self.rules, &mut self.tally)?;
+        self.trips.make()?;
         let limit = self.batch.inflight_lo().min(self.rules.inflight_hi);
         self.window = self.path.min(limit).max(PACKET);
         Ok(())
@@ -188,6 +192,7 @@ impl Connection {
         let inflight = sample.sample_max_inflight;
         assert!(self.window <= MOST_BYTES && inflight <= MOST_BYTES);
         self.tally.event(self.window, inflight);
+        self.trips.event(self.now);
 
         // In descending order: the packet, and the one before it.
         let acked = packet.map_or([0; 2], |packet| [packet, packet - 1]);

@@ -1,73 +1,19 @@
 //! The exact value of inflight_lo: the rules of crates/drift/specs/Exact.antt on fractions, each
 //! kept as an interval that surely holds it.
 
+use crate::interval::decimal;
+use crate::interval::fixed;
+use crate::interval::Interval;
+
 /// b, the f32 1 - beta at beta 0.3, in parts of 2^24.
 pub const PARTS: u128 = 11_744_051;
 
 /// How many of these parts are 1.
 pub const WHOLE: u128 = 1 << 24;
 
-/// An interval's ends are whole numbers of 2^-72 bytes.
-const POINT: u32 = 72;
-
 /// No number of bytes that the rules reach is as large; a larger one is taken for it, so that no
 /// product leaves 128 bits.
 const LARGEST: u64 = 1 << 32;
-
-/// The bytes in parts of 2^-72.
-fn fixed(bytes: u64) -> u128 {
-    u128::from(bytes.min(LARGEST)) << POINT
-}
-
-/// Two ends with the exact value between them, or on them.
-#[derive(Clone, Copy, Debug, PartialEq, Eq)]
-pub struct Interval {
-    low: u128,
-    high: u128,
-}
-
-impl Interval {
-    /// Whole bytes.
-    fn of(bytes: u64) -> Self {
-        let end = fixed(bytes);
-        Interval {
-            low: end,
-            high: end,
-        }
-    }
-
-    /// The product by b; the low end is rounded down and the high end up.
-    fn cut(self) -> Self {
-        Interval {
-            low: self.low * PARTS / WHOLE,
-            high: (self.high * PARTS + WHOLE - 1) / WHOLE,
-        }
-    }
-
-    /// The larger of it and the bytes.
-    fn at_least(self, bytes: u64) -> Self {
-        Interval {
-            low: self.low.max(fixed(bytes)),
-            high: self.high.max(fixed(bytes)),
-        }
-    }
-
-    /// The smaller of it and the bytes.
-    fn at_most(self, bytes: u64) -> Self {
-        Interval {
-            low: self.low.min(fixed(bytes)),
-            high: self.high.min(fixed(bytes)),
-        }
-    }
-
-    /// The distance of the bytes from the far end, in parts of 2^-72.
-    fn distance(self, bytes: u64) -> u128 {
-        let at = fixed(bytes);
-        let below = at.max(self.low) - at.min(self.low);
-        let above = at.max(self.high) - at.min(self.high);
-        below.max(above)
-    }
-}
 
 /// The exact value, and how many reductions were made since it was last unset.
 #[derive(Clone, Copy, Debug, PartialEq, Eq)]
@@ -81,18 +27,18 @@ impl Exact {
     /// whether that held it.
     pub fn reduce(&mut self, prior_cwnd: u64, inflight_latest: u64) -> bool {
         let (start, reductions) = match *self {
-            Exact::Unset => (Interval::of(prior_cwnd), 0),
+            Exact::Unset => (Interval::of(prior_cwnd.min(LARGEST)), 0),
             Exact::Set(interval, reductions) => (interval, reductions),
         };
-        let cut = start.cut();
-        *self = Exact::Set(cut.at_least(inflight_latest), reductions + 1);
-        cut.high < fixed(inflight_latest)
+        let (cut, latest) = (start.times(PARTS, WHOLE), inflight_latest.min(LARGEST));
+        *self = Exact::Set(cut.at_least(latest), reductions + 1);
+        cut.high < fixed(latest)
     }
 
     /// Holds it by a cap; unset, it stays so.
     pub fn cap(&mut self, bytes: u64) {
         if let Exact::Set(interval, _) = self {
-            *interval = interval.at_most(bytes);
+            *interval = interval.at_most(bytes.min(LARGEST));
         }
     }
 
@@ -111,8 +57,8 @@ impl Exact {
                 Err("inflight_lo is unset, the exact one set".to_string())
             }
             Exact::Set(interval, reductions) => Ok(Some(Difference {
-                parts: interval.distance(stored),
-                width: interval.high - interval.low,
+                parts: interval.distance(stored.min(LARGEST)).high,
+                width: interval.width(),
                 reductions,
             })),
         }
@@ -133,15 +79,14 @@ pub struct Difference {
 impl Difference {
     /// Whether it is less than k bytes and less than 1 / (1 - b) bytes, as the theorem says.
     pub fn is_inside(&self) -> bool {
-        let by_count = self.parts < u128::from(self.reductions) << POINT;
-        let by_rate = self.parts * (WHOLE - PARTS) < WHOLE << POINT;
+        let by_count = self.parts < fixed(self.reductions);
+        let by_rate = self.parts * (WHOLE - PARTS) < WHOLE * fixed(1);
         by_count && by_rate
     }
 
     /// It in bytes with six digits after the point, rounded up.
     pub fn bytes(&self) -> String {
-        let millionths = (self.parts * 1_000_000 + (1 << POINT) - 1) >> POINT;
-        format!("{}.{:06}", millionths / 1_000_000, millionths % 1_000_000)
+        decimal(self.parts, 6)
     }
 }
 
@@ -257,16 +202,5 @@ mod tests {
     fn a_window_above_the_premise_is_noticed() {
         assert_eq!(cut(16_777_223), 11_744_057);
         assert_eq!(noticed(16_777_223, 1, cut), Some(1));
-    }
-
-    #[test]
-    fn bytes_are_rounded_up() {
-        let difference = |parts| Difference {
-            parts,
-            ..Difference::default()
-        };
-        assert_eq!(difference(0).bytes(), "0.000000");
-        assert_eq!(difference(1).bytes(), "0.000001");
-        assert_eq!(difference(5 << (POINT - 1)).bytes(), "2.500000");
     }
 }

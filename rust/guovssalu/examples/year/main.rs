@@ -1,22 +1,27 @@
 //! A year of one connection: its calls are made on the port in runs of many, and after each that
-//! touches inflight_lo the stored number is compared with the exact value.
+//! touches inflight_lo the stored number is compared with the exact value. With each event the round-trip
+//! estimator is given a sample, and its two averages are compared with the exact ones.
 //!
 //!     cargo run --release --example year -- [SEED [EVENTS]]
 //!
 //! The exact value is worked out from what the port is handed (rules.rs), never from its inflight_lo;
 //! after each run both must agree on rounds, losses and the latest inflight. As in a real connection
-//! the window follows the model: after each run it is held by inflight_lo and inflight_hi.
+//! the window follows the model: after each run it is held by inflight_lo and inflight_hi. The exact
+//! averages are worked out from the samples (averages.rs). These have random numbers of their own.
 //!
 //! The year has 365 days whatever the number of events; with fewer the bursts are farther apart.
 
 #![deny(unsafe_code)]
 
+mod averages;
 mod batch;
 mod connection;
 mod exact;
+mod interval;
 mod random;
 mod rules;
 mod tally;
+mod trips;
 mod weeks;
 
 use std::env;
@@ -56,7 +61,7 @@ fn main() {
             println!("{:31}{} s", "time", begun.elapsed().as_secs());
         }
         Err(why) => {
-            println!("{}", connection.tally.progress(connection.now));
+            println!("{}", progress(&connection));
             println!("stopped, seed {}: {}", seed, why);
             process::exit(1);
         }
@@ -84,12 +89,18 @@ fn carry(connection: &mut Connection, events: u64) -> Result<Option<u64>, String
         connection.burst(part as u64)?;
         if connection.now / (7 * DAY) > weeks {
             weeks = connection.now / (7 * DAY);
-            eprintln!("{}", connection.tally.progress(connection.now));
+            eprintln!("{}", progress(connection));
             resident = resident.or_else(peak_resident);
         }
     }
     connection.make()?;
     Ok(resident)
+}
+
+/// One line on the way.
+fn progress(connection: &Connection) -> String {
+    let (tally, trips) = (&connection.tally, &connection.trips.tally);
+    format!("{}, {}", tally.progress(connection.now), trips.progress())
 }
 
 /// The report.
@@ -115,9 +126,18 @@ fn lines(
         bytes => line(text, "last inflight_lo", format!("{} bytes", bytes))?,
     }
     line(text, "last moment", format!("{} ns", batch.moment()))?;
-    let (state, room) = batch.bytes();
-    let memory = format!("state {} bytes, calls and answers {} bytes", state, room);
-    line(text, "memory", memory)?;
+    write!(text, "{}", connection.trips.tally)?;
+    if let Some([smoothed, variation]) = connection.trips.beside() {
+        line(text, "last rtt", smoothed)?;
+        line(text, "last rttvar", variation)?;
+    }
+    for (name, (state, room)) in [
+        ("memory", batch.bytes()),
+        ("memory for round trips", connection.trips.bytes()),
+    ] {
+        let memory = format!("state {} bytes, calls and answers {} bytes", state, room);
+        line(text, name, memory)?;
+    }
     if let (Some(first), Some(last)) = (resident, peak_resident()) {
         let peak = format!("{} KiB after a week, {} KiB at the end", first, last);
         line(text, "largest resident", peak)?;
@@ -128,6 +148,8 @@ fn lines(
 #[cfg(test)]
 mod tests {
     use super::*;
+
+    use guovssalu::table::rtt_state;
 
     /// A year of few events is inside the bound, and none of what it is for is missing.
     #[test]
@@ -143,6 +165,20 @@ mod tests {
         assert!(tally.smallest_window == 1_300 && tally.largest_window > 16_777_000);
         assert!(tally.set == tally.inside && tally.looks > tally.reductions);
         assert!(connection.batch.moment() > 364 * DAY);
+        let trips = &connection.trips.tally;
+        assert!(trips.samples == tally.events && trips.inside == tally.events);
+        assert!(trips.adjusted > 50_000 && trips.adjusted < 150_000);
+        assert!(trips.refused > 0 && trips.progress().starts_with("rtt 13.9"));
+    }
+
+    /// An estimator that is another than it was stops the year.
+    #[test]
+    fn a_wrong_round_trip_stops_the_year() {
+        let mut connection = Connection::new(1);
+        carry(&mut connection, 1_000).unwrap();
+        connection.trips.spoil(rtt_state::SMOOTHED_RTT, 1_000);
+        let why = carry(&mut connection, 2_000).unwrap_err();
+        assert!(why.starts_with("rtt is"), "{}", why);
     }
 
     /// The same seed gives the same year, another one another.
@@ -151,7 +187,7 @@ mod tests {
         let year = |seed| {
             let mut connection = Connection::new(seed);
             carry(&mut connection, 20_000).unwrap();
-            connection.tally.to_string()
+            format!("{}{}", connection.tally, connection.trips.tally)
         };
         assert_eq!(year(5), year(5));
         assert_ne!(year(5), year(6));

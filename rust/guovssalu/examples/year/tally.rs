@@ -3,8 +3,9 @@
 use std::fmt;
 use std::fs;
 
-use crate::exact::Difference;
+use crate::averages::Gaps;
 use crate::exact::Exact;
+use crate::interval::decimal;
 
 /// Nanoseconds of a day.
 pub const DAY: u64 = 86_400_000_000_000;
@@ -12,28 +13,32 @@ pub const DAY: u64 = 86_400_000_000_000;
 /// A chain of reductions without a clear is long from here on.
 const LONG: u64 = 1000;
 
-/// The largest difference, and the moment at which it was seen first.
+/// The largest difference, in parts of 2^-72, with the count of steps to it, and the moment at which it was
+/// seen first.
 #[derive(Default)]
 pub struct Largest {
-    difference: Difference,
+    parts: u128,
+    steps: u64,
     moment: u64,
 }
 
 impl Largest {
     /// Takes a difference if it is larger.
-    fn raise(&mut self, difference: &Difference, moment: u64) {
-        if difference.parts > self.difference.parts {
-            self.difference = *difference;
-            self.moment = moment;
+    fn raise(&mut self, parts: u128, steps: u64, moment: u64) {
+        if parts > self.parts {
+            *self = Largest {
+                parts,
+                steps,
+                moment,
+            };
         }
     }
-}
 
-impl fmt::Display for Largest {
-    fn fmt(&self, f: &mut fmt::Formatter) -> fmt::Result {
-        let (day, k) = (1 + self.moment / DAY, self.difference.reductions);
-        let bytes = self.difference.bytes();
-        write!(f, "at most {} bytes (day {}, k = {})", bytes, day, k)
+    /// It in a unit, and after how many steps: k reductions, or n samples after the first.
+    fn said(&self, unit: &str, letter: char) -> String {
+        let (most, day) = (decimal(self.parts, 6), 1 + self.moment / DAY);
+        let steps = self.steps;
+        format!("at most {most} {unit} (day {day}, {letter} = {steps})")
     }
 }
 
@@ -105,9 +110,10 @@ impl Tally {
         self.inside += 1;
         self.widest = self.widest.max(difference.width);
         self.longest_chain = self.longest_chain.max(difference.reductions);
-        self.largest.raise(&difference, moment);
-        if difference.reductions >= LONG {
-            self.largest_of_long.raise(&difference, moment);
+        let (parts, reductions) = (difference.parts, difference.reductions);
+        self.largest.raise(parts, reductions, moment);
+        if reductions >= LONG {
+            self.largest_of_long.raise(parts, reductions, moment);
         }
         Ok(())
     }
@@ -119,7 +125,7 @@ impl Tally {
             1 + moment / DAY,
             self.events,
             self.reductions,
-            self.largest.difference.bytes()
+            decimal(self.largest.parts, 6)
         )
     }
 }
@@ -145,13 +151,76 @@ impl fmt::Display for Tally {
         line(f, "inflight samples", samples)?;
         let looks = format!("{} times, {} of them set", self.looks, self.set);
         line(f, "inflight_lo compared", looks)?;
-        line(f, "largest difference", &self.largest)?;
-        line(f, "  from k = 1000 on", &self.largest_of_long)?;
+        line(f, "largest difference", self.largest.said("bytes", 'k'))?;
+        let of_long = self.largest_of_long.said("bytes", 'k');
+        line(f, "  from k = 1000 on", of_long)?;
         let bound = "k bytes, and 2^24 / (2^24 - 11744051) = 3.3333332 bytes";
         line(f, "bound", bound)?;
         line(f, "outside the bound", self.set - self.inside)?;
         let widest = format!("{} / 2^72 bytes", self.widest);
         line(f, "widest interval", widest)
+    }
+}
+
+/// What was counted of round trips.
+#[derive(Default)]
+pub struct TripTally {
+    pub samples: u64,
+    pub adjusted: u64,
+    pub refused: u64,
+    pub inside: u64,
+    pub smoothed_below: Largest,
+    pub variation_below: Largest,
+    pub variation_above: Largest,
+    pub widest_smoothed: u128,
+    pub widest_variation: u128,
+}
+
+impl TripTally {
+    /// Takes what lies between the averages after so many samples and the exact ones.
+    pub fn look(&mut self, gaps: &Gaps, later: u64, moment: u64) {
+        self.inside += 1;
+        self.smoothed_below
+            .raise(gaps.smoothed_below, later, moment);
+        self.variation_below
+            .raise(gaps.variation_below, later, moment);
+        self.variation_above
+            .raise(gaps.variation_above, later, moment);
+        self.widest_smoothed = self.widest_smoothed.max(gaps.smoothed_width);
+        self.widest_variation = self.widest_variation.max(gaps.variation_width);
+    }
+
+    /// The end of a line on the way: how far the averages were from the exact ones, on either side.
+    pub fn progress(&self) -> String {
+        let variation = self.variation_below.parts.max(self.variation_above.parts);
+        format!(
+            "rtt {} ns, rttvar {} ns",
+            decimal(self.smoothed_below.parts, 6),
+            decimal(variation, 6)
+        )
+    }
+}
+
+/// The report's lines of round trips.
+impl fmt::Display for TripTally {
+    fn fmt(&self, f: &mut fmt::Formatter) -> fmt::Result {
+        let samples = format!("{}, {} less a delay", self.samples, self.adjusted);
+        line(f, "round trips", samples)?;
+        line(f, "  refused on purpose", self.refused)?;
+        for (name, largest) in [
+            ("rtt below the exact one", &self.smoothed_below),
+            ("rttvar below the exact one", &self.variation_below),
+            ("rttvar above the exact one", &self.variation_above),
+        ] {
+            line(f, name, largest.said("ns", 'n'))?;
+        }
+        let bounds =
+            "rtt not above, under 14 ns below; rttvar under 20 ns below, under 14 ns above";
+        line(f, "bounds", bounds)?;
+        line(f, "outside the bounds", self.samples - self.inside)?;
+        let widest = [self.widest_smoothed, self.widest_variation];
+        let widest = format!("{} and {} / 2^72 ns", widest[0], widest[1]);
+        line(f, "widest intervals", widest)
     }
 }
 

@@ -1,0 +1,4 @@
+// The round-trip estimator: latest, minimum, smoothed and variation.
+pub mod rtt;
+
+pub use rtt::RttStats;

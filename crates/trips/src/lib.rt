@@ -1,0 +1,2 @@
+// The round-trip estimator, run over calls in bytes.
+pub mod trips;
