@@ -230,10 +230,11 @@ impl RttStats {
         let smoothed = self.smoothed;
         let variation = self.variation;
         let limit = self.limit;
+        let next = smoothed_after(smoothed.0, adjusted.0);
         RttStats {
             latest,
             minimum: lesser(minimum, latest),
-            smoothed: Duration(smoothed_after(smoothed.0, adjusted.0)),
+            smoothed: Duration(next),
             variation: Duration(variation_after(variation.0, smoothed.0, adjusted.0)),
             limit,
             sampled: true,
