@@ -1,4 +1,4 @@
-//! The estimator of round-trip times: which number is due to its runs and calls, by document 01,
+//! The round-trip estimator: which number is due to its runs and calls, by document 01,
 //! "Replies and bounds", and what they leave, by rtt.rs with one change: the minimum is the least of all
 //! samples since the first, and none is forgotten.
 //!

@@ -1,4 +1,4 @@
-//! Ports that are wrong about the estimator of round-trip times, in one way each: here about its
+//! Ports that are wrong about the round-trip estimator, in one way each: here about its
 //! averages, about how a sample is adjusted, or about what else a sample leaves. The checks must notice
 //! all, by chance and when they sweep.
 

@@ -234,7 +234,7 @@ fn arguments(number: u64) -> Option<&'static [Argument]> {
     })
 }
 
-/// The same of a call on the estimator of round-trip times, in the order of rtt.rs, whose moment is not
+/// The same of a call on the round-trip estimator, in the order of rtt.rs, whose moment is not
 /// handed in. They are tested at the first sample, too.
 fn rtt_arguments(number: u64) -> Option<&'static [Argument]> {
     Some(match number {

@@ -1,4 +1,4 @@
-//! Hostile runs of the estimator of round-trip times.
+//! Hostile runs of the round-trip estimator.
 
 use guovssalu_sys::table::rtt_answer as a;
 use guovssalu_sys::table::rtt_argument::new;

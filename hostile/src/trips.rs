@@ -1,4 +1,4 @@
-//! The swept cases of the estimator of round-trip times: every word at every number where something
+//! The swept cases of the round-trip estimator: every word at every number where something
 //! turns, every length, each flaw at its ends, each two causes of a refusal, in one call and one after
 //! the other, stored lengths at their bound, and samples where a rule turns.
 

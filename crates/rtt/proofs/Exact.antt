@@ -3,7 +3,7 @@ use Prim.Native.Nat.{ℕ, zero, suc, min, max, _+_, _-_, _*_, _/_, _^_, _≤_, _
 use mathlib.Core.Bool.{Bool, true, false, cond, not, _&&_, true≢false}
 use mathlib.Core.List.{List, [], _∷_}
 use mathlib.Core.Path.{_≡_, refl, sym, ap, _∙_}
-use native.Mathlib.Nat.{pow-suc, le-refl, le-trans, le-max-left, le-max-right, min-comm}
+use native.Mathlib.Nat.{pow-suc, mul-comm, le-refl, le-trans, le-max-left, le-max-right, min-comm}
 use native.Mathlib.Omega.{arith}
 use lib.Dec.{leb, eqb}
 use borrow.Author.Tests.{leb-true, le-leb, eqb-true}
@@ -12,7 +12,7 @@ use Rattle.state.specs.Answers.{settled, zeroLength}
 use Rattle.state.specs.Bounds.{lengthOk}
 use Rattle.state.proofs.Rows.{row-stored, row-argument, and-left, and-right, all-at}
 use Rattle.rtt.specs.declared.rtt.RttStats.{RttStats}
-use Rattle.rtt.specs.Rtt.{statsTests, statsOk, givenNumber, newNumber, statsNew, newLeft, updateNumber, firstSample, plausible, adjusted, laterSample, updateNext, updateLeft, delayTaken, delayNumber, delayNext, delayLeft}
+use Rattle.rtt.specs.Rtt.{statsTests, statsOk, givenNumber, newNumber, statsNew, newLeft, updateNumber, firstSample, smoothedAfter, variationAfter, plausible, adjusted, laterSample, updateNext, updateLeft, delayTaken, delayNumber, delayNext, delayLeft}
 use Rattle.rtt.specs.Exact.{Step, begins, updates, limits, other, Sample, Ran, sampleOf, takenBy, begun, step, goOn, ran, Exact, exactFirst, exactNext, exactly, NearSmoothed, NearVariation, least, largest, Follows, Promised, Holds, EveryRun}
 use Rattle.rtt.proofs.Averages.{still-not-above, still-below, above-on, below-on, smoothed-within, variation-within}
 
@@ -36,19 +36,16 @@ first-smoothed l = near-smoothed (exactFirst l) l (omega arith) (omega arith)
 first-variation : (l : ℕ) → NearVariation (exactFirst l) (l / 2)
 first-variation l = record { above = omega arith; below = omega arith }
 
-turn : (n d : ℕ) → d * n ≡ n * d
-turn n d = omega arith
-
 grown : (b n : ℕ) → b ^ suc n ≡ b * b ^ n
-grown b n = pow-suc b n ∙ turn b (b ^ n)
+grown b n = pow-suc b n ∙ mul-comm (b ^ n) b
 
-next-smoothed : (e : Exact) (s a : ℕ) → NearSmoothed e s → NearSmoothed (exactNext e a) (s * 7 / 8 + a / 8)
+next-smoothed : (e : Exact) (s a : ℕ) → NearSmoothed e s → NearSmoothed (exactNext e a) (smoothedAfter s a)
 next-smoothed e s a h =
-    near-smoothed (exactNext e a) (s * 7 / 8 + a / 8)
+    near-smoothed (exactNext e a) (smoothedAfter s a)
     (rw (grown 8 (e .past)) (still-not-above s a (e .sum) (8 ^ e .past) (h .not-above)))
     (rw (grown 8 (e .past), grown 7 (e .past)) (still-below s a (e .sum) (8 ^ e .past) (h .not-above) (7 ^ e .past) (h .below)))
 
-next-variation : (e : Exact) (s v a : ℕ) → NearSmoothed e s → NearVariation e v → NearVariation (exactNext e a) (v * 3 / 4 + ((s - a) + (a - s)) / 4)
+next-variation : (e : Exact) (s v a : ℕ) → NearSmoothed e s → NearVariation e v → NearVariation (exactNext e a) (variationAfter v s a)
 next-variation e s v a h k =
     record {
       above = rw (grown 8 (e .past)) (above-on s a (e .sum) (8 ^ e .past) (h .not-above) v (e .spread) (h .under-14) (k .above));

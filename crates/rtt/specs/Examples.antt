@@ -86,8 +86,7 @@ rttExamples =
     ∷ eqb (first (updateFaults (ns (2 ^ 36 + 1)) (ns (2 ^ 36 + 1)) true)) (4 + 256 * 1)
     ∷ eqb (first (updateFaults (ns (2 ^ 36)) (ns (2 ^ 36 + 1)) false)) (4 + 256 * 2)
     ∷ eqb (first (updateFaults (ns 0) (ns 0) false)) (8 + 256 * 3)
-    -- an ack delay of 70 s is refused, though rtt.rs would find it implausible and take the sample whole; and so it is
-    -- with the first sample
+    -- an ack delay of 70 s is refused, though rtt.rs would take the sample; and so it is with the first one
     ∷ eqb (updateNumber (with 0 0 0 0) (ms 100) (ms 70000) true) 2
     ∷ eqb (updateNumber (statsNew (ns 7) (ns 50)) (ms 100) (ms 70000) true) 2
     ∷ eqb (updateLeft (with 0 9 0 0) (ms 100) (ms 70000) true true .smoothed .0) 9

@@ -183,22 +183,21 @@ fresh-none : statsOk (statsNew zeroLength zeroLength) ≡ true
 unfolding statsNew statsTests
 fresh-none = refl
 
-call-small : (s : RttStats) (n a b c : ℕ) → Small s → Small (callLeft s n a b c)
-call-small s n a b c h = go (eqb (callRow s n a b c) 0) refl
-  where
-    none : Small (statsNew zeroLength zeroLength)
-    none = small (statsNew zeroLength zeroLength) fresh-none
+-- what holds of every estimator within the bounds, and of the one that a run is lent, holds of what its calls leave
+module _ (P : RttStats → Type 0) (fine : (s : RttStats) → statsOk s ≡ true → P s) where
+  call-keeps : (s : RttStats) (n a b c : ℕ) → P s → P (callLeft s n a b c)
+  call-keeps s n a b c h = go (eqb (callRow s n a b c) 0) refl
+    where
+      go : (t : Bool) → eqb (callRow s n a b c) 0 ≡ t → P (callLeft s n a b c)
+      go true e = fine (callLeft s n a b c) (left-within s n a b c (eqb-true _ 0 e))
+      go false e =
+          subst P (sym (every-rtt-call s n a b c .refused (λ z. true≢false (sym (eq-eqb _ 0 z) ∙ e))))
+          (either P (eqb n 0) (statsNew zeroLength zeroLength) s (fine (statsNew zeroLength zeroLength) fresh-none) h)
 
-    go : (t : Bool) → eqb (callRow s n a b c) 0 ≡ t → Small (callLeft s n a b c)
-    go true e = small (callLeft s n a b c) (left-within s n a b c (eqb-true _ 0 e))
-    go false e =
-        subst Small (sym (every-rtt-call s n a b c .refused (λ z. true≢false (sym (eq-eqb _ 0 z) ∙ e))))
-        (either Small (eqb n 0) (statsNew zeroLength zeroLength) s none h)
-
-left-small : (s : RttStats) (src : List ℕ) (at n : ℕ) → Small s → Small (leftBy s src at n)
-unfolding leftBy leftAt
-left-small s src at zero h = h
-left-small s src at (suc n) h = left-small (leftAt s src at) src (at + 32) n (call-small s _ _ _ _ h)
+  calls-keep : (s : RttStats) (src : List ℕ) (at n : ℕ) → P s → P (leftBy s src at n)
+  unfolding leftBy leftAt
+  calls-keep s src at zero h = h
+  calls-keep s src at (suc n) h = calls-keep (leftAt s src at) src (at + 32) n (call-keeps s _ _ _ _ h)
 
 lent-small : (bytes : List ℕ) → AreBytes bytes → Small (statsIn bytes)
 unfolding statsFrom
@@ -216,27 +215,13 @@ unfolding encodesNone
 left-encodes r h bytes done =
     let s = rttBefore r (rttCount r) in
     let is = left-is r h done in
-    let fine = left-small (statsIn (r .state)) (r .calls) 0 (rttCount r) (lent-small (r .state) bytes) in
+    let fine = calls-keep Small small (statsIn (r .state)) (r .calls) 0 (rttCount r) (lent-small (r .state) bytes) in
     let long : length (r .left) ≡ 48 = ap length is ∙ length-allBytes (statsWords s) ∙ ap (λ (n : ℕ). 8 * n) (length-words s) in
     (long, rw (eq-eqb (length (r .left)) 48 long, ap (λ (l : List ℕ). flagFits (wordAt l 40)) is ∙ ap flagFits (flag-word s fine) ∙ flag-written (s .sampled)))
 
 -- ---- within the bounds, a run leaves what is; after a `new` too
-call-within : (s : RttStats) (n a b c : ℕ) → statsOk s ≡ true → statsOk (callLeft s n a b c) ≡ true
-call-within s n a b c h = go (eqb (callRow s n a b c) 0) refl
-  where
-    Fine : RttStats → Type 0
-    Fine t = statsOk t ≡ true
-
-    go : (t : Bool) → eqb (callRow s n a b c) 0 ≡ t → statsOk (callLeft s n a b c) ≡ true
-    go true e = left-within s n a b c (eqb-true _ 0 e)
-    go false e =
-        subst Fine (sym (every-rtt-call s n a b c .refused (λ z. true≢false (sym (eq-eqb _ 0 z) ∙ e))))
-        (either Fine (eqb n 0) (statsNew zeroLength zeroLength) s fresh-none h)
-
 all-within : (s : RttStats) (src : List ℕ) (at n : ℕ) → statsOk s ≡ true → statsOk (leftBy s src at n) ≡ true
-unfolding leftBy leftAt
-all-within s src at zero h = h
-all-within s src at (suc n) h = all-within (leftAt s src at) src (at + 32) n (call-within s _ _ _ _ h)
+all-within = calls-keep (λ s. statsOk s ≡ true) (λ s h. h)
 
 begun-within : (s : RttStats) (n a b c : ℕ) → n ≡ 0 → statsOk (callLeft s n a b c) ≡ true
 unfolding callLeft

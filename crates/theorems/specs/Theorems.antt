@@ -271,6 +271,6 @@ pub record Theorems : Type 0 where
 -- which are only read, share bytes. The page docs/LAYOUT.md. And the definitions that this page is made of, written
 -- from documents 01 and 02, the original and docs/LAYOUT.md: all files of specs/ to which `use` lines lead from here,
 -- with their remarks. A script of the gate counts their lines (tests/contracts.py):
---   numbers 257, units 125, filters 442, words 137, state 939, worth 274, rtt 481, layout 216, events 464, phases 208,
+--   numbers 257, units 125, filters 442, words 137, state 939, worth 274, rtt 480, layout 216, events 464, phases 208,
 --   changes 62, judge 199, arguments 222, reads 18, places 142, pairs 63, trips 188, calls 204, laws 658, drift 379,
---   dispatch 242, guovssalu 206, theorems 1130: together 7256
+--   dispatch 242, guovssalu 206, theorems 1130: together 7255

@@ -18,7 +18,7 @@ use crate::Refusal;
 ///
 /// # The smallest round trip
 ///
-/// It is the least of all samples, as RFC 9002 has it. The original keeps it over a window of 300 seconds, so
+/// It is the least of all samples, by RFC 9002's rule for a sample. The original keeps it over a window of 300 seconds, so
 /// its `update_rtt` is given a moment, `now`; here it isn't. Only a `new` forgets it, and the averages with it.
 /// Where a path's round trip has grown for good, a delay can be taken off a sample that the original takes
 /// whole.
