@@ -1,5 +1,5 @@
 # make run: proves, builds and runs the demonstration. make test: the whole gate. README.md has the others.
-.PHONY: run test contracts table refusal diff patterns changes mutants drift estimate picture lists rust year hostile bench instructions install clean kit archive
+.PHONY: run test contracts table refusal replay qlog diff diff-traces patterns changes mutants drift estimate picture pictures lists rust year hostile bench replay-bench instructions install clean kit archive
 
 run: kit
 	rt check show
@@ -13,9 +13,14 @@ test: kit
 
 kit:
 	@command -v rt >/dev/null 2>&1 || { \
-		echo "The Rattle kit is needed, and its command rt is not on the PATH."; \
+		echo "The Rattle kit is needed, and its command rt is not on the PATH." >&2; \
 		exit 1; \
 	}
+
+# What is named by these reaches the commands as it was written, with quotes and dollars too.
+NAMES = TRACE TRACES OUT QLOG REPLY CALL
+$(foreach name,$(NAMES),$(eval override $(name) := $$(value $(name))))
+export $(NAMES)
 
 # ---- what is written, against the source
 
@@ -31,7 +36,38 @@ table:
 
 # A reply in words: make refusal REPLY=66562 CALL=start. CALL is a call's number or name, or an exported function's name.
 refusal:
-	@python3 tests/refusal.py '$(REPLY)' '$(CALL)'
+	@python3 tests/refusal.py "$$REPLY" "$$CALL"
+
+# ---- traces from the field (docs/TRACE.md)
+
+# Replays one trace, TRACE=file, or every trace of a folder, TRACES=folder; then the rows go to the folder OUT, if one is
+# named. The program is proved and built where a source is newer, unless PORT is its command; what that
+# prints goes to standard error.
+replay:
+	@[ -n "$$TRACE$$TRACES" ] || { echo "Name a trace, TRACE=file, or a folder of them, TRACES=folder." >&2; exit 1; }
+	@[ -z "$$TRACE" ] || [ -z "$$TRACES$$OUT" ] || { echo "Name TRACE alone, or TRACES with or without OUT." >&2; exit 1; }
+	@[ -e "$$TRACE$$TRACES" ] || { echo "There is no $$TRACE$$TRACES." >&2; exit 1; }
+	@[ -n "$$PORT" ] || $(MAKE) -s $(REPLAY) >&2
+	@if [ -n "$$TRACE" ]; then sh tests/replay.sh "$$TRACE"; else python3 tests/replay.py "$$TRACES" $${OUT:+"$$OUT"}; fi
+
+# A trace drawn, TRACE=file, beside the exact fractions: to the same name with .svg.
+picture:
+	@[ -n "$$TRACE" ] || { echo "Name a trace, TRACE=file." >&2; exit 1; }
+	@[ -e "$$TRACE" ] || { echo "There is no $$TRACE." >&2; exit 1; }
+	@[ -n "$$PORT" ] || $(MAKE) -s $(REPLAY) >&2
+	@python3 tests/trace_picture.py "$$TRACE"
+
+# A qlog as a trace, to standard output (docs/QLOG.md): QLOG=file.
+qlog:
+	@[ -n "$$QLOG" ] || { echo "Name a qlog, QLOG=file." >&2; exit 1; }
+	@python3 tests/qlog.py "$$QLOG"
+
+# The program is made of the crates that it knows (crates.txt).
+REPLAY = target/bin/replay
+$(REPLAY): $(foreach crate,replay $(shell sed -n 's/^replay: //p' crates.txt),$(wildcard crates/$(crate)/src/*.rt))
+	@$(MAKE) -s kit
+	rt check replay
+	@touch $@
 
 # ---- the port beside the original (oracle/README.md)
 
@@ -50,6 +86,11 @@ CALLS = 5000000
 diff: kit
 	@[ "$$(uname -m)" != x86_64 ] || $(MAKE) archive
 	@sh tests/diff.sh $(SEED) $(CALLS)
+
+# The replay, trace by trace: LINES lines of traces from SEED, sound and damaged.
+LINES = 1000000
+diff-traces: kit
+	@sh tests/trace.sh $(SEED) $(LINES)
 
 # The same for every f32: to_u64, and scale with each of NUMBERS.
 NUMBERS = 1300 16777216 16777217 1099511627776 18446744073709551615
@@ -89,12 +130,14 @@ estimate: kit
 	rt check serve
 	python3 tests/estimate.py $(SEED) $(UPDATES)
 
-# The pictures of both pages.
-picture: kit
+# The pages' pictures.
+pictures: kit
 	rt check serve
 	python3 tests/drift.py --picture docs/drift.svg
 	python3 tests/rtt_drift.py --picture docs/round_trip.svg
 	python3 tests/estimate.py --picture docs/estimate.svg
+	@$(MAKE) -s $(REPLAY)
+	python3 tests/trace_picture.py traces/lossy_day.csv docs/trace.svg
 
 # ---- the archive of the exported calls, and what links it: on x86-64
 
@@ -111,6 +154,12 @@ hostile: archive
 # The port beside the original, in one process (docs/BENCHMARKS.md).
 bench: archive
 	$(CARGO) run --release --quiet --manifest-path bench/Cargo.toml
+
+# The replay beside a program that reads the same and asks the original, and the memory that it takes.
+replay-bench: kit
+	@$(MAKE) -s $(REPLAY)
+	@sh tests/trace.sh 1 0
+	python3 tests/replay_bench.py
 
 # The same cases by the instructions that they take, counted under valgrind.
 instructions: archive

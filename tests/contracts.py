@@ -21,7 +21,7 @@ PAGE = "docs/CONTRACTS.md"
 THEOREMS = "crates/theorems/specs/Theorems.antt"
 PAGES = ["docs/*.md", "*.md", "NOTICE", "rust/README.md", "oracle/README.md", "hostile/README.md"]
 COLUMNS = ["function", "answers", "definition", "from", "rules out", "must-fail"]
-FOLDERS = ["crates", "docs", "tests", "rust", "oracle", "include", "bench", "hostile"]
+FOLDERS = ["crates", "docs", "tests", "rust", "oracle", "include", "bench", "hostile", "traces"]
 # Cited by so many contracts that the page says once what they are.
 LEFT_OUT = {"number", "settled", "zeroBandwidth", "zeroLength", "zeroMoment", "zeroGain"}
 

@@ -18,6 +18,8 @@ from words import ANSWER_WORDS, EVENT_IN_CALL, PARAMS_IN_CALL, REPLY_IN_ANSWER, 
 from words import argument, call, event, params, sample, state
 
 PARTS = 2**24
+# The bits of beta 0.3.
+USUAL_BETA = 0x3E99999A
 START = call.START
 SENT = call.ON_PACKET_SENT
 EVENT = call.ON_CONGESTION_EVENT_START
@@ -151,11 +153,10 @@ class Exact:
 
 
 def betas(rng):
-    usual = 0x3E99999A
     ends = [0x3A800000, 0x3A800001, 0x3F7FC000, 0x3F7FBFFF, 0x3F000000, 0x3F000001, 0x3EFFFFFF, 0x3E800000, 0x3DCCCCCD]
     pick = rng.random()
     if pick < 0.4:
-        return usual
+        return USUAL_BETA
     if pick < 0.6:
         return rng.choice(ends)
     return rng.randint(0x3A800000, 0x3F7FC000)
@@ -344,11 +345,11 @@ def compare(seed, runs):
         if fault:
             print(text_of(calls), end="")
             raise SystemExit(f"outside the bounds: {fault}")
-    calls = losses(0x3E99999A, 16777223, 1)
+    calls = losses(USUAL_BETA, 16777223, 1)
     if not checked(calls, followed(command, calls), {}, {"calls": 0, "events": 0}):
         raise SystemExit("a window of 16,777,223 bytes is within the bounds: this check notices nothing")
     print("      beta   inflight_lo: worst   its bound   for any k   bandwidth_lo: worst   its bound   for any k")
-    usual = [0x3A800000, 0x3DCCCCCD, 0x3E800000, 0x3E99999A, 0x3F000000, 0x3F7FC000]
+    usual = [0x3A800000, 0x3DCCCCCD, 0x3E800000, USUAL_BETA, 0x3F000000, 0x3F7FC000]
     for beta in usual:
         if beta in worst:
             line(f"{f32(beta):10.6f}", factor(beta), worst[beta])
@@ -404,7 +405,7 @@ def drawing(command, left, title, beta, reductions):
 
 def picture(path):
     command = program()
-    out = drawing(command, 0, "beta 0.3: bytes between inflight_lo and the exact value", 0x3E99999A, 40)
+    out = drawing(command, 0, "beta 0.3: bytes between inflight_lo and the exact value", USUAL_BETA, 40)
     out += drawing(command, 450, "beta 1/64", 0x3C800000, 500)
     out.append('<text x="46" y="402">Across: reductions k. Red: 1 / (1 - b). Blue: k.</text>')
     out.append('<text x="46" y="420">Lines: first windows of 14,744,309 (dark), 16,777,216 (green), 12,345,678 (violet) and 5,000,011 bytes (orange).</text>')
@@ -418,4 +419,9 @@ def both(seed, runs):
     rtt_drift.compare(seed, runs)
 
 
-by_arguments(both, 4000, picture)
+def main():
+    by_arguments(both, 4000, picture)
+
+
+if __name__ == "__main__":
+    main()

@@ -52,14 +52,18 @@ if [ "$(cat "$work/status")" != 0 ]; then
     exit 1
 fi
 
-# What was proved, run: briefly beside exact fractions, and beside the promises of the estimates.
+# What was proved, run: briefly beside exact fractions, and beside the promises of the estimates; the replay beside what
+# its page shows, then beside the original.
 if command -v python3 >/dev/null 2>&1; then
     python3 tests/drift.py 1 60
     python3 tests/estimate.py 1 20000
+    python3 tests/replay_test.py
 else
-    echo "drift, estimate: the port is not run beside what is promised of it, since there is no python3 here"
+    echo "drift, estimate, replay: the port is not run beside what is promised of it, since there is no python3 here"
     [ "${CI:-}" != true ] || exit 1
 fi
+
+ORACLE_TARGET=$work/oracle sh tests/trace.sh gate
 
 if [ "$(uname -m)" = x86_64 ]; then
     rt staticlib guovssalu

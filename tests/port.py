@@ -1,10 +1,11 @@
-"""What tests/drift.py, tests/rtt_drift.py and tests/estimate.py share: the program `serve` (crates/serve), asked frames
-of calls (oracle/README.md), their arguments, and the ground of their pictures.
+"""What the scripts that ask a program of this repository share: its command, and the ground of their pictures. For
+tests/drift.py, tests/rtt_drift.py and tests/estimate.py also the program `serve` (crates/serve), asked frames of calls
+(oracle/README.md), and their arguments.
 
     with started(program()) as port:
         for answer in asked(port, state, calls): ..
 
-The variable PORT, where it is set, is the command that runs `serve`, seen from the root of the repository."""
+The variable PORT, where it is set, is the command that runs the program, seen from the root of the repository."""
 
 import os
 import struct
@@ -18,12 +19,23 @@ FRAME = 100
 ANSWERED = ANSWER_WORDS + STATE_WORDS
 
 
-def program():
-    """The words of the command that runs `serve`."""
-    if os.environ.get("PORT"):
-        return os.environ["PORT"].split()
+class Fault(Exception):
+    """Why something can't be done, in words."""
+
+
+def program(name="serve"):
+    """The words of the command that runs a program, as it was built last."""
+    given = os.environ.get("PORT", "").split()
+    if given:
+        return given
     script = os.path.join(ROOT, "tests", "program.sh")
-    return subprocess.run(["sh", script, "serve"], capture_output=True, text=True, check=True).stdout.split()
+    asked = subprocess.run(["sh", script, name], stdout=subprocess.PIPE, stderr=subprocess.PIPE)
+    words = asked.stdout.decode(errors="replace").split()
+    if asked.returncode != 0 or not words:
+        raise Fault(f"there is no command for the program `{name}` on this machine: tests/program.sh gives none")
+    if not os.path.exists(os.path.join(ROOT, words[-1])):
+        raise Fault(f"{words[-1]} is not built yet: `rt check {name}` proves and builds it")
+    return words
 
 
 def started(command):
@@ -86,8 +98,11 @@ def panel(left, title, shown, across, bounds, runs):
 
 def by_arguments(compare, usual, picture):
     """Does what the arguments say: [SEED [NUMBER]], where the usual number stands for none, or --picture FILE.svg."""
-    if sys.argv[1:2] == ["--picture"]:
-        picture(sys.argv[2])
-        return
-    seed = int(sys.argv[1]) if len(sys.argv) > 1 else 1
-    compare(seed, int(sys.argv[2]) if len(sys.argv) > 2 else usual)
+    try:
+        if sys.argv[1:2] == ["--picture"]:
+            picture(sys.argv[2])
+            return
+        seed = int(sys.argv[1]) if len(sys.argv) > 1 else 1
+        compare(seed, int(sys.argv[2]) if len(sys.argv) > 2 else usual)
+    except Fault as fault:
+        raise SystemExit(str(fault)) from None

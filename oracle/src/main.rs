@@ -42,6 +42,14 @@ mod sequences;
 mod serve;
 mod steps;
 mod text;
+mod trace;
+mod trace_cases;
+mod trace_counts;
+mod trace_damage;
+mod trace_diff;
+mod trace_replay;
+mod trace_steps;
+mod trace_world;
 mod unsent;
 mod values;
 mod wanted;
@@ -90,7 +98,15 @@ Name one folder, into which the lists are written, or one of these:
                            by the feature `archive`: events with long lists of
                            acked numbers, among other calls
   rtt-runs SEED CALLS      the same, for runs of an estimator of any length
-  serve                    is the original as a port";
+  serve                    is the original as a port
+  replay                   answers the trace on the standard input with its rows
+  traces SEED LINES DIR    writes traces, of so many chosen lines and of cases, with
+                           their rows
+  compare-traces SEED LINES
+                           compares these rows with those of the port in PORT, which
+                           replays a trace";
+
+const NO_PORT: &str = "Set PORT to the command of the port.";
 
 /// The seed of the kept frames' chosen calls, how many there are of each kind,
 /// and how often at least each reason, each pair of steps that both act, each
@@ -109,6 +125,12 @@ fn main() {
     let arguments: Vec<&str> = arguments.iter().map(String::as_str).collect();
     match arguments[..] {
         ["serve"] => check(serve::serve()),
+        ["replay"] => check(trace_replay::run()),
+        ["traces", seed, lines, folder] => check(trace_diff::write(
+            number(seed),
+            number(lines),
+            Path::new(folder),
+        )),
         ["frames", folder] => check(kept().write(Path::new(folder))),
         ["frames-of", seed, calls, folder] => {
             let files = fresh(number(seed), number(calls));
@@ -155,6 +177,9 @@ fn compare(arguments: &[&str]) -> bool {
             let steps = text::steps(&text).unwrap_or_else(|why| fail(&why));
             diff::follow(&mut port(), steps)
         }
+        ["compare-traces", seed, lines] => {
+            trace_diff::run(number(seed), number(lines)).unwrap_or_else(|| fail(NO_PORT))
+        }
         ["lists", seed, calls] => of_archive("lists", number(seed), number(calls)),
         ["rtt-runs", seed, calls] => of_archive("rtt-runs", number(seed), number(calls)),
         _ => fail(USAGE),
@@ -178,7 +203,7 @@ fn of_archive(command: &str, _: u64, _: u64) -> bool {
 }
 
 fn port() -> Port {
-    Port::from_environment().unwrap_or_else(|| fail("Set PORT to the command of the port."))
+    Port::from_environment().unwrap_or_else(|| fail(NO_PORT))
 }
 
 fn number(word: &str) -> u64 {

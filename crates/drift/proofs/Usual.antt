@@ -5,12 +5,16 @@ use mathlib.Core.Path.{_≡_, refl, subst}
 use native.Mathlib.Omega.{arith}
 use lib.Ieee.{ofBits, sub, le, fits}
 use Rattle.numbers.specs.Scaling.{complement, partsOf}
+use Rattle.units.specs.declared.time.Duration.{Duration}
+use Rattle.units.specs.declared.time.Moment.{Moment}
+use Rattle.state.specs.declared.params.Params.{Params}
+use Rattle.state.specs.declared.cycle.Cycle.{Cycle}
 use Rattle.state.specs.Bounds.{within}
 use Rattle.drift.specs.Calls.{Call, State, run, started}
 use Rattle.drift.specs.Exact.{Effect, Exact, unset, over, inflightEffect, bandwidthEffect, exactRun}
 use Rattle.units.specs.declared.maybe.MaybeNumber.{MaybeNumber}
 use Rattle.units.specs.declared.maybe.MaybeNumber.the-variants as Number
-use Rattle.drift.specs.Drift.{IsBeta, inflightLow, bandwidthLow, Nearer, Follows, usualBeta, usualParts, Under, UsualInflightDrift, UsualBandwidthDrift}
+use Rattle.drift.specs.Drift.{IsBeta, inflightLow, bandwidthLow, Nearer, Follows, Along, HasBeta, IsSmall, usualBeta, usualParts, Under, UsualInflightDrift, UsualBandwidthDrift}
 use Rattle.drift.proofs.Inflight.{inflight-drift}
 use Rattle.drift.proofs.Bandwidth.{bandwidth-drift}
 
@@ -51,3 +55,10 @@ pub usual-bandwidth-drift : UsualBandwidthDrift
 usual-bandwidth-drift p rtt now y calls same any =
     let s = started p rtt now y in
     usual 4097 8192 167 bandwidth-under bandwidthEffect (bandwidthLow (run calls s)) calls s (bandwidth-drift usualBeta usual-beta .1 p rtt now y calls same any)
+
+-- with the parts as they are written here
+pub usual-inflight-follows : (p : Params) (rtt : Duration) (now : Moment) (y : Cycle) (calls : List Call) → Along (HasBeta usualBeta) calls (started p rtt now y) → Along IsSmall calls (started p rtt now y)
+    → Follows 1 1 usualParts (inflightLow (run calls (started p rtt now y))) (exactRun inflightEffect usualParts calls (started p rtt now y) unset)
+usual-inflight-follows p rtt now y calls same sizes =
+    let s = started p rtt now y in
+    subst (λ (parts : ℕ). Follows 1 1 parts (inflightLow (run calls s)) (exactRun inflightEffect parts calls s unset)) usual-parts (inflight-drift usualBeta usual-beta .1 p rtt now y calls same sizes)

@@ -56,7 +56,7 @@ unfolding bandwidthIn bandwidthLow stateFrom modelFrom
 bandwidth-in bytes = λ i. lowOf (bandwidthOf (sym (getD-wordsAt bytes 0 51 15 (omega arith)) i) (sym (getD-wordsAt bytes 0 51 16 (omega arith)) i))
 
 -- ---- what is known of an event's words is known of its call
-abbrev Small : Float → Params → CongestionEvent → CongestionEventSample → Type 0
+abbrev pub Small : Float → Params → CongestionEvent → CongestionEventSample → Type 0
 Small beta p e y = (p .beta ≡ beta) × (e .window ≤ 2 ^ 24) × (y .inflight ≤ 2 ^ 24)
 
 abbrev Fixed : Float → Params → CongestionEvent → CongestionEventSample → Type 0
@@ -150,10 +150,10 @@ module _ (parts : ℕ) (P : List ℕ → Type 0) (Q : Params → CongestionEvent
   both same = (in-state inflightEffect parts P Q of-words inflightLow Near theorem inflightIn same, in-answers)
 
 -- ---- the four
-fixed : (beta : Float) (calls : List Call) (s : State) → Along (OfEvent (Small beta)) calls s → Along (D.HasBeta beta) calls s
+pub fixed : (beta : Float) (calls : List Call) (s : State) → Along (OfEvent (Small beta)) calls s → Along (D.HasBeta beta) calls s
 fixed beta = along-map (OfEvent (Small beta)) (D.HasBeta beta) (of-event (Small beta) (Fixed beta) (λ p e y h. h .0))
 
-small : (beta : Float) (calls : List Call) (s : State) → Along (OfEvent (Small beta)) calls s → Along D.IsSmall calls s
+pub small : (beta : Float) (calls : List Call) (s : State) → Along (OfEvent (Small beta)) calls s → Along D.IsSmall calls s
 small beta = along-map (OfEvent (Small beta)) D.IsSmall (of-event (Small beta) (λ p e y. (e .window ≤ 2 ^ 24) × (y .inflight ≤ 2 ^ 24)) (λ p e y h. (h .1, h .2)))
 
 any : (P : Call → Type 0) (calls : List Call) (s : State) → Along P calls s → Along IsAny calls s

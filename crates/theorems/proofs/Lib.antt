@@ -20,5 +20,6 @@ pub mod Estimates
 pub mod Rtt
 pub mod RttCalls
 pub mod RttAnswers
+pub mod Trace
 pub mod Theorems
 pub mod Examples

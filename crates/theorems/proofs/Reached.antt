@@ -68,12 +68,12 @@ module _ (effect : Call → State → Effect) (parts : ℕ) (P : Call → Type 0
     pub exact : x ≡ exactRun effect parts calls (started params rtt now cycle) unset
     pub along : Along P calls (started params rtt now cycle)
 
-  reached-start : (p : Params) (rtt : Duration) (now : Moment) → Reached (afterStart p rtt now) unset
+  pub reached-start : (p : Params) (rtt : Duration) (now : Moment) → Reached (afterStart p rtt now) unset
   unfolding afterStart started run exactRun
   reached-start p rtt now =
       record { params = p; rtt = rtt; now = now; cycle = freshCycle (settled (startNumber p rtt now) now zeroMoment); calls = []; here = refl; exact = refl; along = tt }
 
-  reached-step : (c : Step) (s : State) (x : Exact) → OfStep P c s → Reached s x → Reached (afterStep c s) (exactStep effect parts c s x)
+  pub reached-step : (c : Step) (s : State) (x : Exact) → OfStep P c s → Reached s x → Reached (afterStep c s) (exactStep effect parts c s x)
   unfolding afterStep exactStep
   reached-step (begins p rtt now) s x h r = reached-start p rtt now
   reached-step (makes c) s x h r =

@@ -36,6 +36,10 @@ use Rattle.theorems.proofs.Decoded.{every-outcome}
 use Rattle.theorems.proofs.Estimates.{pair-shows}
 use Rattle.theorems.proofs.Exported as exported
 use Rattle.theorems.proofs.Follow as follow
+use Rattle.text.proofs.Examples.{lines-worked}
+use Rattle.trace.proofs.Laws.{trace-laws}
+use Rattle.trace.proofs.Examples.{traces-worked}
+use Rattle.theorems.proofs.Trace as trace
 use Rattle.theorems.proofs.Left.{left-whole, from-form, left-within, started-within, left-taken}
 use Rattle.theorems.proofs.Note.{noted, last-noted}
 use Rattle.theorems.proofs.Numbers.{every-number}
@@ -139,4 +143,11 @@ theorems =
       rtt-answers = in-answers;
       rtt-examples = samples.rtt-examples;
       rtt-worked = samples.worked;
+      trace-any = trace.unasked;
+      trace-defined = trace.defined;
+      trace-laws = trace-laws;
+      trace-lines = lines-worked;
+      trace-worked = traces-worked;
+      trace-inflight = trace.trace-follows;
+      usual-trace = trace.trace-under;
     }

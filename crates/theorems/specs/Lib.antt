@@ -5,5 +5,6 @@ pub mod Blames
 pub mod Runs
 pub mod Casts
 pub mod Rtt
+pub mod Trace
 pub mod Theorems
 pub mod Examples

@@ -13,7 +13,7 @@
 -- `pub` and `use` lines add nothing to what is said.
 --
 -- Bytes, words, the numbers of the calls, of the refusals and of the reasons are explained in docs/LAYOUT.md, "document
--- 01" and "document 02" in docs/README.md. The statements are made of names from six files beside this one:
+-- 01" and "document 02" in docs/README.md. The statements are made of names from seven files beside this one:
 --   Runs.antt     an exported call as bytes lent and bytes left, of which no more is known than its contract; runs, by
 --                 `guovssalu_run` or with lists, one after the other; where in the bytes a word stands; the exact value
 --                 beside them
@@ -21,6 +21,7 @@
 --   Rows.antt     by the number of a call in a run, which rows of the table hold: document 01's, and request i's 10
 --   Blames.antt   which argument the reply to a call of a run names: request b
 --   Rtt.antt      the exported run of the round-trip estimator, and its calls: request a
+--   Trace.antt    the functions that replay a trace, and the exact value beside its rows: request j
 --   Casts.antt    that the casts of the definitions are those of the Rust Reference
 -- and Examples.antt has five runs worked out in bytes, so that one sees what the statements speak of.
 -- Any other name stands in the crate that its `use` line names; what the lower bounds, exact values and `Follows` are
@@ -73,9 +74,13 @@ use Rattle.drift.specs.Calls.{Call, State}
 use Rattle.drift.specs.Exact.{Effect, Exact, unset, inflightEffect, bandwidthEffect}
 use Rattle.units.specs.declared.maybe.MaybeNumber.{MaybeNumber}
 use Rattle.drift.specs.Drift.{Follows, IsBeta, usualBeta, usualParts, Under}
+use Rattle.text.specs.Examples.{LinesWorked}
+use Rattle.trace.specs.Laws.{TraceLaws}
+use Rattle.trace.specs.Examples.{TracesWorked}
 use Rattle.theorems.specs.Blames.{Named, Blames}
 use Rattle.theorems.specs.Rows.{rowsOf}
 use Rattle.theorems.specs.Rtt.{RttRun, RttRan, RttRow, rttCount, OneRttOutcome, RttCall, EveryRttReply, rttBefore, rttWord, RttStarts, InRttBytes, InRttAnswers}
+use Rattle.theorems.specs.Trace.{TraceUnasked, TraceDefined, InRows}
 use Rattle.theorems.specs.Casts.{Casts}
 use Rattle.theorems.specs.Steps.{moment, Makes, Refused, Numbered, stepOf, outcomeIn, noteAfter, lastAfter}
 use Rattle.theorems.specs.Runs.{Unasked, Run, Ran, FilterRun, Filtered, SlopeRun, Raised, OneOutcome, Conversions, RunRow, FilterRow, SlopeRow, PairShows, AreBytes, isWithin, count, call, before, answer, answerWord, Accepted, Starts, Each, History, exactAfter, exactRuns, exactBefore, lowWord, inflightIn, bandwidthIn, HasBetaWord, HasSmallWords, OfEvents}
@@ -262,6 +267,21 @@ pub record Theorems : Type 0 where
   pub rtt-answers : InRttAnswers
   pub rtt-examples : all rttExamples ≡ true
   pub rtt-worked : Samples.Worked
+  --
+  -- ==== A trace replayed (document 02, request j). The functions that the program `replay` is made of take any lines,
+  -- and return what their definitions say; reading and writing are not proved. What is written for an input that comes
+  -- in pieces, cut anywhere, is the output of the whole (crates/trace/specs/Output.antt, `outputOf`); an accepted
+  -- event's finish is never refused. Then lines and inputs worked out, document 02's among them
+  pub trace-any : TraceUnasked
+  pub trace-defined : TraceDefined
+  pub trace-laws : TraceLaws
+  pub trace-lines : LinesWorked
+  pub trace-worked : TracesWorked
+  -- Demand 3 of every trace whose accepted lines have windows of at most 16,777,216 bytes: the lo that any row shows is
+  -- unset exactly where the exact value is; where it is set, after k reductions since the last accepted start, it
+  -- differs from it by less than k bytes and by less than 1 / (1 - b), and so by less than 3.34
+  pub trace-inflight : InRows usualParts (Follows 1 1 usualParts)
+  pub usual-trace : InRows usualParts (Under 334)
 
 -- ==== What else must be believed
 -- The kit: that its checker accepts only proofs; that its models of floats and of the machine are those of the
@@ -271,6 +291,6 @@ pub record Theorems : Type 0 where
 -- which are only read, share bytes. The page docs/LAYOUT.md. And the definitions that this page is made of, written
 -- from documents 01 and 02, the original and docs/LAYOUT.md: all files of specs/ to which `use` lines lead from here,
 -- with their remarks. A script of the gate counts their lines (tests/contracts.py):
---   numbers 257, units 125, filters 442, words 137, state 939, worth 274, rtt 480, layout 216, events 464, phases 208,
---   changes 62, judge 199, arguments 222, reads 18, places 142, pairs 63, trips 188, calls 204, laws 658, drift 379,
---   dispatch 242, guovssalu 206, theorems 1130: together 7255
+--   numbers 257, units 125, filters 442, words 137, text 242, rows 71, state 939, worth 274, rtt 480, layout 216,
+--   events 464, phases 208, changes 62, judge 199, arguments 222, reads 18, places 142, pairs 63, trips 188,
+--   calls 204, laws 658, dispatch 242, trace 570, guovssalu 206, drift 379, theorems 1268: together 8276

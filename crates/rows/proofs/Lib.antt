@@ -1,0 +1,4 @@
+-- Laws on rows.
+pub mod Decimals
+pub mod Rows
+pub mod Determined

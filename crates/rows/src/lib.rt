@@ -1,0 +1,3 @@
+// A row of a replay, written into bytes.
+mod digits;
+pub mod row;
