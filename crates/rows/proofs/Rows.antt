@@ -1,21 +1,19 @@
 -- The texts of a row, composed; and how long they are. Assumes nothing.
-use Prim.Native.Nat.{ℕ, zero, suc, _+_, _<_, _≤_}
-use mathlib.Core.Path.{_≡_, refl, sym, ap, _∙_}
+use Prim.Native.Nat.{ℕ, _+_, _≤_}
+use mathlib.Core.Path.{_≡_, refl, sym}
 use mathlib.Core.Bool.{Bool, true, false, cond}
 use mathlib.Core.List.{List, [], _∷_, _++_}
 use native.Mathlib.Omega.{arith}
 use native.Mathlib.Nat.{add-zero}
 use lib.Dec.{eqb}
 use lib.ListN.{length, length-append}
-use lib.Seq.{sets}
-use borrow.Author.Tests.{eq-eqb, ne-eqb}
 use Rattle.units.specs.declared.maybe.MaybeNumber.{MaybeNumber}
 use Rattle.units.specs.declared.maybe.MaybeNumber.the-variants.{Unset, Set}
 use Rattle.rows.specs.declared.row.State.{State}
 use Rattle.rows.specs.declared.row.Row.{Row}
 use Rattle.rows.specs.Digits.{decimal, Put}
-use Rattle.rows.specs.Row.{comma, givenText, refusalText, headText, stateText, rowText}
-use Rattle.rows.proofs.Decimals.{decimal-few, put-put, put-is}
+use Rattle.rows.specs.Row.{givenText, refusalText, headText, stateText, rowText}
+use Rattle.rows.proofs.Decimals.{decimal-few}
 
 pub given-few : (g : MaybeNumber) → length (givenText g) ≤ 20
 unfolding givenText

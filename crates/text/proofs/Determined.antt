@@ -1,5 +1,5 @@
 -- Any two replies that the contract of a public function allows coincide: a line for each, about what its contract says (`Reads.Learnt`).
-use mathlib.Core.Path.{_≡_, sym, _∙_}
+use mathlib.Core.Path.{sym, _∙_}
 use Rattle.numbers.specs.OneReply.{OneReply}
 use Rattle.text.proofs.find.end_of as end_of
 use Rattle.text.proofs.line.parse as parse

@@ -1,17 +1,15 @@
 -- Fields split at commas, one after the other; and the first at fault. Assumes nothing.
-use Prim.Native.Nat.{ℕ, zero, suc, _+_, _<_, _≤_}
+use Prim.Native.Nat.{ℕ, suc, _+_, _<_, _≤_}
 use mathlib.Core.Path.{_≡_, refl, sym, ap, _∙_}
-use mathlib.Core.Bool.{Bool, true, false, cond, not}
+use mathlib.Core.Bool.{Bool, true, false, cond}
 use mathlib.Core.List.{List, [], _∷_, _++_, map, append-assoc}
 use native.Mathlib.Omega.{arith}
 use native.Mathlib.Numerals.{add-one}
-use native.Mathlib.Nat.{add-zero}
 use lib.Dec.{eqb, leb}
-use lib.ListN.{length, drop, take, set, getD, replicate, drop-of-length-le, length-drop, length-set, length-append}
-use lib.Seq.{drop-cons, drop-drop, take-suc-set, take-all, take-length}
+use lib.ListN.{length, drop, take, set, getD, replicate, drop-of-length-le, length-drop, length-set}
+use lib.Seq.{drop-cons, drop-drop, take-suc-set, take-all}
 use borrow.Author.Tests.{eq-eqb, ne-eqb, leb-true, leb-false}
 use Rattle.text.specs.declared.number.Cell.{Cell}
-use Rattle.text.specs.declared.fields.Cells.{Cells}
 use Rattle.text.specs.Number.{tagOf, numberOf}
 use Rattle.text.specs.Inner.{before, upto, cellAt, cellsOf, noCells}
 use Rattle.text.specs.Fields.{onto, fields, accepts, faultFrom}

@@ -1,6 +1,6 @@
 -- Lines worked out: document 02's own, and one or more for each cause of 6 that a line alone can have.
 use Prim.Native.Nat.{ℕ, _-_, _^_, _<_}
-use mathlib.Core.Bool.{true, false}
+use mathlib.Core.Bool.{false}
 use mathlib.Core.List.{List, [], _∷_, _++_}
 use mathlib.Core.Path.{_≡_}
 use lib.ListN.{length}

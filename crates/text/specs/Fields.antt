@@ -1,7 +1,7 @@
 -- The fields of a line, and which each kind fills. Document 02, request j: "Each kind fills the fields shown; an
 -- event's number, bw and rtt may each be filled, or empty for none."
 use Prim.Native.Nat.{ℕ, suc}
-use mathlib.Core.Bool.{Bool, true, false, cond, _&&_}
+use mathlib.Core.Bool.{Bool, cond, _&&_}
 use mathlib.Core.List.{List, [], _∷_}
 use lib.Dec.{eqb, ltb}
 

@@ -3,7 +3,7 @@
 -- digits (no quotes, no leading zero but in 0 itself) or above 2^64 - 1, a field wrongly filled or empty, or a send
 -- or event before any accepted start." Of the last this page knows nothing: crates/trace.
 use Prim.Native.Nat.{ℕ, _+_, _-_}
-use mathlib.Core.Bool.{Bool, true, false, cond, _&&_}
+use mathlib.Core.Bool.{Bool, cond, _&&_}
 use mathlib.Core.List.{List, [], _∷_, map}
 use lib.Dec.{eqb, leb}
 use lib.ListN.{length, take, getD}

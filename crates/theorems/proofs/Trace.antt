@@ -1,11 +1,10 @@
 -- The lo that a row shows follows the exact run. Assumes nothing.
 use Prim.Native.Nat.{ℕ, _-_, _^_, _≤_}
-use mathlib.Core.Bool.{Bool, true, false, cond}
+use mathlib.Core.Bool.{Bool, true, false, cond, true≢false}
 use mathlib.Core.List.{List, [], _∷_, _++_}
 use mathlib.Core.Path.{_≡_, refl, sym, ap, subst, _∙_}
 use native.Mathlib.Omega.{arith}
 use lib.Dec.{eqb}
-use lib.Ieee.{Float}
 use borrow.Author.Tests.{eqb-true, eq-eqb}
 use Rattle.units.specs.declared.time.Duration.{Duration}
 use Rattle.units.specs.declared.time.Moment.{Moment}
@@ -20,11 +19,10 @@ use Rattle.state.specs.NetworkModel.{one, startNumber, startModel, modelNew}
 use Rattle.state.specs.Faults.{sentFaults, startedFaults, wholeRecord, wholeSample}
 use Rattle.state.specs.Cycle.{freshCycle}
 use Rattle.changes.specs.Changes.{sentNumber, sentNext}
-use Rattle.events.specs.Event.{finishNumber, finishNext}
 use Rattle.drift.specs.Calls as C
 use Rattle.drift.specs.Calls.{Call, State, numberOf, otherNumber, nextOf, otherNext, run, started}
 use Rattle.drift.specs.Exact as X
-use Rattle.drift.specs.Exact.{Exact, unset, over, inflightEffect, exactly, exactRun}
+use Rattle.drift.specs.Exact.{Exact, unset, inflightEffect, exactly, exactRun}
 use Rattle.drift.specs.Drift.{inflightLow, Follows, Along, OfEvent, usualBeta, usualParts, Under}
 use Rattle.drift.proofs.Usual.{usual-inflight-drift, usual-inflight-follows}
 use Rattle.text.specs.declared.line.Event as line
@@ -36,7 +34,8 @@ use Rattle.trace.specs.Made.{params, ackedBy, recordOf, sampleOf, occursNumber,
 use Rattle.trace.specs.Replay as Read
 use Rattle.trace.specs.Replay.{begin, bound, stateOf, answered, answeredBy, badText, counted, startRead, sentRead, eventRead, readLine, stepped}
 use Rattle.trace.specs.Stream.{after}
-use Rattle.trace.proofs.Occur.{occurs-finish}
+use Rattle.calls.proofs.Same.{settled-same}
+use Rattle.trace.proofs.Occur.{occurs-finish, settled-done}
 use Rattle.theorems.specs.Steps.{makes, begins, keeps, moment, duration, afterStart, afterStep, exactStep}
 use Rattle.theorems.specs.Trace.{lineStep, beside, exactLine, exactLines, windowOf, SmallLines, InRows, TraceUnasked, TraceDefined}
 use Rattle.theorems.proofs.Reached.{Reached, reached-start, reached-step, of-reached}
@@ -51,14 +50,6 @@ unfolding settled
 settled-model n next old y = go (eqb n 0)
   where
     go : (t : Bool) → cond t (pair next y) (pair old y) ≡ pair (cond t next old) y
-    go true = refl
-    go false = refl
-
-settled-same : {A : Type 0} (n : ℕ) (x : A) → settled n x x ≡ x
-unfolding settled
-settled-same n x = go (eqb n 0)
-  where
-    go : (t : Bool) → cond t x x ≡ x
     go true = refl
     go false = refl
 
@@ -84,11 +75,7 @@ finish-state m e y h = finish-after m e y h
 
 finish-exact : (parts : ℕ) (m : NetworkModel) (r : CongestionEvent) (y : Cycle) (x : Exact) → exactStep inflightEffect parts (makes (C.other (C.finish r))) (pair m y) x ≡ x
 unfolding exactStep inflightEffect numberOf exactly
-finish-exact parts m r y x = ap (λ (f : X.Effect). exactly parts f x) (settled-same (otherNumber (C.finish r) (pair m y)) X.stays)
-
-settled-zero : {A : Type 0} (n : ℕ) → n ≡ 0 → (next old : A) → settled n next old ≡ next
-unfolding settled
-settled-zero n h next old = rw h
+finish-exact parts m r y x = ap (λ (f : X.Effect). exactly parts f x) (sym (settled-same (otherNumber (C.finish r) (pair m y)) X.stays))
 
 settled-false : {A : Type 0} (n : ℕ) → eqb n 0 ≡ false → (a b old : A) → settled n a old ≡ settled n b old
 unfolding settled
@@ -132,10 +119,7 @@ module _ (parts : ℕ) where
     on : (y : Cycle) → started ≡ true → At m y x → Inv started m x
 
   reached-in : (m : NetworkModel) (x : Exact) (t : Bool) → t ≡ true → Inv t m x → (y : Cycle) × At m y x
-  reached-in m x t h (idle f u e) = absurd (no (sym h ∙ f))
-    where
-      no : true ≡ false → ⊥
-      no q = absurd (let z : _≡_ {A = ℕ} 0 1 = ap (λ (b : Bool). cond b 0 1) q in omega (arith, z))
+  reached-in m x t h (idle f u e) = absurd (true≢false (sym h ∙ f))
   reached-in m x t h (on y s r) = (y, r)
 
   -- ---- a start
@@ -173,8 +157,8 @@ module _ (parts : ℕ) where
   -- ---- an event, and its finish
   finish-step : (m : NetworkModel) (e : line.Event) (y : Cycle) (x : Exact) → occursNumber m e ≡ 0 → At (settled (occursNumber m e) (startedModel m e) m) y x → At (settled (occursNumber m e) (occursNext m e) m) y x
   finish-step m e y x z a =
-      subst (λ (k : NetworkModel). At k y x) (sym (settled-zero (occursNumber m e) z (occursNext m e) m))
-      (ended m e y x z (subst (λ (k : NetworkModel). At k y x) (settled-zero (occursNumber m e) z (startedModel m e) m) a))
+      subst (λ (k : NetworkModel). At k y x) (sym (settled-done (occursNumber m e) (occursNext m e) m z))
+      (ended m e y x z (subst (λ (k : NetworkModel). At k y x) (settled-done (occursNumber m e) (startedModel m e) m z) a))
     where
       ended : (m : NetworkModel) (e : line.Event) (y : Cycle) (x : Exact) → occursNumber m e ≡ 0 → At (startedModel m e) y x → At (occursNext m e) y x
       ended m e y x z a = subst (λ (v : Exact). At (occursNext m e) y v) (finish-exact parts (startedModel m e) (recordAfter m e) y x) (subst (λ (s : State). Reached inflightEffect parts P s (exactStep inflightEffect parts (makes (C.other (C.finish (recordAfter m e)))) (pair (startedModel m e) y) x)) (finish-state m e y z) (reached-step inflightEffect parts P (makes (C.other (C.finish (recordAfter m e)))) (pair (startedModel m e) y) x (λ _. tt) a))

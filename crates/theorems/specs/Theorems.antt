@@ -293,4 +293,4 @@ pub record Theorems : Type 0 where
 -- with their remarks. A script of the gate counts their lines (tests/contracts.py):
 --   numbers 257, units 125, filters 442, words 137, text 242, rows 71, state 939, worth 274, rtt 480, layout 216,
 --   events 464, phases 208, changes 62, judge 199, arguments 222, reads 18, places 142, pairs 63, trips 188,
---   calls 204, laws 658, dispatch 242, trace 570, guovssalu 206, drift 379, theorems 1268: together 8276
+--   calls 204, laws 658, dispatch 242, trace 567, guovssalu 206, drift 379, theorems 1268: together 8273

@@ -7,7 +7,6 @@ use native.Mathlib.Omega.{arith}
 use lib.Dec.{leb}
 use lib.ListN.{length, drop, length-drop}
 use borrow.Author.Tests.{leb-true, leb-false}
-use Rattle.rows.specs.Row.{rowText}
 use Rattle.trace.specs.declared.replay.Replay.{Replay}
 use Rattle.trace.specs.declared.stream.Ran.{Ran}
 use Rattle.trace.specs.Replay.{stepped}

@@ -1,9 +1,9 @@
 -- What the program writes for the pieces of an input is what it would write for the whole. Assumes nothing.
-use Prim.Native.Nat.{ℕ, _+_, _≤_, _<_}
-use mathlib.Core.List.{List, [], _∷_, _++_, append-assoc, append-nil}
-use mathlib.Core.Path.{_≡_, refl, sym, ap, ap₂, _∙_, subst}
+use Prim.Native.Nat.{ℕ, _+_, _≤_}
+use mathlib.Core.List.{List, [], _∷_, _++_, append-assoc}
+use mathlib.Core.Path.{_≡_, refl, sym, ap, ap₂, _∙_}
 use native.Mathlib.Omega.{arith}
-use lib.ListN.{length, drop}
+use lib.ListN.{drop}
 use Rattle.text.specs.Text.{bytes}
 use Rattle.text.specs.Word.{same}
 use Rattle.rows.specs.Row.{rowText}
@@ -13,7 +13,7 @@ use Rattle.trace.specs.Stream.{linesFrom, restFrom, after, rowsOf, keptO
 use Rattle.trace.specs.Output.{inputHeader, outputHeader, lastRow, lastReplay, rowsAfter, replayAfter, outputOf}
 use Rattle.trace.specs.Pieces.{joined, runText, AllAnswered, over, more, Fed, none, piece}
 use Rattle.trace.proofs.Pieces.{linesIn, restIn}
-use Rattle.trace.proofs.Ran.{RanOn, ran-on}
+use Rattle.trace.proofs.Ran.{ran-on}
 use Rattle.trace.proofs.Whole.{any-cut-rows, any-cut-state, any-cut-rest, none-rest, held-lines, held-rest, kept-none, last-alike}
 
 -- ---- two lists of lines, one after the other

@@ -2,13 +2,13 @@
 use Prim.Native.Nat.{ℕ, _+_, _-_, _<_, _≤_, min}
 use mathlib.Core.Path.{_≡_, refl, sym, ap, _∙_}
 use mathlib.Core.Bool.{Bool, true, false}
-use mathlib.Core.List.{List, [], _∷_, _++_}
+use mathlib.Core.List.{List, _++_}
 use native.Mathlib.Omega.{arith}
 use native.Mathlib.Numerals.{add-one}
 use native.Mathlib.Nat.{add-comm, zero-add}
 use lib.Dec.{leb}
 use lib.ListN.{length, take, drop, getD, set, length-take, length-drop, take-append-drop}
-use lib.Seq.{take-suc, take-suc-set, getD-drop, drop-set-lt, drop-drop, take-take, take-all, sets, sets-eq, length-take-le}
+use lib.Seq.{take-suc, take-suc-set, getD-drop, drop-set-lt, drop-drop, take-take, take-all, sets, sets-eq}
 use borrow.Author.Tests.{leb-true, leb-false}
 use Rattle.trace.specs.Stream.{keptOf, between}
 

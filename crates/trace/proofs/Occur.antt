@@ -1,12 +1,11 @@
 -- An event and its finish: what the code has, over plain variables, and its definition. Assumes nothing.
 use Prim.Native.Nat.{ℕ}
-use mathlib.Core.Bool.{Bool, true, false, cond, not}
+use mathlib.Core.Bool.{Bool, true, false}
 use mathlib.Core.List.{List}
-use mathlib.Core.Path.{_≡_, refl, sym, ap, ap₂, _∙_, subst}
+use mathlib.Core.Path.{_≡_, refl, sym, ap, _∙_, subst}
 use lib.Dec.{T, eqb}
 use lib.Ieee.{binary32, ofBits, fits}
 use borrow.Author.Tests.{eqb-true}
-use Rattle.units.specs.declared.reply.Reply.{Reply}
 use Rattle.units.specs.Reply.{number, fault}
 use Rattle.state.specs.declared.network_model.NetworkModel.{NetworkModel}
 use Rattle.state.specs.declared.params.Params.{Params}
@@ -51,7 +50,7 @@ occurs-finish m e h =
     (event-model-kept m params (recordOf e) (sampleOf e) (ackedBy (e .number)) h beta-fits)
     (event-record-kept m params (recordOf e) (sampleOf e) (ackedBy (e .number)) h)
 
-settled-done : {A : Type 0} (n : ℕ) (next old : A) → n ≡ 0 → settled n next old ≡ next
+pub settled-done : {A : Type 0} (n : ℕ) (next old : A) → n ≡ 0 → settled n next old ≡ next
 unfolding settled
 settled-done n next old h = rw h
 

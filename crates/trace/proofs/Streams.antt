@@ -1,19 +1,16 @@
 -- Lines of a text: the first one, and what `run` has done. Assumes nothing.
-use Prim.Native.Nat.{ℕ, zero, suc, _+_, _-_, _<_, _≤_}
+use Prim.Native.Nat.{ℕ, suc, _+_, _-_, _<_, _≤_}
 use mathlib.Core.Path.{_≡_, refl, sym, ap, _∙_}
 use mathlib.Core.Bool.{Bool, true, false, cond}
-use mathlib.Core.List.{List, [], _∷_, _++_, append-assoc, append-nil}
+use mathlib.Core.List.{List, [], _∷_, _++_, append-assoc}
 use native.Mathlib.Omega.{arith}
-use native.Mathlib.Numerals.{add-one}
-use native.Mathlib.Nat.{add-zero}
 use lib.Dec.{eqb, leb}
-use lib.ListN.{length, take, drop, getD, set, length-drop, length-append, drop-of-length-le}
-use lib.Seq.{drop-cons, drop-length, drop-drop, sets, length-take-le}
-use borrow.Author.Tests.{eq-eqb, ne-eqb, leb-true, leb-false, le-leb, lt-leb}
+use lib.ListN.{length, take, drop, length-drop}
+use lib.Seq.{drop-drop, sets, length-take-le}
+use borrow.Author.Tests.{leb-true, leb-false, le-leb, lt-leb}
 use Rattle.rows.specs.Digits.{Put}
 use Rattle.rows.specs.Row.{rowText}
 use Rattle.rows.proofs.Decimals.{sets-append}
-use Rattle.rows.proofs.Rows.{row-few}
 use Rattle.trace.specs.declared.replay.Replay.{Replay}
 use Rattle.trace.specs.declared.replay.Stepped.{Stepped}
 use Rattle.trace.specs.declared.stream.Ran.{Ran}

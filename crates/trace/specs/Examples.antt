@@ -1,6 +1,5 @@
 -- Inputs worked out: the output of each.
-use Prim.Native.Nat.{ℕ}
-use mathlib.Core.List.{List, [], _∷_, _++_}
+use mathlib.Core.List.{[], _∷_, _++_}
 use mathlib.Core.Path.{_≡_}
 use Rattle.text.specs.Text.{bytes, line}
 use Rattle.trace.specs.Output.{inputHeader, outputHeader, outputOf}

@@ -2,10 +2,9 @@
 -- `on_packet_sent`. Event: `on_congestion_event_start` and, "An accepted event is followed by its finish",
 -- `on_congestion_event_finish`, with the record as it came back.
 use Prim.Native.Nat.{ℕ}
-use mathlib.Core.Bool.{Bool, true, false, cond}
+use mathlib.Core.Bool.{Bool, true, false}
 use mathlib.Core.List.{List, [], _∷_}
 use lib.Ieee.{binary32, ofBits}
-use Rattle.units.specs.declared.bandwidth.Bandwidth.{Bandwidth}
 use Rattle.units.specs.declared.time.Duration.{Duration}
 use Rattle.units.specs.declared.time.Moment.{Moment}
 use Rattle.units.specs.declared.maybe.MaybeNumber.{MaybeNumber}

@@ -4,8 +4,7 @@
 -- Definitions only.
 use Prim.Native.Nat.{ℕ, _<_, _≤_}
 use mathlib.Core.List.{List, [], _∷_, _++_}
-use mathlib.Core.Path.{_≡_}
-use lib.ListN.{length, drop}
+use lib.ListN.{drop}
 use Rattle.trace.specs.declared.replay.Replay.{Replay}
 use Rattle.trace.specs.declared.stream.Ran.{Ran}
 use Rattle.trace.specs.Stream.{linesFrom, ranOf, ranText, keptOf}

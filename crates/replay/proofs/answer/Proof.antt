@@ -4,7 +4,7 @@ use borrow.Author.Needs.{needs}
 use lib.ListN.{length, drop}
 use lib.Seq.{length-take-le}
 use mathlib.Core.List.{[]}
-use mathlib.Core.Bool.{Bool, true, false, cond}
+use mathlib.Core.Bool.{true≢false}
 use mathlib.Core.Path.{_≡_, refl, _∙_, sym, ap}
 use Rattle.trace.specs.Stream.{linesFrom, ranText}
 use Prim.Native.Nat.{ℕ, _-_}
@@ -16,9 +16,6 @@ use Rattle.replay.proofs.answer.Reads as reads
 use Rattle.replay.proofs.answer.Lts as lts
 use Rattle.io.proofs.write_all.Reads as write-all-reads
 use Rattle.trace.proofs.stream.run.Reads as run-reads
-
-no : false ≡ true → ⊥
-no h = let z : _≡_ {A = ℕ} 1 0 = ap (λ (t : Bool). cond t 0 1) h in absurd (omega (arith, z))
 
 abbrev Inv-loop : tie.InvT-loop
 Inv-loop s out₀ cur₀ at₀ out cur at =
@@ -53,7 +50,7 @@ same-length-2 : tie.Need-same-length-2 Inv-loop μ-loop
 same-length-2 c = run-kept (c .before .before .before .before .before .before .before .before .before .loop .out) _ (ranText (c .before .before .before .before .before .before .before .before .before .loop .cur) (linesFrom [] (drop (c .before .before .before .before .before .before .before .before .before .loop .at) (c .before .before .before .before .before .before .before .before .before .before .before .before .args .s .now))) 0 (length (c .before .before .before .before .before .before .before .before .before .loop .out))) (c .before .before .before .before .before .before .run .ensures .1) ∙ c .before .before .before .before .before .before .before .before .before .loop .inv .0
 
 returns-2 : tie.Need-returns-2 Inv-loop μ-loop
-returns-2 c = λ h. absurd (no h)
+returns-2 c = λ h. absurd (true≢false (sym h))
 
 loop-less : tie.Need-loop-less Inv-loop μ-loop
 loop-less c = omega arith

@@ -2,7 +2,7 @@
 use native.Mathlib.Omega.{arith}
 use lib.Seq.{length-take-le}
 use Prim.Native.Nat.{ℕ}
-use mathlib.Core.Bool.{Bool, true, false, cond}
+use mathlib.Core.Bool.{true≢false}
 use mathlib.Core.Path.{_≡_, sym, ap}
 use Rattle.trace.specs.declared.replay.Stepped.{Stepped}
 use Rattle.trace.proofs.Answers.{last-none, last-some}
@@ -16,14 +16,11 @@ use Rattle.io.proofs.write_all.Reads as write-all-reads
 use Rattle.rows.proofs.row.put_row.Reads as put-row-reads
 use Rattle.trace.proofs.replay.Replay.step.Reads as step-reads
 
-no : false ≡ true → ⊥
-no h = let z : _≡_ {A = ℕ} 1 0 = ap (λ (t : Bool). cond t 0 1) h in absurd (omega (arith, z))
-
 returns : tie.Need-returns
 returns c = λ _. last-none _ _ (c .if1 .taken)
 
 returns-2 : tie.Need-returns-2
-returns-2 c = λ h. absurd (no h)
+returns-2 c = λ h. absurd (true≢false (sym h))
 
 step-requires : tie.Need-step-requires
 step-requires c κs = search needs

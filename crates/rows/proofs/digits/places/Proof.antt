@@ -2,8 +2,8 @@
 use Rattle.rows.proofs.Decimals.{places-here, places-next, ten-fits, ten-more}
 use Rattle.rows.specs.Digits.{placesOf, placesFrom}
 use native.Mathlib.Omega.{arith}
-use mathlib.Core.Path.{_≡_, refl, _∙_, sym, ap}
-use Prim.Native.Nat.{_≤_, _-_, _+_, _^_}
+use mathlib.Core.Path.{_≡_, refl, _∙_, sym}
+use Prim.Native.Nat.{_≤_, _-_, _^_}
 use Rattle.rows.proofs.digits.places.Statement.{statement}
 use Rattle.rows.proofs.digits.places.Tie as tie
 use Rattle.rows.proofs.digits.places.Reads as reads

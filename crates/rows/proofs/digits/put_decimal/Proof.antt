@@ -1,10 +1,9 @@
 -- `put_decimal` meets its contract.
 use Rattle.rows.proofs.Decimals.{places-few, put-is, length-decimal}
 use Rattle.rows.specs.Digits.{decimal, digitsOf}
-use lib.ListN.{length}
 use lib.Seq.{sets}
-use Prim.Native.Nat.{ℕ, _+_}
-use mathlib.Core.Path.{_≡_, refl, _∙_, sym, ap}
+use Prim.Native.Nat.{ℕ}
+use mathlib.Core.Path.{_∙_, ap}
 use native.Mathlib.Omega.{arith}
 use borrow.Author.Needs.{needs}
 use Rattle.rows.proofs.digits.put_decimal.Statement.{statement}

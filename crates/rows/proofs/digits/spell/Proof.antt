@@ -5,8 +5,8 @@ use lib.Seq.{sets}
 use lib.ListN.{length, length-set}
 use borrow.Author.Needs.{needs}
 use native.Mathlib.Omega.{arith}
-use mathlib.Core.Path.{_≡_, refl, _∙_, sym, ap}
-use Prim.Native.Nat.{_≤_, _-_, _+_, _^_}
+use mathlib.Core.Path.{_≡_, refl}
+use Prim.Native.Nat.{_≤_, _-_}
 use Rattle.rows.proofs.digits.spell.Statement.{statement}
 use Rattle.rows.proofs.digits.spell.Tie as tie
 use Rattle.rows.proofs.digits.spell.Reads as reads

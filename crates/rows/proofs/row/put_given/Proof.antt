@@ -1,7 +1,6 @@
 -- `put_given` meets its contract.
-use Rattle.rows.proofs.Rows.{nothing-put, put-as}
+use Rattle.rows.proofs.Rows.{nothing-put}
 use Rattle.rows.specs.Row.{givenText}
-use mathlib.Core.Path.{_≡_, refl, _∙_, sym, ap}
 use borrow.Author.Needs.{needs}
 use Rattle.rows.proofs.row.put_given.Statement.{statement}
 use Rattle.rows.proofs.row.put_given.Tie as tie

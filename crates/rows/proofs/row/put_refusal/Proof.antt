@@ -1,7 +1,6 @@
 -- `put_refusal` meets its contract.
 use Rattle.rows.proofs.Decimals.{decimal-few, put-put}
 use Rattle.rows.specs.Row.{refusalText}
-use Rattle.rows.specs.Digits.{decimal}
 use borrow.Author.Tests.{eq-eqb, ne-eqb}
 use native.Mathlib.Omega.{arith}
 use borrow.Author.Needs.{needs}

@@ -3,9 +3,9 @@ use Rattle.text.proofs.Splits.{Known, known-none, cell-within, known-ne
 use Rattle.text.specs.Fields.{fields}
 use borrow.Author.Needs.{needs}
 use native.Mathlib.Omega.{arith}
-use lib.ListN.{length, drop}
-use mathlib.Core.Path.{_≡_, refl, _∙_}
-use Prim.Native.Nat.{_≤_, _-_}
+use lib.ListN.{drop}
+use mathlib.Core.Path.{_∙_}
+use Prim.Native.Nat.{_-_}
 use Rattle.text.proofs.fields.cells_from.Statement.{statement}
 use Rattle.text.proofs.fields.cells_from.Tie as tie
 use Rattle.text.proofs.fields.cells_from.Reads as reads

@@ -6,7 +6,7 @@ use borrow.Author.Needs.{needs}
 use native.Mathlib.Omega.{arith}
 use lib.ListN.{length, drop}
 use mathlib.Core.Path.{_≡_, refl, _∙_, sym}
-use Prim.Native.Nat.{ℕ, _≤_, _-_, _+_}
+use Prim.Native.Nat.{_≤_, _-_, _+_}
 use Rattle.text.proofs.fields.fault.Statement.{statement}
 use Rattle.text.proofs.fields.fault.Tie as tie
 use Rattle.text.proofs.fields.fault.Reads as reads

@@ -1,6 +1,6 @@
 -- `rules` meets its contract.
 use Rattle.text.specs.Fields.{rulesOf}
-use borrow.Author.Tests.{eq-eqb, ne-eqb}
+use borrow.Author.Tests.{ne-eqb}
 use Rattle.text.proofs.fields.rules.Statement.{statement}
 use Rattle.text.proofs.fields.rules.Tie as tie
 use Rattle.text.proofs.fields.rules.Reads as reads

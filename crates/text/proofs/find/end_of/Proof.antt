@@ -3,8 +3,8 @@ use Rattle.text.proofs.Numbers.{before-here, before-more, before-end}
 use Rattle.text.specs.Inner.{before}
 use native.Mathlib.Omega.{arith}
 use lib.ListN.{length, drop}
-use mathlib.Core.Path.{_≡_, refl, _∙_, sym, ap}
-use Prim.Native.Nat.{_≤_, _-_, _+_}
+use mathlib.Core.Path.{_≡_, refl, ap}
+use Prim.Native.Nat.{_-_, _+_}
 use Rattle.text.proofs.find.end_of.Statement.{statement}
 use Rattle.text.proofs.find.end_of.Tie as tie
 use Rattle.text.proofs.find.end_of.Reads as reads

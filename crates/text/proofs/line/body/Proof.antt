@@ -2,7 +2,7 @@
 use Rattle.text.proofs.Lines.{body-one, end-within, end-least, body-count, body-unknown, body-fault, body-made}
 use borrow.Author.Tests.{not-true, not-false}
 use lib.Seq.{length-take-le}
-use mathlib.Core.Path.{_≡_, refl, _∙_, sym, ap}
+use mathlib.Core.Path.{_∙_, sym}
 use native.Mathlib.Omega.{arith}
 use native.Mathlib.Nat.{zero-add}
 use borrow.Author.Needs.{needs}

@@ -1,7 +1,7 @@
 -- `parse` meets its contract.
 use Rattle.text.proofs.Lines.{line-long, line-short, line-no-cr, line-no-lf, line-sound}
 use lib.Seq.{length-take-le}
-use mathlib.Core.Path.{_≡_, refl, _∙_, sym, ap}
+use mathlib.Core.Path.{_∙_, sym}
 use native.Mathlib.Omega.{arith}
 use borrow.Author.Needs.{needs}
 use Rattle.text.proofs.line.parse.Statement.{statement}

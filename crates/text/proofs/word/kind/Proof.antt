@@ -1,7 +1,7 @@
 -- `kind` meets its contract.
 use Rattle.text.specs.Text.{bytes}
 use Rattle.text.specs.Word.{kindOf}
-use mathlib.Core.Path.{_≡_, refl, _∙_, sym}
+use mathlib.Core.Path.{_∙_, sym}
 use borrow.Author.Needs.{needs}
 use Rattle.text.proofs.word.kind.Statement.{statement}
 use Rattle.text.proofs.word.kind.Tie as tie

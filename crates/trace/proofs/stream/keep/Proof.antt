@@ -4,7 +4,7 @@ use native.Mathlib.Omega.{arith}
 use borrow.Author.Needs.{needs}
 use lib.ListN.{length, drop, take, length-set, length-drop}
 use mathlib.Core.Path.{_≡_, refl, _∙_, sym}
-use Prim.Native.Nat.{_≤_, _-_, _+_, min}
+use Prim.Native.Nat.{_≤_, _-_, min}
 use Rattle.trace.proofs.stream.keep.Statement.{statement}
 use Rattle.trace.proofs.stream.keep.Tie as tie
 use Rattle.trace.proofs.stream.keep.Reads as reads

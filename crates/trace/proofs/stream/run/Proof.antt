@@ -3,8 +3,8 @@ use Rattle.trace.proofs.Streams.{Done, done-none, run-past, run-small, 
 use native.Mathlib.Omega.{arith}
 use borrow.Author.Needs.{needs}
 use lib.ListN.{length}
-use mathlib.Core.Path.{_≡_, refl, _∙_, sym}
-use Prim.Native.Nat.{_≤_, _-_, _+_}
+use mathlib.Core.Path.{_≡_}
+use Prim.Native.Nat.{_-_, _+_}
 use Rattle.trace.proofs.stream.run.Statement.{statement}
 use Rattle.trace.proofs.stream.run.Tie as tie
 use Rattle.trace.proofs.stream.run.Reads as reads

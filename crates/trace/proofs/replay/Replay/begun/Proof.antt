@@ -1,5 +1,4 @@
 -- `Replay::begun` meets its contract: by whether the start is done.
-use borrow.Author.Needs.{needs}
 use Rattle.trace.proofs.replay.Replay.begun.Statement.{statement}
 use Rattle.trace.proofs.replay.Replay.begun.Tie as tie
 use Rattle.trace.proofs.replay.Replay.begun.Reads as reads
