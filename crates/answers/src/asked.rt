@@ -5,7 +5,7 @@ use units::{Bandwidth, Duration, MaybeNumber, Moment};
 use words::float_bits::{f32_bits, f32_of, f64_bits, f64_of};
 
 // What a list asks, with the filter that it goes on with from line to line.
-#[derive(Drop)]
+#[derive(Clone, Copy)]
 pub enum Asked {
     ToF32,
     ToF64,
@@ -21,7 +21,7 @@ pub enum Asked {
     Rounds(RoundTripCounter),
 }
 
-#[derive(Drop)]
+#[derive(Clone, Copy)]
 pub struct Compared {
     pub asked: Asked,
     pub same: bool,

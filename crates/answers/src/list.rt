@@ -17,7 +17,7 @@ pub fn read_file(name: &[u8], space: &mut [u8]) -> usize
 }
 
 // One line: its numbers, 0 past the last, and where the next line starts.
-#[derive(Drop)]
+#[derive(Clone, Copy)]
 pub struct Line {
     pub numbers: [u64; 16],
     pub next: usize,

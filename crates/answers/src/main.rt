@@ -1,4 +1,6 @@
 // Compares the port with fixed lists of the original's answers, and prints what was compared.
+#![tactic(auto)]
+
 mod asked;
 mod list;
 
@@ -8,13 +10,13 @@ use libc::STDOUT_FILENO;
 use list::{change_last, read_file, read_line};
 use units::{Duration, Moment};
 
-#[derive(Drop)]
+#[derive(Clone, Copy)]
 pub struct Tally {
     pub answers: u64,
     pub differ: u64,
 }
 
-#[derive(Drop)]
+#[derive(Clone, Copy)]
 pub struct Both {
     pub tally: Tally,
     pub changed: u64,

@@ -13,7 +13,7 @@ use units::Bandwidth;
 use words::word::{flag_word, float_word};
 
 // The row of a call's reply, and its answer.
-#[derive(Drop)]
+#[derive(Clone, Copy)]
 pub struct Answer {
     pub row: u64,
     pub value: u64,

@@ -11,7 +11,7 @@ use state::network_model::Changed;
 use units::Duration;
 
 // The row of a call's reply, and the model after it.
-#[derive(Drop)]
+#[derive(Clone, Copy)]
 pub struct Left {
     pub row: u64,
     pub model: NetworkModel,

@@ -16,7 +16,7 @@ use units::Moment;
 use words::word::{flag_fits, or_outside};
 
 // The row of a call's reply, and the model and the cycle after it.
-#[derive(Drop)]
+#[derive(Clone, Copy)]
 pub struct Reached {
     pub row: u64,
     pub model: NetworkModel,

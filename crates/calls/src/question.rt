@@ -13,7 +13,7 @@ use state::network_model::Changed;
 use state::{NetworkModel, Params};
 
 // The row of a call's reply, the model after it, and its answer.
-#[derive(Drop)]
+#[derive(Clone, Copy)]
 pub struct Judgement {
     pub row: u64,
     pub model: NetworkModel,

@@ -37,7 +37,7 @@ pub fn on_packet_sent(
 }
 
 // The row of a send's reply, and the model after it.
-#[derive(Drop)]
+#[derive(Clone, Copy)]
 pub struct Sent {
     pub row: u64,
     pub model: NetworkModel,

@@ -1,4 +1,6 @@
 // The calls on the network model that send, set, cap, clear or put off.
+#![tactic(auto)]
+
 pub mod changes;
 
 pub use changes::{

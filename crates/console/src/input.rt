@@ -5,7 +5,7 @@ use libc::STDIN_FILENO;
 use text::word::same_text;
 
 // What the input begins with: a trace's header, anything else, or nothing that can be read.
-#[derive(Drop)]
+#[derive(Clone, Copy)]
 pub enum Header {
     Right,
     Wrong,
@@ -28,7 +28,7 @@ pub fn read_header() -> Header {
 }
 
 // A piece that was read behind the bytes held: how long it is, and whether it could be read.
-#[derive(Drop)]
+#[derive(Clone, Copy)]
 pub struct Piece {
     pub got: usize,
     pub fine: bool,

@@ -17,7 +17,7 @@ use words::word::{flag_word, float_of};
 
 // The state after a call; the number of its reply, its answer, 0 where it has none, and the words of the event's record
 // after it, zeros where it has none.
-#[derive(Drop)]
+#[derive(Clone, Copy)]
 pub struct Outcome {
     pub model: NetworkModel,
     pub cycle: Cycle,

@@ -20,7 +20,7 @@ use state::{NetworkModel, Params};
 use units::counter::FULL;
 use units::{Bandwidth, MaybeBandwidth, MaybeDuration, MaybeNumber, Moment, Reply};
 
-#[derive(Drop)]
+#[derive(Clone, Copy)]
 pub struct Started {
     pub reply: Reply,
     pub model: NetworkModel,
@@ -61,7 +61,7 @@ pub fn on_congestion_event_start(
 }
 
 // The row of an event's reply, the model after it, and the record.
-#[derive(Drop)]
+#[derive(Clone, Copy)]
 pub struct Happened {
     pub row: u64,
     pub model: NetworkModel,
@@ -533,7 +533,7 @@ pub fn on_congestion_event_finish(model: NetworkModel, event: CongestionEvent) -
 }
 
 // The row of a finish's reply, and the model after it.
-#[derive(Drop)]
+#[derive(Clone, Copy)]
 pub struct Finished {
     pub row: u64,
     pub model: NetworkModel,

@@ -1,4 +1,6 @@
 // A congestion event's start and finish.
+#![tactic(auto)]
+
 pub mod event;
 
 pub use event::{

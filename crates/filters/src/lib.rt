@@ -1,4 +1,6 @@
 // The small filters that BBRv2's network model is made of.
+#![tactic(auto)]
+
 pub mod max_bandwidth_filter;
 pub mod min_rtt_filter;
 pub mod round_trip_counter;

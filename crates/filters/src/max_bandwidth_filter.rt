@@ -5,7 +5,7 @@ ghost use Rattle.filters.specs.MaxBandwidthFilter.{max_new, max_get, max_update,
 use units::Bandwidth;
 
 // The Rust's max_bandwidth[0] and max_bandwidth[1].
-#[derive(Drop)]
+#[derive(Clone, Copy)]
 pub struct MaxBandwidthFilter {
     pub slot0: Bandwidth,
     pub slot1: Bandwidth,

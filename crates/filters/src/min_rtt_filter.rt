@@ -4,7 +4,7 @@ ghost use Rattle.filters.specs.MinRttFilter.{min_force, min_update};
 
 use units::{Duration, Moment};
 
-#[derive(Drop)]
+#[derive(Clone, Copy)]
 pub struct MinRttFilter {
     pub rtt: Duration,
     pub timestamp: Moment,

@@ -10,14 +10,14 @@ use units::{MaybeNumber, Reply};
 // So many numbers are gone through one after the other, without halving them.
 const AT_ONCE: usize = 64;
 
-#[derive(Drop)]
+#[derive(Clone, Copy)]
 pub struct RoundTripCounter {
     pub count: u64,
     pub sent: u64,
     pub end: MaybeNumber,
 }
 
-#[derive(Drop)]
+#[derive(Clone, Copy)]
 pub struct Acked {
     pub reply: Reply,
     pub counter: RoundTripCounter,

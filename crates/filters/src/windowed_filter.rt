@@ -7,33 +7,33 @@ ghost use Rattle.filters.specs.WindowedFilter.{all_three, is_older, lingers, is_
 
 use units::{MaybeNumber, Reply};
 
-#[derive(Drop)]
+#[derive(Clone, Copy)]
 pub struct Sample {
     pub sample: u64,
     pub time: u64,
 }
 
-#[derive(Drop)]
+#[derive(Clone, Copy)]
 pub struct Estimates {
     pub best: Sample,
     pub second: Sample,
     pub third: Sample,
 }
 
-#[derive(Drop)]
+#[derive(Clone, Copy)]
 pub enum Held {
     Unset,
     Set(Estimates),
 }
 
-#[derive(Drop)]
+#[derive(Clone, Copy)]
 pub struct WindowedFilter {
     pub window: u64,
     pub held: Held,
 }
 
 // What an update did to the estimates: the step of document 01 that acted last, or none.
-#[derive(Drop)]
+#[derive(Clone, Copy)]
 pub enum Reason {
     AllReplaced,
     SecondRaised,
@@ -45,7 +45,7 @@ pub enum Reason {
     Unchanged,
 }
 
-#[derive(Drop)]
+#[derive(Clone, Copy)]
 pub struct Updated {
     pub reply: Reply,
     pub filter: WindowedFilter,
@@ -53,7 +53,7 @@ pub struct Updated {
 }
 
 // The estimates that some of the steps leave, and which of them acted last.
-#[derive(Drop)]
+#[derive(Clone, Copy)]
 pub struct Stepped {
     pub estimates: Estimates,
     pub reason: Reason,

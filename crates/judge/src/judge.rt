@@ -19,7 +19,7 @@ use units::counter::FULL;
 use units::{Bandwidth, Duration, MaybeDuration, Moment, Reply};
 
 // A call's reply, the model after it, and its answer.
-#[derive(Drop)]
+#[derive(Clone, Copy)]
 pub struct Decided {
     pub reply: Reply,
     pub model: NetworkModel,

@@ -1,4 +1,6 @@
 // The questions about an event, and the queue's.
+#![tactic(auto)]
+
 pub mod judge;
 
 pub use judge::{

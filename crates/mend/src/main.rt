@@ -1,5 +1,7 @@
 // Mends a trace from standard input: the lines that are kept to standard output, and the list of the others to the file that
 // is named (docs/TRACE.md).
+#![tactic(auto)]
+
 mod list;
 
 ghost use Rattle.std.specs.Prelude.{◌≤◌, [], ◌≡◌, length, drop};
@@ -29,7 +31,7 @@ fn write_both(list: i32, lines: &[u8], entries: &[u8], way: u8) -> u8
 }
 
 // What is known when the lines of a piece are sifted, where the bytes of a line that is not ended begin, and how it goes on.
-#[derive(Drop)]
+#[derive(Clone, Copy)]
 struct Answered {
     mend: Mend,
     at: usize,
@@ -96,7 +98,7 @@ fn last(list: i32, mend: Mend, s: &[u8], out: &mut [u8], entries: &mut [u8]) -> 
 }
 
 // What is known after a piece, how many bytes are held for the next, and how it goes on.
-#[derive(Drop)]
+#[derive(Clone, Copy)]
 struct Turn {
     mend: Mend,
     held: usize,

@@ -8,7 +8,7 @@ use trace::placed::placed;
 use trace::tally::one_more;
 
 // How many lines were read, how many of them kept and how many listed, and whether a start was accepted.
-#[derive(Drop)]
+#[derive(Clone, Copy)]
 pub struct Mend {
     pub line: u64,
     pub kept: u64,
@@ -17,7 +17,7 @@ pub struct Mend {
 }
 
 // What is known after a line, and whether it is kept; where it is not, the first field at fault.
-#[derive(Drop)]
+#[derive(Clone, Copy)]
 pub struct Sorted {
     pub mend: Mend,
     pub kept: bool,

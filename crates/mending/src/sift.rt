@@ -10,7 +10,7 @@ use rows::entry::{put_entry, put_text};
 use text::find::end_of;
 
 // What is known after the lines that were sifted, where the next line begins, and how much of each range was written.
-#[derive(Drop)]
+#[derive(Clone, Copy)]
 pub struct Sifted {
     pub mend: Mend,
     pub at: usize,
@@ -19,7 +19,7 @@ pub struct Sifted {
 }
 
 // Where the lines kept and the entries end.
-#[derive(Drop)]
+#[derive(Clone, Copy)]
 pub struct Ends {
     pub kept: usize,
     pub listed: usize,

@@ -1,4 +1,6 @@
 // Whole numbers and floats: Rust's casts between them, and products taken by way of a float.
+#![tactic(auto)]
+
 pub mod float_to_int;
 pub mod int_to_float;
 pub mod order;

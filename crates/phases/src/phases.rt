@@ -16,7 +16,7 @@ use state::{Cycle, CyclePhase, NetworkModel, Params};
 use units::{Duration, MaybeDuration, MaybeNumber, Moment, Reply};
 
 // A call's reply, and the model and the cycle after it.
-#[derive(Drop)]
+#[derive(Clone, Copy)]
 pub struct Entered {
     pub reply: Reply,
     pub model: NetworkModel,

@@ -1,4 +1,6 @@
 // The calls on the network model that only answer.
+#![tactic(auto)]
+
 pub mod reads;
 
 pub use reads::{

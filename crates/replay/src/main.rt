@@ -1,5 +1,7 @@
 // Replays a trace from standard input: a row for each line to standard output, and to standard error a summary
 // (docs/TRACE.md).
+#![tactic(auto)]
+
 mod summary;
 
 ghost use Rattle.std.specs.Prelude.{◌≤◌, true, ◌≡◌, length};
@@ -16,7 +18,7 @@ use trace::stream::{keep, run};
 
 // What is known when the lines of a piece are answered: the replay, where the bytes of a line that is not ended begin, and
 // whether all was written.
-#[derive(Drop)]
+#[derive(Clone, Copy)]
 struct Answered {
     replay: Replay,
     at: usize,
@@ -90,7 +92,7 @@ fn last(replay: Replay, s: &[u8], out: &mut [u8]) -> Answered
 
 // The replay after a piece, how many bytes are held for the next, and how it goes on: 0 with the next piece, 1 the input has
 // ended, 2 it can't be read, 3 the rows can't be written.
-#[derive(Drop)]
+#[derive(Clone, Copy)]
 struct Turn {
     replay: Replay,
     held: usize,

@@ -7,7 +7,7 @@ use crate::digits::{put_byte, put_decimal};
 use units::MaybeNumber;
 
 // What is shown of a state: its round count, the largest bandwidth, inflight_lo and inflight_hi.
-#[derive(Drop)]
+#[derive(Clone, Copy)]
 pub struct State {
     pub round: u64,
     pub maxbw: u64,
@@ -16,7 +16,7 @@ pub struct State {
 }
 
 // The line's number, its refusal with the part of a 2, and the state, if it is shown.
-#[derive(Drop)]
+#[derive(Clone, Copy)]
 pub struct Row {
     pub line: u64,
     pub refusal: u64,

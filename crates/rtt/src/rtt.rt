@@ -13,7 +13,7 @@ use state::faults::{LENGTH, LIST_LENGTH, first_of, unless};
 use state::refusals::{Rows, first_row, refusal};
 use units::{Duration, MaybeDuration, Reply};
 
-#[derive(Drop)]
+#[derive(Clone, Copy)]
 pub struct RttStats {
     pub latest: Duration,
     pub minimum: Duration,
@@ -26,21 +26,21 @@ pub struct RttStats {
 }
 
 // A call's reply and the estimator after it.
-#[derive(Drop)]
+#[derive(Clone, Copy)]
 pub struct Updated {
     pub reply: Reply,
     pub stats: RttStats,
 }
 
 // The row of a call's reply and the estimator after it: for a run.
-#[derive(Drop)]
+#[derive(Clone, Copy)]
 pub struct Taken {
     pub row: u64,
     pub stats: RttStats,
 }
 
 // The minimum's answer: nothing before the first sample.
-#[derive(Drop)]
+#[derive(Clone, Copy)]
 pub struct MinimumRead {
     pub reply: Reply,
     pub minimum: MaybeDuration,

@@ -1,5 +1,7 @@
 // Answers frames of calls from standard input on standard output, until the input ends (oracle/README.md, "The frames").
 // The comparison with the original asks this program.
+#![tactic(auto)]
+
 mod call;
 mod copy;
 mod estimator;

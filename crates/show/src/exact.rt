@@ -5,7 +5,7 @@ ghost use Rattle.std.specs.Prelude.{◌≡◌, ◌+◌, ◌*◌, ◌^◌, ◌<�
 const PARTS: u64 = 11_744_051;
 
 // Thousandths of a byte, and below them three digits of 24 bits.
-#[derive(Drop)]
+#[derive(Clone, Copy)]
 pub struct Exact {
     pub thousandths: u64,
     pub first: u64,

@@ -1,4 +1,6 @@
 // Shows the library at work: a loss episode, conversions and scaling, and a windowed filter fed with a short sample.
+#![tactic(auto)]
+
 mod episode;
 mod exact;
 mod table;

@@ -5,37 +5,37 @@ ghost use Rattle.state.specs.Answers.{settled, zero_bandwidth, zero_length, zero
 
 use units::{Bandwidth, Duration, Moment, Reply};
 
-#[derive(Drop)]
+#[derive(Clone, Copy)]
 pub struct Number {
     pub reply: Reply,
     pub value: u64,
 }
 
-#[derive(Drop)]
+#[derive(Clone, Copy)]
 pub struct Flag {
     pub reply: Reply,
     pub yes: bool,
 }
 
-#[derive(Drop)]
+#[derive(Clone, Copy)]
 pub struct GainRead {
     pub reply: Reply,
     pub gain: f32,
 }
 
-#[derive(Drop)]
+#[derive(Clone, Copy)]
 pub struct BandwidthRead {
     pub reply: Reply,
     pub bandwidth: Bandwidth,
 }
 
-#[derive(Drop)]
+#[derive(Clone, Copy)]
 pub struct LengthRead {
     pub reply: Reply,
     pub length: Duration,
 }
 
-#[derive(Drop)]
+#[derive(Clone, Copy)]
 pub struct MomentRead {
     pub reply: Reply,
     pub moment: Moment,

@@ -7,7 +7,7 @@ use crate::parts::Totals;
 use units::{MaybeBandwidth, MaybeDuration, Moment};
 
 // SendTimeState: is_valid, is_app_limited, total_bytes_acked, bytes_in_flight.
-#[derive(Drop)]
+#[derive(Clone, Copy)]
 pub struct SendTimeState {
     pub valid: bool,
     pub applimited: bool,
@@ -18,7 +18,7 @@ pub struct SendTimeState {
 // BBRv2CongestionEvent: event_time, prior_cwnd, prior_bytes_in_flight, bytes_in_flight, bytes_acked,
 // bytes_lost, end_of_round_trip, is_probing_for_bandwidth, sample_max_bandwidth, sample_min_rtt,
 // last_packet_send_state.
-#[derive(Drop)]
+#[derive(Clone, Copy)]
 pub struct CongestionEvent {
     pub time: Moment,
     pub window: u64,
@@ -36,7 +36,7 @@ pub struct CongestionEvent {
 // The sampler's answer: sample_max_bandwidth, sample_max_send_rate, sample_max_ack_rate,
 // sample_is_app_limited, sample_rtt, sample_max_inflight, extra_acked, last_packet_send_state, and
 // the totals after the event.
-#[derive(Drop)]
+#[derive(Clone, Copy)]
 pub struct CongestionEventSample {
     pub bandwidth: MaybeBandwidth,
     pub send: MaybeBandwidth,

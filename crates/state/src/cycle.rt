@@ -9,7 +9,7 @@ use crate::faults::now_fault;
 use crate::refusals::{Rows, refusal};
 use units::{Duration, MaybeDuration, MaybeNumber, Moment, Reply};
 
-#[derive(Drop)]
+#[derive(Clone, Copy)]
 pub enum CyclePhase {
     NotStarted,
     Up,
@@ -19,7 +19,7 @@ pub enum CyclePhase {
 }
 
 // phase, rounds_in_phase, phase_start_time.
-#[derive(Drop)]
+#[derive(Clone, Copy)]
 pub struct Stay {
     pub phase: CyclePhase,
     pub rounds: u64,
@@ -27,7 +27,7 @@ pub struct Stay {
 }
 
 // start_time, rounds_since_probe, probe_wait_time.
-#[derive(Drop)]
+#[derive(Clone, Copy)]
 pub struct Wait {
     pub start: Moment,
     pub rounds: u64,
@@ -35,7 +35,7 @@ pub struct Wait {
 }
 
 // probe_up_rounds, probe_up_bytes, probe_up_acked, probe_up_app_limited_since_inflight_hi_applimited.
-#[derive(Drop)]
+#[derive(Clone, Copy)]
 pub struct Slope {
     pub rounds: u64,
     pub bytes: MaybeNumber,
@@ -44,13 +44,13 @@ pub struct Slope {
 }
 
 // last_cycle_probed_too_high, last_cycle_stopped_risky_probe.
-#[derive(Drop)]
+#[derive(Clone, Copy)]
 pub struct Last {
     pub high: bool,
     pub risky: bool,
 }
 
-#[derive(Drop)]
+#[derive(Clone, Copy)]
 pub struct Cycle {
     pub stay: Stay,
     pub wait: Wait,
@@ -63,7 +63,7 @@ pub struct Cycle {
 }
 
 // A call's reply, and the cycle after it.
-#[derive(Drop)]
+#[derive(Clone, Copy)]
 pub struct CycleChanged {
     pub reply: Reply,
     pub cycle: Cycle,

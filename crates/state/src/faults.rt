@@ -30,7 +30,7 @@ pub const MOMENT: u8 = 9;
 pub const NO_CALL: u32 = 8;
 
 // Which words of a record in a call are a writer's.
-#[derive(Drop)]
+#[derive(Clone, Copy)]
 pub struct RecordFits {
     pub ended: bool,
     pub probing: bool,
@@ -41,7 +41,7 @@ pub struct RecordFits {
 }
 
 // Which words of a sampler's answer in a call are a writer's; `limited` is the send state's.
-#[derive(Drop)]
+#[derive(Clone, Copy)]
 pub struct SampleFits {
     pub bandwidth: bool,
     pub send: bool,

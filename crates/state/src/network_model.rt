@@ -13,7 +13,7 @@ use crate::refusals::{Rows, refusal};
 use filters::{MaxBandwidthFilter, MinRttFilter, RoundTripCounter};
 use units::{Bandwidth, Duration, MaybeBandwidth, Moment, Reply};
 
-#[derive(Drop)]
+#[derive(Clone, Copy)]
 pub struct NetworkModel {
     pub rounds: RoundTripCounter,
     pub maxbw: MaxBandwidthFilter,
@@ -36,7 +36,7 @@ pub struct NetworkModel {
 }
 
 // A call's reply and the model after it.
-#[derive(Drop)]
+#[derive(Clone, Copy)]
 pub struct Changed {
     pub reply: Reply,
     pub model: NetworkModel,

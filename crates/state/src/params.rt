@@ -8,7 +8,7 @@ use units::Duration;
 // In the Rust's words: beta, loss_threshold, inflight_hi_headroom, full_bw_threshold,
 // startup_cwnd_gain, startup_pacing_gain, startup_full_bw_rounds, max_startup_queue_rounds,
 // probe_rtt_period, probe_bw_probe_base_duration, ignore_app_limited_for_no_bandwidth_growth.
-#[derive(Drop)]
+#[derive(Clone, Copy)]
 pub struct Params {
     pub beta: f32,
     pub loss: f32,

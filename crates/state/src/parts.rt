@@ -10,7 +10,7 @@ use units::{Bandwidth, MaybeBandwidth};
 
 // bytes_lost_in_round, loss_events_in_round, max_bytes_delivered_in_round,
 // min_bytes_in_flight_in_round, inflight_hi_limited_in_round.
-#[derive(Drop)]
+#[derive(Clone, Copy)]
 pub struct Round {
     pub lost: u64,
     pub losses: u64,
@@ -20,21 +20,21 @@ pub struct Round {
 }
 
 // bandwidth_latest, inflight_latest.
-#[derive(Drop)]
+#[derive(Clone, Copy)]
 pub struct Latest {
     pub bandwidth: Bandwidth,
     pub inflight: u64,
 }
 
 // bandwidth_lo, inflight_lo.
-#[derive(Drop)]
+#[derive(Clone, Copy)]
 pub struct Lower {
     pub bandwidth: MaybeBandwidth,
     pub inflight: u64,
 }
 
 // cwnd_gain, pacing_gain.
-#[derive(Drop)]
+#[derive(Clone, Copy)]
 pub struct Gains {
     pub cwnd: f32,
     pub pacing: f32,
@@ -42,7 +42,7 @@ pub struct Gains {
 
 // full_bandwidth_reached, full_bandwidth_baseline, rounds_without_bandwidth_growth,
 // rounds_with_queueing, ignore_app_limited_for_no_bandwidth_growth.
-#[derive(Drop)]
+#[derive(Clone, Copy)]
 pub struct Growth {
     pub reached: bool,
     pub baseline: Bandwidth,
@@ -52,14 +52,14 @@ pub struct Growth {
 }
 
 // latest_send_rate, latest_ack_rate.
-#[derive(Drop)]
+#[derive(Clone, Copy)]
 pub struct Rates {
     pub send: MaybeBandwidth,
     pub ack: MaybeBandwidth,
 }
 
 // The port's own: the last totals acked and lost.
-#[derive(Drop)]
+#[derive(Clone, Copy)]
 pub struct Totals {
     pub acked: u64,
     pub lost: u64,

@@ -8,7 +8,7 @@ ghost use Rattle.state.specs.Refusals.{asked_of, first_of, or_short};
 use units::Reply;
 
 // For one call, which of the table's rows hold.
-#[derive(Drop)]
+#[derive(Clone, Copy)]
 pub struct Rows {
     // 1: "a stored number or a parameter is outside the bounds below".
     pub stored: bool,

@@ -6,7 +6,7 @@ ghost use Rattle.text.specs.Inner.{cells_of, no_cells};
 use crate::number::cell_at;
 
 // The tags and numbers of ten fields; not whole where there are more or fewer.
-#[derive(Drop)]
+#[derive(Clone, Copy)]
 pub struct Cells {
     pub whole: bool,
     pub tags: [u8; 10],

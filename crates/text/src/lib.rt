@@ -1,4 +1,6 @@
 // A line of a trace, read from its bytes.
+#![tactic(auto)]
+
 mod fields;
 pub mod find;
 pub mod line;

@@ -8,7 +8,7 @@ use crate::word::kind;
 use units::MaybeNumber;
 
 // time, cwnd, inflight, number, acked, lost, bw, rtt, probing.
-#[derive(Drop)]
+#[derive(Clone, Copy)]
 pub struct Event {
     pub time: u64,
     pub cwnd: u64,
@@ -21,7 +21,7 @@ pub struct Event {
     pub probing: bool,
 }
 
-#[derive(Drop)]
+#[derive(Clone, Copy)]
 pub enum Line {
     // Refused with 6: the first field at fault, or 0.
     Refused(u64),

@@ -3,7 +3,7 @@ ghost use Rattle.std.specs.Prelude.{◌≡◌, ◌+◌, ◌≤◌, length};
 ghost use Rattle.text.specs.Inner.{pushed, scan_at, cell_at};
 
 // A number as far as it is read; not fine: no plain number.
-#[derive(Drop)]
+#[derive(Clone, Copy)]
 pub struct Number {
     pub fine: bool,
     pub value: u64,
@@ -52,7 +52,7 @@ fn push(n: Number, b: u8) -> Number
 }
 
 // Where the field that starts at an index ends, and its number.
-#[derive(Drop)]
+#[derive(Clone, Copy)]
 pub struct Scan {
     pub end: usize,
     pub number: Number,
@@ -79,7 +79,7 @@ fn scan_at(s: &[u8], at: usize) -> Scan
 }
 
 // A field: where it ends, 0 if it is empty, 1 if it is a plain number and 2 if it is neither, and the number.
-#[derive(Drop)]
+#[derive(Clone, Copy)]
 pub struct Cell {
     pub end: usize,
     pub tag: u8,

@@ -141,7 +141,7 @@ fn told(
 }
 
 // The reply to an event, the model after it and its finish, and whether a round ended with it.
-#[derive(Drop)]
+#[derive(Clone, Copy)]
 pub struct Occurred {
     pub reply: Reply,
     pub model: NetworkModel,

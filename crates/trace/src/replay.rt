@@ -13,7 +13,7 @@ use text::line::{Event, Line, parse};
 use units::{Duration, MaybeNumber, Moment, Reply};
 
 // How many lines were answered, whether a start was accepted, the model, and what a summary counts.
-#[derive(Drop)]
+#[derive(Clone, Copy)]
 pub struct Replay {
     pub line: u64,
     pub started: bool,
@@ -22,7 +22,7 @@ pub struct Replay {
 }
 
 // The replay after a line, and the row that answers it.
-#[derive(Drop)]
+#[derive(Clone, Copy)]
 pub struct Stepped {
     pub replay: Replay,
     pub row: Row,

@@ -9,7 +9,7 @@ use rows::row::put_row;
 use text::find::end_of;
 
 // The replay after the lines that were answered, where the next line begins, and how much was written.
-#[derive(Drop)]
+#[derive(Clone, Copy)]
 pub struct Ran {
     pub replay: Replay,
     pub at: usize,

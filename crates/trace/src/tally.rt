@@ -7,7 +7,7 @@ use rows::row::Row;
 
 // The rounds that ended; the lowest inflight_lo, or 2^64 - 1; the line of the first refusal, or 0; how many lines were
 // refused, and how many with 6, 1, 2.1 to 2.5, 2.9, 3, 4, 10 and 5.
-#[derive(Drop)]
+#[derive(Clone, Copy)]
 pub struct Tally {
     pub rounds: u64,
     pub lowest: u64,

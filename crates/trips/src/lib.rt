@@ -1,2 +1,4 @@
 // The round-trip estimator, run over calls in bytes.
+#![tactic(auto)]
+
 pub mod trips;

@@ -8,7 +8,7 @@ use numbers::scale_f64;
 // Bits in a byte times nanoseconds in a second.
 const NANOS_PER_BYTE: u64 = 8_000_000_000;
 
-#[derive(Drop)]
+#[derive(Clone, Copy)]
 pub struct Bandwidth(pub u64);
 
 impl Bandwidth {

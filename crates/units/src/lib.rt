@@ -1,4 +1,6 @@
 // What the port counts in: moments and lengths of time, bandwidth, full counters, and the replies of its calls.
+#![tactic(auto)]
+
 pub mod bandwidth;
 pub mod counter;
 pub mod maybe;

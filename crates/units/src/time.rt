@@ -4,10 +4,10 @@ ghost use Rattle.units.specs.Time.{plus, since, is_before};
 
 use crate::saturating;
 
-#[derive(Drop)]
+#[derive(Clone, Copy)]
 pub struct Moment(pub u64);
 
-#[derive(Drop)]
+#[derive(Clone, Copy)]
 pub struct Duration(pub u64);
 
 impl Moment {

@@ -1,6 +1,8 @@
 // Words, numbers of 64 bits with the lowest byte first, in byte slices: a part of the exported
 // calls. These functions are no public entries: each asks that what it reads or writes lies within
 // the slice.
+#![tactic(auto)]
+
 pub mod float_bits;
 pub mod maybe;
 pub mod word;

@@ -6,7 +6,7 @@ use crate::word::or_outside;
 use units::{Bandwidth, Duration, MaybeBandwidth, MaybeDuration, MaybeNumber};
 
 // 1 and the number, or 0 and 0.
-#[derive(Drop)]
+#[derive(Clone, Copy)]
 pub struct Maybe {
     pub set: u64,
     pub number: u64,
