@@ -16,7 +16,7 @@ IDENT = r"[^\s(){}\[\];,.«»\"`]+"
 
 
 def norm(name):
-    return name.replace("_", "-")
+    return re.sub("-lem$", "", name.replace("_", "-").lower())
 
 
 def read(path):
@@ -124,13 +124,10 @@ class Function:
 
     def path(self, place, text):
         """A path as c.before.if1.true at a place, by names."""
-        parts = text.split(".")[1:]
+        parts, asked = text.split(".")[1:], place
         while parts and parts[0] == "before":
             parts = parts[1:]
-            parent = self.data["places"][self.places[place]][1] if place in self.places else None
-            if parent is None:
-                break
-            place = parent
+            place = self.data["places"][self.places[place]][1] or place
         if not parts:
             return "c"
         field, rest = parts[0], parts[1:]
@@ -138,7 +135,8 @@ class Function:
             return ".".join(["c", field, *rest])
         if field in ("well_formed", "well-formed", "good"):
             return ".".join(["c", "well_formed", *rest])
-        for k, p in self.chain(place):
+        # a step that stands elsewhere now, where the walk has fewer places
+        for k, p in [*self.chain(place), *self.chain(asked), *enumerate(self.data["places"])]:
             old, new = p[2]
             if norm(old) != norm(field):
                 continue
@@ -183,14 +181,17 @@ class Function:
 
 def declarations(text):
     """The head, and the declarations, each as its name, its type, its `unfolding` and its clauses."""
-    head, found, cur = [], [], None
+    head, found, cur, above = [], [], None, []
     for line in text.split("\n"):
+        if found and line.startswith("--"):
+            above.append(line)
+            continue
         if cur is None and (line.startswith(("--", "use ")) or not line.strip()) and not found:
             head.append(line)
             continue
         m = re.match(r"(?:pub |abbrev |unfoldable )*(" + IDENT + r") :(?=\s|$)", line)
         if m and not line.startswith(" "):
-            cur = {"name": m.group(1), "lines": [line], "before": []}
+            cur, above = {"name": m.group(1), "lines": [line], "above": above}, []
             found.append(cur)
         elif cur is None:
             head.append(line)
@@ -257,22 +258,21 @@ def turn(crate, folder, key, data, where):
     by_goal = {}
     for d in decls:
         src = "\n".join(d["lines"])
-        sig = src.split("\n")[0]
         if re.search(r"statement M\b", src) or re.search(r": \{M : Type 1\}", src):
             spec = src
             continue
         m = re.match(r"(?:pub )?(" + IDENT + r") :\s+tie\.(?:Need-)([^\s(]+)", src)
         inv = re.match(r"abbrev (?:pub )?(invariant|decreases)-(" + IDENT + r") :\s+tie\.", src)
         if inv:
-            invariants.append((inv.group(1), inv.group(2), src))
+            invariants.append((inv.group(1), inv.group(2), src, d["above"]))
         elif m:
             k = fn.need(m.group(2), m.group(1))
             if k is None:
                 fn.failed.append("need " + m.group(1) + " " + m.group(2))
                 continue
-            by_goal[k] = (d["name"], src)
+            by_goal[k] = (d["name"], src, d["above"])
         else:
-            locals_.append(src.rstrip())
+            locals_.append("\n".join([*d["above"], src.rstrip()]))
     out = []
     said = set()
     # what the walk's last line answers in place
@@ -287,11 +287,11 @@ def turn(crate, folder, key, data, where):
                     if a.startswith("(λ") and k not in by_goal:
                         mm = re.match(r"\(λ c(?: κs)?\.\s*(.*)\)$", a, re.S)
                         if mm and not re.match(r"search rules$", mm.group(1).strip()):
-                            by_goal[k] = ("_", "x : y\nx c = " + mm.group(1))
+                            by_goal[k] = ("_", "x : y\nx c = " + mm.group(1), [])
             elif any(a.startswith("(λ") and not re.match(r"\(λ c(?: κs)?\.\s*search rules\)", a) for a in args):
                 fn.failed.append(f"{len(args)} answers in place, {len(needs)} goals")
     for k in sorted(by_goal):
-        name, src = by_goal[k]
+        name, src, above = by_goal[k]
         old, new = data["needs"][k]
         place = data["asked_at"][k][0]
         lines = src.split("\n")
@@ -313,7 +313,7 @@ def turn(crate, folder, key, data, where):
         fields = data["asked"].get(old) or data["asked"].get(new)
         if fields and len(fields) > 1:
             body = fields_body(new, body, fields, unfold)
-        out.append(f"pub {new} : goal.{new}\n" + "".join(u + "\n" for u in unfold) + f"{new} c = {body}{tail}\n")
+        out.append("".join(a + "\n" for a in above) + f"pub {new} : goal.{new}\n" + "".join(u + "\n" for u in unfold) + f"{new} c = {body}{tail}\n")
     made = []
     if out:
         text = "\n".join([*comments, *uses, f"use {own}.Goals as goal", ""]) + "\n"
@@ -324,7 +324,7 @@ def turn(crate, folder, key, data, where):
         fn.failed.append("lemmas that no answer cites")
     if invariants:
         lines = []
-        for kind, loop, src in invariants:
+        for kind, loop, src, above in invariants:
             which = [k for k, (names, vars_) in enumerate(loops) if norm(names[0]) == norm(loop)]
             if not which:
                 fn.failed.append("loop " + loop)
@@ -347,7 +347,7 @@ def turn(crate, folder, key, data, where):
                 if p == "_":
                     continue
                 body = re.sub(r"(?<![\w'.₀-])" + re.escape(p) + r"(?![\w'₀-])", s.replace("\\", "\\\\"), body)
-            lines.append(f"abbrev pub {new} : goal.{new}\n" + "".join(u + "\n" for u in unfold) + f"{new} l = {body}\n")
+            lines.append("".join(a + "\n" for a in above) + f"abbrev pub {new} : goal.{new}\n" + "".join(u + "\n" for u in unfold) + f"{new} l = {body}\n")
         made.append(("Invariants.antt", "\n".join([*comments[:1], *uses, f"use {own}.Given as goal", ""]) + "\n" + "\n".join(lines)))
     for name, text in made:
         with open(os.path.join(folder, name), "w", encoding="utf-8") as f:

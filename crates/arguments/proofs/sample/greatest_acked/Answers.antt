@@ -1,0 +1,50 @@
+-- `greatest_acked` meets its contract: of numbers in the call, of a place outside of the lists, and of numbers in the lists.
+use borrow.Author.Rules.{rules}
+use Prim.Native.Nat.{ℕ, ◌+◌, ◌-◌, ◌≤◌, ◌<◌}
+use mathlib.Core.Path.{◌≡◌, sym, ap, ◌∙◌}
+use native.Mathlib.Omega.{arith}
+use lib.ListN.{length, get_or, take, drop}
+use borrow.Author.Tests.{not-true, not-false}
+use Rattle.filters.specs.RoundTripCounter.{greatest}
+use Rattle.arguments.proofs.Acked.{acked_few, acked_outside, acked_listed, place_fits}
+use Rattle.arguments.proofs.sample.greatest_acked.Goals as goal
+
+-- the place lies inside of the lists
+inside :
+    (c : lts.After-start (three.Asked, three.Learnt, fits.Asked, fits.Learnt, many.Asked, many.Learnt) reads.Pre reads.Post) →
+    let args = c.before.before.before.before.before.before.args in get_or args.n.now 19 0 + get_or args.n.now 18 0 ≤ length args.lists.now
+inside c =
+    let args = c.before.before.before.before.before.before.args in
+    place_fits args.n.now args.lists.now c.before.before.before.before.before.before.requires (omega (arith, c.before.before.before.if1.false)) (sym c.before.before.acked-fits.ensures ∙ not-false _ c.before.if2.false)
+
+pub returns-then-count-le3 : goal.returns-then-count-le3
+returns-then-count-le3 c = let args = c.args in
+    c.greatest_of_three.ensures ∙ ap greatest (sym (acked_few args.n.now args.lists.now c.requires c.if-count-le3.true))
+
+pub acked_fits-requires : goal.acked_fits-requires
+acked_fits-requires c = c.requires
+
+pub returns-then-not-acked_fits : goal.returns-then-not-acked_fits
+returns-then-not-acked_fits c = let args = c.args in
+    let long = c.requires in
+    let more : 3 < get_or args.n.now 18 0 = omega (arith, c.if-count-le3.false) in
+    ap greatest (sym (acked_outside args.n.now args.lists.now long more (sym c.acked_fits.ensures ∙ not-true _ c.if-not-acked_fits.true)))
+
+pub overflow_add-end : goal.overflow_add-end
+overflow_add-end c = omega (arith, inside c)
+
+pub offset_bounds-lists-start : goal.offset_bounds-lists-start
+offset_bounds-lists-start c = omega (arith, inside c)
+
+pub slice_bounds-greatest_of-end : goal.slice_bounds-greatest_of-end
+slice_bounds-greatest_of-end c = omega (arith, inside c)
+
+pub returns : goal.returns
+returns c = let args = c.args in
+    let long = c.requires in
+    let more : 3 < get_or args.n.now 18 0 = omega (arith, c.if-count-le3.false) in
+    let fits = sym c.acked_fits.ensures ∙ not-false _ c.if-not-acked_fits.false in
+    let start = get_or args.n.now 19 0 in
+    let count = get_or args.n.now 18 0 in
+    let part : start + count - start ≡ count = omega arith in
+    c.greatest_of.ensures ∙ ap (λ (k : ℕ). greatest (take k (drop start args.lists.now))) part ∙ ap greatest (sym (acked_listed args.n.now args.lists.now long more fits))

@@ -1,0 +1,11 @@
+-- `cap_inflight_lo` meets its contract: what its calls ensure, put together.
+use borrow.Author.Rules.{rules}
+use Rattle.state.proofs.FirstFault.{asked}
+use mathlib.Core.Path.{ap, ◌∙◌}
+use Rattle.units.specs.Reply.{number, fault}
+use Rattle.state.specs.NetworkModel.{given_number}
+use Rattle.state.proofs.Settling.{settled_as}
+use Rattle.changes.proofs.changes.cap_inflight_lo.Goals as goal
+
+pub returns : goal.returns
+returns c = let given = c.given-reply in let reply = asked given.result _ _ _ _ given.ensures (ap (given_number _) c.bytes_or_unset_ok.ensures) c.limit_fault.ensures in let settle = c.settle.ensures in record { reply = ap number settle.reply ∙ reply.0; model = settle.model ∙ settled_as _ _ _ _ _ reply.0 c.cap_next.ensures; fault = ap fault settle.reply ∙ reply.1 }

@@ -1,0 +1,35 @@
+-- `dispatch::event_start` meets its contract: what its calls ensure, of the words that are read. Assumes nothing.
+use borrow.Author.Rules.{rules}
+use Prim.Native.Nat.{ℕ}
+use mathlib.Core.List.{List, ◌∷◌}
+use mathlib.Core.Path.{ap, ap₂, ◌∙◌}
+use lib.ListN.{length}
+use lib.Seq.{sets}
+use Rattle.words.specs.Words.{all_bytes}
+use Rattle.words.proofs.Laws.{length_words_at}
+use Rattle.dispatch.proofs.Alike.{started_number, started_leaves, started_words}
+use Rattle.dispatch.proofs.OneCall.{left_by_lem}
+use Rattle.dispatch.specs.OneCall.{call_at, call_word}
+use Rattle.state.specs.Faults.{first, replied}
+use Rattle.places.specs.Places.{faults_of}
+use mathlib.Core.Logic.{⊎_elim}
+use mathlib.Core.Path.{◌≡◌}
+use borrow.Author.Tests.{ne_eqb}
+use Rattle.dispatch.proofs.OneCall.{plain_word, blamed_word}
+use Rattle.dispatch.proofs.one_call.event_start.Goals as goal
+
+pub start_tested-happened-requires : goal.start_tested-happened-requires
+start_tested-happened-requires c = c.requires.2
+
+pub reply_word-word-requires : goal.reply_word-word-requires
+reply_word-word-requires c = c.requires.0
+
+pub put_answer-requires : goal.put_answer-requires
+put_answer-requires c = (c.requires.1, search rules)
+
+pub returns : goal.returns
+unfolding call_word
+returns c = let args = c.args in let words = c.call_at-words.ensures in let long = length_words_at args.calls.now args.at 49 in let most = rw words at c.greatest_acked.ensures in let event = rw (c.sample_from.ensures, c.event_from.ensures, c.params_from.ensures, words) at c.start_tested-happened.ensures in let number = event.0 ∙ started_number _ args.lists.now long args.model most in let record' = (rw words at c.event_left.ensures) ∙ left_by_lem _ _ _ _ _ _ event.0 event.1.1 in let after = started_words _ args.lists.now long args.model most record' in let word = c.reply_word-word.ensures ∙ ap (λ (n : ℕ). replied n (first (faults_of (call_at args.calls.now args.lists.now args.at) args.model.minrtt.timestamp))) number in let it = (
+      started_leaves _ args.lists.now long args.model most event.1.0,
+      c.put_answer.ensures ∙ ap₂ (λ (n : ℕ) (record' : List ℕ). sets args.answers.now args.to (all_bytes (n ∷ 0 ∷ record'))) word after,
+    ) in record { value = it.0; answers_after = it.1 }

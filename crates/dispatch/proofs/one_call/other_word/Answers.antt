@@ -1,0 +1,12 @@
+-- `dispatch::other_word` meets its contract: by the row. Assumes nothing.
+use borrow.Author.Rules.{rules}
+use mathlib.Core.Path.{◌∙◌}
+use borrow.Author.Tests.{ne_eqb}
+use Rattle.dispatch.proofs.OneCall.{plain_word, blamed_word}
+use Rattle.dispatch.proofs.one_call.other_word.Goals as goal
+
+pub returns-then-row-eq2 : goal.returns-then-row-eq2
+returns-then-row-eq2 c = c.fault_at.ensures ∙ blamed_word c.args.row _ c.if-row-eq2.true
+
+pub returns : goal.returns
+returns c = plain_word c.args.row _ (ne_eqb c.args.row 2 c.if-row-eq2.false)

@@ -1,0 +1,11 @@
+-- `entered`: part by part. Assumes nothing.
+use borrow.Author.Rules.{rules}
+use mathlib.Core.Path.{refl, ap, ◌∙◌}
+use Rattle.dispatch.specs.Outcome.{enter_outcome}
+use Rattle.dispatch.proofs.Parts.{outcome_as}
+use Rattle.dispatch.proofs.outcome.entered.Goals as goal
+
+pub returns : goal.returns
+unfolding enter_outcome
+returns c = let enter = c.enter-entered.ensures in
+    rw (← c.params_from.ensures) (outcome_as enter.model enter.cycle enter.row refl c.no_event.ensures)

@@ -1,0 +1,6 @@
+-- `minrtt_after` meets its contract: by the two cases.
+use borrow.Author.Rules.{rules}
+use Rattle.events.proofs.event.minrtt_after.Goals as goal
+
+pub returns : goal.returns
+returns c = rw c.in-Set.is c.update.ensures

@@ -1,0 +1,6 @@
+-- `raised_bandwidth` meets its contract: by the two cases.
+use borrow.Author.Rules.{rules}
+use Rattle.events.proofs.event.raised_bandwidth.Goals as goal
+
+pub returns : goal.returns
+returns c = rw c.in-Set.is c.max.ensures

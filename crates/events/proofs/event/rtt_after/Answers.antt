@@ -1,0 +1,6 @@
+-- `rtt_after` meets its contract: by the two cases.
+use borrow.Author.Rules.{rules}
+use Rattle.events.proofs.event.rtt_after.Goals as goal
+
+pub returns : goal.returns
+returns c = rw c.in-Set.is

@@ -1,0 +1,7 @@
+-- `Sample::lingers` is both tests: by what `is_older` promises.
+use borrow.Author.Rules.{rules}
+use Rattle.filters.specs.WindowedFilter.{lingers}
+use Rattle.filters.proofs.windowed_filter.Sample.lingers.Goals as goal
+
+pub returns : goal.returns
+returns c = rw c.is_older.ensures

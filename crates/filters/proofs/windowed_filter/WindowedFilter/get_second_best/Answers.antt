@@ -1,0 +1,6 @@
+-- `WindowedFilter::get_second_best` follows the filter's case.
+use borrow.Author.Rules.{rules}
+use Rattle.filters.proofs.windowed_filter.WindowedFilter.get_second_best.Goals as goal
+
+pub returns-in-Set : goal.returns-in-Set
+returns-in-Set c = rw c.in-Set.is

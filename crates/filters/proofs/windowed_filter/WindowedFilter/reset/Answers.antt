@@ -1,0 +1,7 @@
+-- `WindowedFilter::reset` fills the filter: by what `Estimates::all` promises.
+use borrow.Author.Rules.{rules}
+use Rattle.filters.specs.WindowedFilter.{windowed_reset}
+use Rattle.filters.proofs.windowed_filter.WindowedFilter.reset.Goals as goal
+
+pub returns : goal.returns
+returns c = rw c.all.ensures

@@ -1,0 +1,10 @@
+-- `guovssalu::model_reply` meets its contract: what the tests ensure, put into the rows. Assumes nothing.
+use borrow.Author.Rules.{rules}
+use mathlib.Core.Path.{◌∙◌}
+use Rattle.guovssalu.specs.ModelRun.{model_row, length_faults}
+use Rattle.state.proofs.FirstFault.{asked, or_short_lem}
+use Rattle.guovssalu.proofs.model_run.model_reply.Goals as goal
+
+pub returns : goal.returns
+unfolding model_row length_faults
+returns c = let it = or_short_lem c.refusal-reply.result c.or_short.result _ _ _ (asked c.refusal-reply.result _ _ _ _ c.refusal-reply.ensures (rw c.encodes_none.ensures) (c.first_of.ensures ∙ rw (c.unless.ensures, c.unless-2.ensures))) c.or_short.ensures in record { result_value = it.0; result_value_2 = it.1 }

@@ -1,0 +1,13 @@
+-- `maybe_expire_min_rtt` meets its contract: what its calls ensure, put together.
+use borrow.Author.Rules.{rules}
+use mathlib.Core.Path.{◌≡◌, refl, sym, ap, ap₂, ◌∙◌, subst}
+use mathlib.Core.Bool.{◌&&◌}
+use Rattle.units.specs.Reply.{number, fault}
+use Rattle.state.proofs.Settling.{settled_as}
+use Rattle.judge.proofs.judge.maybe_expire_min_rtt.Goals as goal
+
+pub returns : goal.returns
+returns c = let reply = c.judged_reply.ensures in let decide = c.decide.ensures in let it = (
+      ap number decide.reply ∙ reply.result_value,
+      (decide.model ∙ settled_as _ _ _ _ _ reply.result_value c.expire_next.ensures, (decide.yes ∙ settled_as _ _ _ _ _ reply.result_value (ap₂ ◌&&◌ c.is_given.ensures c.is_due.ensures), ap fault decide.reply ∙ reply.result_value_2)),
+    ) in record { reply = it.0; model = it.1.0; yes = it.1.1.0; fault = it.1.1.1 }

@@ -1,0 +1,6 @@
+-- `stay_of` meets its contract: field by field.
+use borrow.Author.Rules.{rules}
+use Rattle.layout.proofs.cycle.stay_of.Goals as goal
+
+pub returns : goal.returns
+returns c = rw c.phase_of.ensures

@@ -1,0 +1,6 @@
+-- `with_slope` meets its contract: word by word.
+use borrow.Author.Rules.{rules}
+use Rattle.layout.proofs.cycle.with_slope.Goals as goal
+
+pub returns : goal.returns
+returns c = simp (c.flag_word.ensures, c.plain_maybe-held.ensures)

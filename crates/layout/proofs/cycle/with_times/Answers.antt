@@ -1,0 +1,6 @@
+-- `with_times` meets its contract: word by word.
+use borrow.Author.Rules.{rules}
+use Rattle.layout.proofs.cycle.with_times.Goals as goal
+
+pub returns : goal.returns
+returns c = simp (c.phase_word.ensures, c.length_maybe-held.ensures)

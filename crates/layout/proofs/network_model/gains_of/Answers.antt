@@ -1,0 +1,6 @@
+-- `gains_of` meets its contract: field by field.
+use borrow.Author.Rules.{rules}
+use Rattle.layout.proofs.network_model.gains_of.Goals as goal
+
+pub returns : goal.returns
+returns c = simp (c.float_of-2.ensures, c.float_of.ensures)

@@ -1,0 +1,6 @@
+-- `lower_of` meets its contract: field by field.
+use borrow.Author.Rules.{rules}
+use Rattle.layout.proofs.network_model.lower_of.Goals as goal
+
+pub returns : goal.returns
+returns c = rw c.bandwidth_of.ensures

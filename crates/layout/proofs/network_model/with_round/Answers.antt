@@ -1,0 +1,6 @@
+-- `with_round` meets its contract: word by word.
+use borrow.Author.Rules.{rules}
+use Rattle.layout.proofs.network_model.with_round.Goals as goal
+
+pub returns : goal.returns
+returns c = rw c.flag_word.ensures

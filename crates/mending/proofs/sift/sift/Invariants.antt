@@ -1,0 +1,15 @@
+-- `sift` meets its contract: what is left to sift gives the same as all (proofs/Sifting.antt).
+use Rattle.mending.proofs.Sifting.{Done, done_none, sift_full, sift_no_places, sift_over, done_next}
+use Rattle.mending.proofs.Lines.{kept_few, kept_text_few, list_text_few}
+use lib.ListN.{length}
+use Prim.Native.Nat.{◌-◌, ◌≤◌}
+use mathlib.Core.Path.{◌≡◌, refl}
+use borrow.Author.Rules.{rules}
+use native.Mathlib.Omega.{arith}
+use Rattle.mending.proofs.sift.sift.Given as goal
+
+abbrev pub invariant-loop-kept : goal.invariant-loop-kept
+invariant-loop-kept l = (Done l.initial.list l.s l.from l.initial.out l.initial.kept l.out l.kept l.initial.listed l.listed l.room l.places) × (l.initial.at ≡ length l.initial.out) × (l.at ≡ length l.out) × (l.room ≤ l.initial.at) × (l.places ≤ l.at)
+
+abbrev pub decreases-loop-kept : goal.decreases-loop-kept
+decreases-loop-kept l = length l.s - l.listed

@@ -1,0 +1,15 @@
+-- `guovssalu::times_fall` meets its contract. The invariant: whether a time falls is decided by the pairs that are left. Assumes nothing.
+use Prim.Native.Nat.{◌-◌, ◌*◌, ◌/◌, ◌≤◌}
+use mathlib.Core.Path.{◌≡◌}
+use native.Mathlib.Nat.{sub-zero, sub_self}
+use native.Mathlib.Omega.{arith}
+use lib.ListN.{length}
+use Rattle.pairs.specs.Inner.{times_fall}
+use Rattle.pairs.proofs.Run.{falls_now, falls_later}
+use Rattle.pairs.proofs.pairs.times_fall.Given as goal
+
+abbrev pub invariant-loop-i : goal.invariant-loop-i
+invariant-loop-i l = (l.i ≤ l.count) × (times_fall l.initial.i l.src (16 * l.i) (l.count - l.i) ≡ times_fall 0 l.src 0 l.count)
+
+abbrev pub decreases-loop-i : goal.decreases-loop-i
+decreases-loop-i l = l.count - l.i

@@ -1,0 +1,12 @@
+-- `left_cycle` meets its contract: by whether the phase is Down.
+use borrow.Author.Rules.{rules}
+use Rattle.phases.specs.Phases.{left_cycle}
+use Rattle.phases.proofs.phases.left_cycle.Goals as goal
+
+pub returns-then-is_down : goal.returns-then-is_down
+unfolding left_cycle
+returns-then-is_down c = rw (← c.is_down.ensures, c.if-is_down.true) c.exit_cycle.ensures
+
+pub returns-else-is_down : goal.returns-else-is_down
+unfolding left_cycle
+returns-else-is_down c = rw (← c.is_down.ensures, c.if-is_down.false)

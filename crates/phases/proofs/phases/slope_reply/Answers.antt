@@ -1,0 +1,9 @@
+-- `slope_reply` meets its contract.
+use borrow.Author.Rules.{rules}
+use Rattle.state.proofs.FirstFault.{asked}
+use Rattle.phases.specs.Phases.{slope_number}
+use Rattle.phases.proofs.phases.slope_reply.Goals as goal
+
+pub returns : goal.returns
+unfolding slope_number
+returns c = let it = asked c.refusal.result _ _ _ _ c.refusal.ensures (simp (c.bytes_ok.ensures, c.ok.ensures)) c.slope_fault.ensures in record { result_value = it.0; result_value_2 = it.1 }

@@ -1,0 +1,7 @@
+-- `up_reply` meets its contract.
+use borrow.Author.Rules.{rules}
+use Rattle.state.proofs.FirstFault.{asked}
+use Rattle.phases.proofs.phases.up_reply.Goals as goal
+
+pub returns : goal.returns
+returns c = let it = asked c.entry_reply.result _ _ _ _ c.entry_reply.ensures (simp c.bytes_ok.ensures) c.up_fault-blamed.ensures in record { result_value = it.0; result_value_2 = it.1 }

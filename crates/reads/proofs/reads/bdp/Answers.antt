@@ -1,0 +1,12 @@
+-- `bdp` meets its contract: what its calls ensure, put together.
+use borrow.Author.Rules.{rules}
+use Rattle.state.proofs.FirstFault.{asked}
+use mathlib.Core.Path.{refl, ap, ◌∙◌, ap₂}
+use mathlib.Core.Bool.{◌&&◌}
+use Rattle.units.specs.Reply.{number, fault}
+use Rattle.state.specs.NetworkModel.{given_number}
+use Rattle.state.proofs.Settling.{settled_as}
+use Rattle.reads.proofs.reads.bdp.Goals as goal
+
+pub returns : goal.returns
+returns c = let given = c.given in let reply = asked given.result _ _ _ _ given.ensures (ap (given_number _) (ap₂ ◌&&◌ c.bandwidth_ok.ensures c.gain_ok.ensures)) c.bdp_fault-blamed.ensures in let of = c.of.ensures in record { reply = ap number of.reply ∙ reply.0; value = of.value ∙ settled_as _ _ _ _ _ reply.0 c.bdp_of.ensures; fault = ap fault of.reply ∙ reply.1 }

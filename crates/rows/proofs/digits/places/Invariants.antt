@@ -1,0 +1,13 @@
+-- `places` meets its contract.
+use Rattle.rows.proofs.Decimals.{places_here, places_next, ten_fits, ten_more}
+use Rattle.rows.specs.Digits.{places_of, places_from}
+use native.Mathlib.Omega.{arith}
+use mathlib.Core.Path.{◌≡◌, refl, ◌∙◌, sym}
+use Prim.Native.Nat.{◌≤◌, ◌-◌, ◌^◌}
+use Rattle.rows.proofs.digits.places.Given as goal
+
+abbrev pub invariant-loop-k : goal.invariant-loop-k
+invariant-loop-k l = (l.initial.limit ≤ 19) × (l.limit ≡ 10 ^ l.initial.limit) × (places_of l.n ≡ places_from (20 - l.initial.limit) l.initial.limit l.limit l.n)
+
+abbrev pub decreases-loop-k : goal.decreases-loop-k
+decreases-loop-k l = 19 - l.initial.limit

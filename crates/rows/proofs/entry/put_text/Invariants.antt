@@ -1,0 +1,15 @@
+-- `put_text` meets its contract: what is left of the text gives the same as all (proofs/Decimals.antt).
+use Rattle.rows.proofs.Decimals.{text_next, text_put}
+use native.Mathlib.Nat.{add-zero}
+use Prim.Native.Nat.{◌+◌, ◌-◌, ◌≤◌}
+use mathlib.Core.Path.{◌≡◌, refl}
+use lib.Seq.{sets}
+use lib.ListN.{length, drop, length-set}
+use native.Mathlib.Omega.{arith}
+use Rattle.rows.proofs.entry.put_text.Given as goal
+
+abbrev pub invariant-loop-i : goal.invariant-loop-i
+invariant-loop-i l = (l.i ≤ length l.at) × (length l.initial.i ≡ length l.initial.out) × (sets l.initial.i (l.out + l.i) (drop l.i l.at) ≡ sets l.initial.out l.out l.at)
+
+abbrev pub decreases-loop-i : goal.decreases-loop-i
+decreases-loop-i l = length l.at - l.i

@@ -1,0 +1,9 @@
+-- `rtt` meets its contract: what is stored, if the stored numbers are within bounds. Assumes nothing.
+use mathlib.Core.Path.{refl, ap, ◌∙◌}
+use borrow.Author.Rules.{rules}
+use Rattle.state.proofs.Settling.{settled_as}
+use Rattle.units.specs.Reply.{number}
+use Rattle.rtt.proofs.rtt.RttStats.rtt.Goals as goal
+
+pub returns : goal.returns
+returns c = record { reply = ap number c.of.ensures.reply ∙ c.stored.ensures; length = c.of.ensures.length ∙ settled_as _ _ _ _ _ c.stored.ensures refl }

@@ -1,0 +1,9 @@
+-- `stored` meets its contract: what the test ensures, put into the rows. Assumes nothing.
+use mathlib.Core.Path.{◌∙◌}
+use borrow.Author.Rules.{rules}
+use Rattle.rtt.specs.Rtt.{stored_number}
+use Rattle.rtt.proofs.rtt.RttStats.stored.Goals as goal
+
+pub returns : goal.returns
+unfolding stored_number
+returns c = c.refusal.ensures.result_value ∙ simp c.ok.ensures

@@ -1,0 +1,10 @@
+-- `update_reply` meets its contract: what its calls ensure, put together. Assumes nothing.
+use mathlib.Core.Path.{ap}
+use borrow.Author.Rules.{rules}
+use Rattle.state.proofs.FirstFault.{asked}
+use Rattle.rtt.specs.Rtt.{given_number, update_number}
+use Rattle.rtt.proofs.rtt.RttStats.update_reply.Goals as goal
+
+pub returns : goal.returns
+unfolding update_number
+returns c = let it = asked c.given.result _ _ _ _ c.given.ensures (rw (c.length_ok.ensures, c.length_ok-2.ensures)) c.update_fault.ensures in record { result_value = it.0; result_value_2 = it.1 }

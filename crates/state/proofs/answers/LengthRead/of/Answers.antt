@@ -1,0 +1,11 @@
+-- `LengthRead::of` meets its contract: by whether the call is done.
+use borrow.Author.Rules.{rules}
+use mathlib.Core.Path.{refl}
+use Rattle.state.proofs.Settling.{done, refused}
+use Rattle.state.proofs.answers.LengthRead.of.Goals as goal
+
+pub returns-then-is_done : goal.returns-then-is_done
+returns-then-is_done c = record { reply = refl; length = done _ _ _ _ c.is_done.ensures c.if-is_done.true }
+
+pub returns-else-is_done : goal.returns-else-is_done
+returns-else-is_done c = record { reply = refl; length = refused _ _ _ _ c.is_done.ensures c.if-is_done.false }

@@ -1,0 +1,6 @@
+-- `SendTimeState::ok` meets its contract: test by test.
+use borrow.Author.Rules.{rules}
+use Rattle.state.proofs.congestion_event.SendTimeState.ok.Goals as goal
+
+pub returns : goal.returns
+returns c = simp (c.bytes_ok.ensures, c.total_ok.ensures)

@@ -1,0 +1,6 @@
+-- `maybe_length_ok` meets its contract: by the two cases.
+use borrow.Author.Rules.{rules}
+use Rattle.state.proofs.congestion_event.maybe_length_ok.Goals as goal
+
+pub returns : goal.returns
+returns c = rw c.in-Set.is c.length_ok.ensures

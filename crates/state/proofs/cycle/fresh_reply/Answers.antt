@@ -1,0 +1,9 @@
+-- `fresh_reply` meets its contract.
+use borrow.Author.Rules.{rules}
+use Rattle.state.proofs.FirstFault.{asked}
+use Rattle.state.specs.Cycle.{fresh_number}
+use Rattle.state.proofs.cycle.fresh_reply.Goals as goal
+
+pub returns : goal.returns
+unfolding fresh_number
+returns c = let it = asked c.refusal.result _ _ _ _ c.refusal.ensures (simp c.moment_ok.ensures) c.now_fault.ensures in record { result_value = it.0; result_value_2 = it.1 }

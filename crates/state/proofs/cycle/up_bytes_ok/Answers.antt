@@ -1,0 +1,6 @@
+-- `up_bytes_ok` meets its contract: by the two cases.
+use borrow.Author.Rules.{rules}
+use Rattle.state.proofs.cycle.up_bytes_ok.Goals as goal
+
+pub returns : goal.returns
+returns c = rw c.in-Set.is c.bytes_ok.ensures

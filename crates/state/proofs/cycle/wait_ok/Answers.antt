@@ -1,0 +1,6 @@
+-- `wait_ok` meets its contract: by the two cases.
+use borrow.Author.Rules.{rules}
+use Rattle.state.proofs.cycle.wait_ok.Goals as goal
+
+pub returns : goal.returns
+returns c = rw c.in-Set.is

@@ -1,0 +1,9 @@
+-- `down_fault` meets its contract: argument by argument. Assumes nothing.
+use borrow.Author.Rules.{rules}
+use mathlib.Core.Path.{◌∙◌}
+use Rattle.state.specs.Faults.{down_faults}
+use Rattle.state.proofs.faults.down_fault.Goals as goal
+
+pub returns : goal.returns
+unfolding down_faults
+returns c = c.first_of.ensures ∙ rw (c.unless.ensures, c.unless-2.ensures, c.unless-3.ensures)

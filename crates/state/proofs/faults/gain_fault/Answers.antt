@@ -1,0 +1,9 @@
+-- `gain_fault` meets its contract: argument by argument. Assumes nothing.
+use borrow.Author.Rules.{rules}
+use mathlib.Core.Path.{◌∙◌}
+use Rattle.state.specs.Faults.{gain_faults}
+use Rattle.state.proofs.faults.gain_fault.Goals as goal
+
+pub returns : goal.returns
+unfolding gain_faults
+returns c = c.first_of.ensures ∙ rw (c.unless.ensures, c.unless-2.ensures, c.gain_ok.ensures)

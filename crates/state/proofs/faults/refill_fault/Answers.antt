@@ -1,0 +1,9 @@
+-- `refill_fault` meets its contract: argument by argument. Assumes nothing.
+use borrow.Author.Rules.{rules}
+use mathlib.Core.Path.{◌∙◌}
+use Rattle.state.specs.Faults.{refill_faults}
+use Rattle.state.proofs.faults.refill_fault.Goals as goal
+
+pub returns : goal.returns
+unfolding refill_faults
+returns c = c.first_of.ensures ∙ rw (c.unless.ensures, c.unless-2.ensures)

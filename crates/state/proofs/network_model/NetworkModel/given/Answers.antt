@@ -1,0 +1,10 @@
+-- `NetworkModel::given` meets its contract.
+use borrow.Author.Rules.{rules}
+use Rattle.state.specs.NetworkModel.{given_number}
+use mathlib.Core.Path.{refl}
+use Rattle.state.proofs.FirstFault.{asked}
+use Rattle.state.proofs.network_model.NetworkModel.given.Goals as goal
+
+pub returns : goal.returns
+unfolding given_number
+returns c = let it = asked c.refusal.result _ _ _ _ c.refusal.ensures (simp c.ok.ensures) refl in record { result_value = it.0; result_value_2 = it.1 }

@@ -1,0 +1,9 @@
+-- `NetworkModel::stored` meets its contract.
+use borrow.Author.Rules.{rules}
+use Rattle.state.specs.NetworkModel.{stored_number}
+use mathlib.Core.Path.{◌∙◌}
+use Rattle.state.proofs.network_model.NetworkModel.stored.Goals as goal
+
+pub returns : goal.returns
+unfolding stored_number
+returns c = c.refusal.ensures.result_value ∙ simp c.ok.ensures

@@ -1,0 +1,9 @@
+-- `NetworkModel::stored_with` meets its contract.
+use borrow.Author.Rules.{rules}
+use mathlib.Core.Path.{◌∙◌}
+use Rattle.state.specs.NetworkModel.{headroom_number}
+use Rattle.state.proofs.network_model.NetworkModel.stored_with.Goals as goal
+
+pub returns : goal.returns
+unfolding headroom_number
+returns c = c.refusal.ensures.result_value ∙ simp (c.ok.ensures, c.ok-2.ensures)

@@ -1,0 +1,6 @@
+-- `minrtt_ok` meets its contract: test by test.
+use borrow.Author.Rules.{rules}
+use Rattle.state.proofs.network_model.minrtt_ok.Goals as goal
+
+pub returns : goal.returns
+returns c = simp (c.moment_ok.ensures, c.length_ok.ensures)

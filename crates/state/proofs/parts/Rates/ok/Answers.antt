@@ -1,0 +1,6 @@
+-- `Rates::ok` meets its contract: test by test.
+use borrow.Author.Rules.{rules}
+use Rattle.state.proofs.parts.Rates.ok.Goals as goal
+
+pub returns : goal.returns
+returns c = simp (c.maybe_ok-2.ensures, c.maybe_ok.ensures)

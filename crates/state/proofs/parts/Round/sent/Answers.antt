@@ -1,0 +1,8 @@
+-- `Round::sent` meets its contract.
+use borrow.Author.Rules.{rules}
+use Rattle.state.specs.Parts.{round_sent}
+use Rattle.state.proofs.parts.Round.sent.Goals as goal
+
+pub returns : goal.returns
+unfolding round_sent
+returns c = simp c.smaller.ensures

@@ -1,0 +1,26 @@
+-- `reply_of` meets its contract: row by row. Assumes nothing.
+use Rattle.state.specs.Faults.{named}
+use Rattle.state.specs.Refusals.{up_to_four}
+use Rattle.state.proofs.Rows.{in_turn}
+use Rattle.state.proofs.refusals.reply_of.Goals as goal
+
+pub returns-then-stored : goal.returns-then-stored
+returns-then-stored c = let a = c.args in let rows = in_turn a.stored a.argument a.earlier a.lower a.unsent a.full in record { result_value = rw (rows, c.if-stored.true); result_value_2 = rw (rows, c.if-stored.true) }
+
+pub returns-then-argument : goal.returns-then-argument
+returns-then-argument c = let a = c.args in let rows = in_turn a.stored a.argument a.earlier a.lower a.unsent a.full in record { result_value = rw (rows, c.if-stored.false, c.if-argument.true); result_value_2 = rw (rows, c.if-stored.false, c.if-argument.true) }
+
+pub returns-then-earlier : goal.returns-then-earlier
+returns-then-earlier c = let a = c.args in let rows = in_turn a.stored a.argument a.earlier a.lower a.unsent a.full in record { result_value = rw (rows, c.if-stored.false, c.if-argument.false, c.if-earlier.true); result_value_2 = rw (rows, c.if-stored.false, c.if-argument.false, c.if-earlier.true) }
+
+pub returns-then-lower : goal.returns-then-lower
+returns-then-lower c = let a = c.args in let rows = in_turn a.stored a.argument a.earlier a.lower a.unsent a.full in record { result_value = rw (rows, c.if-stored.false, c.if-argument.false, c.if-earlier.false, c.if-lower.true); result_value_2 = rw (rows, c.if-stored.false, c.if-argument.false, c.if-earlier.false, c.if-lower.true) }
+
+pub returns-then-unsent : goal.returns-then-unsent
+returns-then-unsent c = let a = c.args in let rows = in_turn a.stored a.argument a.earlier a.lower a.unsent a.full in record { result_value = rw (rows, c.if-stored.false, c.if-argument.false, c.if-earlier.false, c.if-lower.false, c.if-unsent.true); result_value_2 = rw (rows, c.if-stored.false, c.if-argument.false, c.if-earlier.false, c.if-lower.false, c.if-unsent.true) }
+
+pub returns-then-full : goal.returns-then-full
+returns-then-full c = let a = c.args in let rows = in_turn a.stored a.argument a.earlier a.lower a.unsent a.full in record { result_value = rw (rows, c.if-stored.false, c.if-argument.false, c.if-earlier.false, c.if-lower.false, c.if-unsent.false, c.if-full.true); result_value_2 = rw (rows, c.if-stored.false, c.if-argument.false, c.if-earlier.false, c.if-lower.false, c.if-unsent.false, c.if-full.true) }
+
+pub returns : goal.returns
+returns c = let a = c.args in let rows = in_turn a.stored a.argument a.earlier a.lower a.unsent a.full in record { result_value = rw (rows, c.if-stored.false, c.if-argument.false, c.if-earlier.false, c.if-lower.false, c.if-unsent.false, c.if-full.false); result_value_2 = rw (rows, c.if-stored.false, c.if-argument.false, c.if-earlier.false, c.if-lower.false, c.if-unsent.false, c.if-full.false) }

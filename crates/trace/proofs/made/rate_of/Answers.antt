@@ -1,0 +1,9 @@
+-- `rate_of` meets its contract: by the two cases.
+use borrow.Author.Rules.{rules}
+use Rattle.trace.proofs.made.rate_of.Goals as goal
+
+pub returns-in-Unset : goal.returns-in-Unset
+returns-in-Unset c = rw c.in-Unset.is
+
+pub returns-in-Set : goal.returns-in-Set
+returns-in-Set c = rw c.in-Set.is

@@ -1,0 +1,14 @@
+-- `keep` meets its contract: byte by byte, from the front.
+use Rattle.trace.proofs.Moves.{move_front, move_back, kept_length, kept_is, moved}
+use native.Mathlib.Omega.{arith}
+use borrow.Author.Rules.{rules}
+use lib.ListN.{length, drop, take, length-set, length-drop}
+use mathlib.Core.Path.{◌≡◌, refl, ◌∙◌, sym}
+use Prim.Native.Nat.{◌≤◌, ◌-◌, min}
+use Rattle.trace.proofs.stream.keep.Given as goal
+
+abbrev pub invariant-loop-i : goal.invariant-loop-i
+invariant-loop-i l = (l.end ≡ min (min l.at (length l.initial.buf) - l.buf) 4097) × (l.i ≤ l.end) × (length l.initial.i ≡ length l.initial.buf) × (take l.i l.initial.i ≡ take l.i (drop l.buf l.initial.buf)) × (drop l.i l.initial.i ≡ drop l.i l.initial.buf)
+
+abbrev pub decreases-loop-i : goal.decreases-loop-i
+decreases-loop-i l = l.end - l.i

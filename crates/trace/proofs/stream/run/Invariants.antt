@@ -1,0 +1,14 @@
+-- `run` meets its contract: what is left to answer gives the same as all (proofs/Streams.antt).
+use Rattle.trace.proofs.Streams.{Done, done_none, run_past, run_small, run_full, run_over, end_lt, done_next}
+use native.Mathlib.Omega.{arith}
+use borrow.Author.Rules.{rules}
+use lib.ListN.{length}
+use mathlib.Core.Path.{◌≡◌}
+use Prim.Native.Nat.{◌-◌, ◌+◌}
+use Rattle.trace.proofs.stream.run.Given as goal
+
+abbrev pub invariant-loop-written : goal.invariant-loop-written
+invariant-loop-written l = (Done l.out l.s l.from l.initial.out l.initial.written l.written l.room l.last) × (l.at + 148 ≡ length l.initial.out)
+
+abbrev pub decreases-loop-written : goal.decreases-loop-written
+decreases-loop-written l = length l.s - l.room

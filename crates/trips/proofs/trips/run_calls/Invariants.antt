@@ -1,0 +1,21 @@
+-- `run_calls` meets its contract: the invariant: the answers to the calls that are left, stored, make the answer, and those calls leave the estimator that is to be left. Assumes nothing.
+use Prim.Native.Nat.{◌-◌, ◌*◌, ◌/◌, ◌^◌, ◌≤◌, ◌<◌}
+use mathlib.Core.Path.{◌≡◌, refl, sym, ap, ◌∙◌}
+use native.Mathlib.Nat.{sub-zero, sub_self}
+use native.Mathlib.Omega.{arith}
+use lib.ListN.{length}
+use lib.Seq.{sets, length-sets}
+use Rattle.words.specs.Words.{all_bytes}
+use Rattle.trips.specs.Trips.{answer_at, answers_to, left_by}
+use Rattle.trips.proofs.Run.{left_later, write_answer}
+use Rattle.trips.proofs.trips.run_calls.Given as goal
+
+abbrev pub invariant-loop-i : goal.invariant-loop-i
+invariant-loop-i l = (l.i ≤ l.answers)
+    × (32 * l.answers < 2 ^ 64)
+    × (length l.s ≡ length l.initial.answers)
+    × (sets l.s (40 * l.i) (all_bytes (answers_to l.initial.i l.calls (32 * l.i) (l.answers - l.i))) ≡ sets l.initial.answers 0 (all_bytes (answers_to l.count l.calls 0 l.answers)))
+    × (left_by l.initial.i l.calls (32 * l.i) (l.answers - l.i) ≡ left_by l.count l.calls 0 l.answers)
+
+abbrev pub decreases-loop-i : goal.decreases-loop-i
+decreases-loop-i l = l.answers - l.i

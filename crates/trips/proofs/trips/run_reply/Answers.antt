@@ -1,0 +1,10 @@
+-- `run_reply` meets its contract: what the tests ensure, put into the rows. Assumes nothing.
+use mathlib.Core.Path.{◌∙◌}
+use borrow.Author.Rules.{rules}
+use Rattle.state.proofs.FirstFault.{asked, or_short_lem}
+use Rattle.trips.specs.Trips.{rtt_row, rtt_faults}
+use Rattle.trips.proofs.trips.run_reply.Goals as goal
+
+pub returns : goal.returns
+unfolding rtt_row rtt_faults
+returns c = let it = or_short_lem c.refusal-reply.result c.or_short.result _ _ _ (asked c.refusal-reply.result _ _ _ _ c.refusal-reply.ensures (rw c.encodes_none.ensures) (c.first_of.ensures ∙ rw (c.unless.ensures, c.unless-2.ensures))) c.or_short.ensures in record { result_value = it.0; result_value_2 = it.1 }

@@ -1,0 +1,19 @@
+-- `words::get_words` meets its contract. The invariant: the words that are left, stored, make the answer. Assumes nothing.
+use borrow.Author.Rules.{rules}
+use Prim.Native.Nat.{◌+◌, ◌-◌, ◌*◌, ◌≤◌}
+use mathlib.Core.Path.{◌≡◌, refl, ◌∙◌}
+use native.Mathlib.Nat.{add-zero, sub-zero, sub_self}
+use native.Mathlib.Omega.{arith}
+use lib.ListN.{length, length-set}
+use lib.Seq.{sets}
+use Rattle.words.specs.Words.{words_at}
+use Rattle.words.proofs.Stores.{sets_whole}
+use Rattle.words.proofs.Laws.{length_words_at}
+use Rattle.words.proofs.Turns.{fill_word}
+use Rattle.words.proofs.get_words.Given as goal
+
+abbrev pub invariant-loop-i : goal.invariant-loop-i
+invariant-loop-i l = (l.i ≤ length l.initial.out) × (length l.initial.i ≡ length l.initial.out) × (sets l.initial.i l.i (words_at l.s (l.at + 8 * l.i) (length l.initial.out - l.i)) ≡ sets l.initial.out 0 (words_at l.s l.at (length l.initial.out)))
+
+abbrev pub decreases-loop-i : goal.decreases-loop-i
+decreases-loop-i l = length l.initial.out - l.i

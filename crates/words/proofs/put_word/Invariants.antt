@@ -1,0 +1,17 @@
+-- `words::put_word` meets its contract. The invariant: the bytes that are left, stored, make the word. Assumes nothing.
+use borrow.Author.Rules.{rules}
+use Prim.Native.Nat.{◌+◌, ◌-◌, ◌≤◌}
+use mathlib.Core.Path.{◌≡◌, refl}
+use native.Mathlib.Nat.{add-zero}
+use native.Mathlib.Omega.{arith}
+use lib.ListN.{length, length-set}
+use lib.Seq.{sets}
+use Rattle.words.specs.Words.{low_bytes, bytes}
+use Rattle.words.proofs.Turns.{write_byte}
+use Rattle.words.proofs.put_word.Given as goal
+
+abbrev pub invariant-loop-n : goal.invariant-loop-n
+invariant-loop-n l = (l.n ≤ 8) × (length l.rest ≡ length l.initial.out) × (sets l.rest (l.out + l.n) (low_bytes (8 - l.n) l.initial.n) ≡ sets l.initial.out l.out (bytes l.at))
+
+abbrev pub decreases-loop-n : goal.decreases-loop-n
+decreases-loop-n l = 8 - l.n

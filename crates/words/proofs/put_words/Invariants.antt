@@ -1,0 +1,17 @@
+-- `words::put_words` meets its contract. The invariant: the bytes of the words that are left, stored, make the answer. Assumes nothing.
+use borrow.Author.Rules.{rules}
+use Prim.Native.Nat.{◌+◌, ◌-◌, ◌*◌, ◌≤◌}
+use mathlib.Core.Path.{◌≡◌, refl, ap, ◌∙◌}
+use native.Mathlib.Nat.{add-zero}
+use native.Mathlib.Omega.{arith}
+use lib.ListN.{length, drop}
+use lib.Seq.{sets, length-sets, drop-length}
+use Rattle.words.specs.Words.{bytes, all_bytes}
+use Rattle.words.proofs.Turns.{write_word}
+use Rattle.words.proofs.put_words.Given as goal
+
+abbrev pub invariant-loop-i : goal.invariant-loop-i
+invariant-loop-i l = (l.i ≤ length l.at) × (length l.initial.i ≡ length l.initial.out) × (sets l.initial.i (l.out + 8 * l.i) (all_bytes (drop l.i l.at)) ≡ sets l.initial.out l.out (all_bytes l.at))
+
+abbrev pub decreases-loop-i : goal.decreases-loop-i
+decreases-loop-i l = length l.at - l.i
