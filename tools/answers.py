@@ -186,12 +186,18 @@ def declarations(text):
         if found and line.startswith("--"):
             above.append(line)
             continue
+        if cur is None and line.startswith("--") and any(l.startswith("use ") for l in head):
+            above.append(line)
+            continue
         if cur is None and (line.startswith(("--", "use ")) or not line.strip()) and not found:
             head.append(line)
             continue
         m = re.match(r"(?:pub |abbrev |unfoldable )*(" + IDENT + r") :(?=\s|$)", line)
         if m and not line.startswith(" "):
             cur, above = {"name": m.group(1), "lines": [line], "above": above}, []
+            found.append(cur)
+        elif re.match(r"(pub )?(module|record|data|mutual|ruleset)\b", line):
+            cur, above = {"name": "", "lines": [line], "above": above}, []
             found.append(cur)
         elif cur is None:
             head.append(line)

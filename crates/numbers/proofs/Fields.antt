@@ -50,8 +50,8 @@ pub plain_float : (f : Format) (b : ℕ) → b ≤ ones f * hid f → T (not (is
 plain_float f b h =
     rw (← nan_bits_is f b) (plain_bits f b (rw (mod-eq_of_lt (below_top f h)) h))
 
-pub nan_bits : (f : Format) (b : ℕ) → ones f * hid f < b % top f → of_bits f b ≡ nan
-nan_bits f b h = nan_is (of_bits f b) (sym (nan_bits_is f b) ∙ nan_bits_above f b ∙ lt-ltb (ones f * hid f) (b % top f) h)
+pub nan_bits_lem : (f : Format) (b : ℕ) → ones f * hid f < b % top f → of_bits f b ≡ nan
+nan_bits_lem f b h = nan_is (of_bits f b) (sym (nan_bits_is f b) ∙ nan_bits_above f b ∙ lt-ltb (ones f * hid f) (b % top f) h)
 
 -- ---- a NaN, and what has the sign: as an unsigned integer it is 0
 abbrev pub nothing : Float → Bool
@@ -92,7 +92,7 @@ nothing_negative f b h = rw (le-leb (top f) b h) (nothing_fields f (b % top f / 
 pub nothing_above : (f : Format) (b : ℕ) → ones f * hid f < b → T (nothing (of_bits f b))
 nothing_above f b h = elim (le_or_lt (top f) b) [
   | inl t ↦ nothing_negative f b t
-  | inr t ↦ rw (nan_bits f b (rw (mod-eq_of_lt t) h)) tt
+  | inr t ↦ rw (nan_bits_lem f b (rw (mod-eq_of_lt t) h)) tt
 ]
 
 -- ---- how the code tests the range of a pattern: from lo up to hi, and from there to end

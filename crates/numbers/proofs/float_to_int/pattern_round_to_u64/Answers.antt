@@ -1,5 +1,4 @@
 -- `numbers::pattern_round_to_u64` meets its contract: each range of patterns is a law of `proofs/Away.antt`. Assumes nothing.
--- from 1/2 up to 2^64: the exponent's field, and no sign
 use Rattle.std.proofs.Common.{◌≡◌, ℕ, ◌/◌, ◌<◌, ◌≤◌, true, ◌&&◌, ltb, leb, sym, refl, inl, inr, arith, rules}
 use lib.Ieee.{binary64, top}
 use lib.Ieee.Bits.{of_bits-fits}
@@ -7,6 +6,7 @@ use Rattle.numbers.proofs.Fields.{in_range, beyond, outside, nothing_above, belo
 use Rattle.numbers.proofs.Away.{away_nothing, away_small, away_large, half_lt, away_right, away_left}
 use Rattle.numbers.proofs.float_to_int.pattern_round_to_u64.Goals as goal
 
+-- from 1/2 up to 2^64: the exponent's field, and no sign
 exponent : (b : ℕ) → (leb 0x3fe0_0000_0000_0000 b && ltb b 0x43f0_0000_0000_0000) ≡ true
     → (1022 ≤ b / 0x10_0000_0000_0000) × (b / 0x10_0000_0000_0000 ≤ 1086) × (b < top binary64)
 exponent b h = let t = in_range 0x3fe0_0000_0000_0000 0x43f0_0000_0000_0000 b h in omega (arith, t.0, t.1)

@@ -1,10 +1,10 @@
 -- `numbers::pattern_to_u64` meets its contract: each range of patterns is a law of `proofs/Fields.antt`. Assumes nothing.
--- from 1 up to 2^64: the exponent's field, and no sign
 use Rattle.std.proofs.Common.{◌≡◌, ℕ, ◌/◌, ◌<◌, ◌≤◌, true, ◌&&◌, ltb, leb, sym, refl, inl, inr, arith, rules}
 use lib.Ieee.{binary32, top}
 use Rattle.numbers.proofs.Fields.{in_range, beyond, outside, cut_nothing, nothing_above, below_top, plain_float, digits_lt, cut_small, cut_large, cut_once}
 use Rattle.numbers.proofs.float_to_int.pattern_to_u64.Goals as goal
 
+-- from 1 up to 2^64: the exponent's field, and no sign
 exponent : (b : ℕ) → (leb 0x3f80_0000 b && ltb b 0x5f80_0000) ≡ true → (127 ≤ b / 0x80_0000) × (b / 0x80_0000 ≤ 190) × (b < top binary32)
 exponent b h = let t = in_range 0x3f80_0000 0x5f80_0000 b h in omega (arith, t.0, t.1)
 

@@ -1,11 +1,20 @@
 -- `numbers::to_f32` meets its contract: what the float holds is cast as it is; one of at most 48 digits by its halves; otherwise the laws of `proofs/Spare.antt`. Assumes nothing.
--- the place of the last digit that is kept, in units of 2^24, as the code makes it: a number of more than 48 digits has more than 24 beyond 24
 use Rattle.std.proofs.Common.{◌≡◌, ℕ, ◌+◌, ◌-◌, ◌*◌, ◌/◌, ◌%◌, ◌^◌, ◌≤◌, refl, mul-div_cancel, arith, pow_pos, pow_mono, pow-add, rules}
 use lib.Ieee.{binary32}
 use Rattle.numbers.specs.Inner.{Spare}
 use Rattle.numbers.proofs.Closest.{one_shifted}
 use Rattle.numbers.proofs.Spare.{whole_in_float, two_to_24, spare_more, kept_in_float, of_spare}
 use Rattle.numbers.proofs.int_to_float.to_f32.Goals as goal
+
+-- the place of the last digit that is kept, in units of 2^24, as the code makes it: a number of more than 48 digits has more than 24 beyond 24
+module _ {n k : ℕ} (s : Spare 24 n k) (h : 2 ^ 48 ≤ n) where
+  split : k - 24 + 24 ≡ k
+  split = omega (arith, spare_more 24 24 s h)
+
+  place : 1 * 2 ^ k % 2 ^ 64 / 2 ^ 24 ≡ 2 ^ (k - 24)
+  place =
+      let e : 2 ^ k ≡ 2 ^ (k - 24) * 2 ^ 24 = rw (← pow-add, split) in
+      rw (one_shifted k (omega (arith, s.few)), e) (mul-div_cancel (2 ^ (k - 24)) (pow_pos 24))
 
 pub int_to_float-result : goal.int_to_float-result
 int_to_float-result c = whole_in_float binary32 c.args.n c.if-n-le16777216.true
