@@ -281,8 +281,10 @@ def turn(crate, folder, key, data, where):
             locals_.append("\n".join([*d["above"], src.rstrip()]))
     out = []
     said = set()
-    # what the walk's last line answers in place
+    # what the walk's last line answers in place, with what it unfolds there
+    opened = []
     if spec:
+        opened = [l for l in spec.split("\n") if l.strip().startswith("unfolding ")]
         m = re.search(r"tie\.spec\s*(.*)\)\s*$", spec.strip(), re.S)
         if m:
             args = split_top(m.group(1))
@@ -292,8 +294,9 @@ def turn(crate, folder, key, data, where):
                 for k, a in enumerate(args):
                     if a.startswith("(λ") and k not in by_goal:
                         mm = re.match(r"\(λ c(?: κs)?\.\s*(.*)\)$", a, re.S)
-                        if mm and not re.match(r"search rules$", mm.group(1).strip()):
-                            by_goal[k] = ("_", "x : y\nx c = " + mm.group(1), [])
+                        searched = mm and mm.group(1).strip() == "search rules"
+                        if mm and not (searched and (not opened or "requires" in needs[k][1])):
+                            by_goal[k] = ("_", "x : y\n" + "".join(o + "\n" for o in opened) + "x c = " + mm.group(1), [])
             elif any(a.startswith("(λ") and not re.match(r"\(λ c(?: κs)?\.\s*search rules\)", a) for a in args):
                 fn.failed.append(f"{len(args)} answers in place, {len(needs)} goals")
     for k in sorted(by_goal):
