@@ -1,5 +1,4 @@
 -- `finish_tested` meets its contract: by its one test.
--- n is the row, d whether it is 0, t whether the round ended
 use borrow.Author.Rules.{rules}
 use Prim.Native.Nat.{ℕ}
 use mathlib.Core.Bool.{Bool, true, false, cond, ◌&&◌, true≢false}
@@ -11,6 +10,21 @@ use Rattle.state.specs.NetworkModel.{with_round}
 use Rattle.state.proofs.Rows.{and_left, and_right}
 use Rattle.events.specs.Event.{finish_next}
 use Rattle.events.proofs.event.finish_tested.Goals as goal
+
+-- n is the row, d whether it is 0, t whether the round ended
+module _ (n : ℕ) (d t : Bool) (next old : NetworkModel) (is : d ≡ eqb n 0) where
+  cleared : (d && t) ≡ true → next ≡ settled n (cond t next old) old
+  unfolding settled
+  cleared h = simp (sym is ∙ and_left d t h, and_right d t h)
+
+  kept : (d && t) ≡ false → old ≡ settled n (cond t next old) old
+  unfolding settled
+  kept h = rw (← is) (go d t h)
+    where
+      go : (d t : Bool) → (d && t) ≡ false → old ≡ cond d (cond t next old) old
+      go true true h = absurd (true≢false h)
+      go true false h = refl
+      go false t h = refl
 
 pub finish_row-row-requires : goal.finish_row-row-requires
 finish_row-row-requires c = c.requires

@@ -1,5 +1,4 @@
 -- `is_queueing` meets its contract.
--- below neither is not below the larger
 use borrow.Author.Rules.{rules}
 use mathlib.Core.Path.{◌≡◌, refl, sym, ap, ap₂, ◌∙◌, subst}
 use mathlib.Core.Bool.{Bool, true, false, not, ◌&&◌, ◌||◌}
@@ -12,6 +11,7 @@ use Rattle.state.proofs.Laws.{below_larger}
 use Rattle.judge.specs.Judge.{queue_target, is_queueing}
 use Rattle.judge.proofs.judge.is_queueing.Goals as goal
 
+-- below neither is not below the larger
 neither : (x y : Bool) → (not x && not y) ≡ not (x || y)
 neither true y = refl
 neither false y = refl

@@ -5,4 +5,5 @@ use Rattle.state.specs.Bounds.{within}
 use Rattle.state.proofs.bounds.gain_ok.Goals as goal
 
 pub returns : goal.returns
+unfolding within of_bits
 returns c = refl

@@ -4,4 +4,5 @@ use Rattle.filters.specs.MaxBandwidthFilter.{max_update}
 use Rattle.filters.proofs.max_bandwidth_filter.MaxBandwidthFilter.update.Goals as goal
 
 pub returns : goal.returns
+unfolding max_update
 returns c = rw c.max.ensures

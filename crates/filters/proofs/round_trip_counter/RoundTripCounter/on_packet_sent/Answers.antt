@@ -4,4 +4,5 @@ use Rattle.filters.specs.RoundTripCounter.{rounds_sent}
 use Rattle.filters.proofs.round_trip_counter.RoundTripCounter.on_packet_sent.Goals as goal
 
 pub returns : goal.returns
+unfolding rounds_sent
 returns c = refl

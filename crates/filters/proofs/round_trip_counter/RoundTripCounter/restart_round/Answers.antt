@@ -4,4 +4,5 @@ use Rattle.filters.specs.RoundTripCounter.{rounds_restart}
 use Rattle.filters.proofs.round_trip_counter.RoundTripCounter.restart_round.Goals as goal
 
 pub returns : goal.returns
+unfolding rounds_restart
 returns c = refl

@@ -4,4 +4,5 @@ use Rattle.filters.specs.WindowedFilter.{is_replaced}
 use Rattle.filters.proofs.windowed_filter.Estimates.is_replaced.Goals as goal
 
 pub returns : goal.returns
+unfolding is_replaced
 returns c = rw c.is_older.ensures

@@ -4,4 +4,5 @@ use Rattle.filters.specs.WindowedFilter.{lingers}
 use Rattle.filters.proofs.windowed_filter.Sample.lingers.Goals as goal
 
 pub returns : goal.returns
+unfolding lingers
 returns c = rw c.is_older.ensures
