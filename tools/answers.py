@@ -165,6 +165,9 @@ class Function:
 
     def body(self, place, text):
         text = re.sub(r"(?<![\w'.-])c(?:\.(?:" + IDENT[:-1] + r"+))+", lambda m: self.path(place, m.group(0)), text)
+        # the test of an `if !x` says x's value itself
+        text = re.sub(r"\((?:not-true|not-false) \S+ (c\.[^\s()]+)\)", r"\1", text)
+        text = re.sub(r"(?<![\w'-])(?:not-true|not-false) \S+ (c\.[^\s()]+)", r"\1", text)
         # a promise of several clauses that a `let` names
         for m in list(re.finditer(r"let ([a-z]\w*) = (c\.[^\s();,]+\.ensures) in", text)):
             fields = self.clause_of(m.group(2))
@@ -238,6 +241,13 @@ def fields_body(name, body, fields, unfold):
     if parts:
         return lets + "record { " + "; ".join(f"{f} = {p}" for f, p in zip(fields, parts)) + " }"
     if re.match(r"(search|omega|grind|rw|simp|cc|absurd)\b", rest):
+        # what is left after the rewriting, as a pair
+        args = split_top(rest)
+        parts = flatten(args[-1], len(fields)) if len(args) > 2 else None
+        if parts:
+            at = rest.rindex(args[-1]) if args[-1] in rest else None
+            if at is not None:
+                return lets + rest[:at] + "record { " + "; ".join(f"{f} = {p}" for f, p in zip(fields, parts)) + " }"
         return lets + rest
     ways, way = [], "it"
     for k in range(len(fields)):
@@ -344,12 +354,8 @@ def turn(crate, folder, key, data, where):
             unfold = [l for l in src.split("\n") if l.strip().startswith("unfolding ")]
             params = m.group(2).split()
             body = m.group(3).strip()
-            slots = []
-            for v, c in zip(vars_, changed[which[0]]):
-                if c:
-                    slots += [f"l.initial.{v}", f"l.{v}"]
-                else:
-                    slots += [f"l.{v}"]
+            pairs = list(zip(vars_, changed[which[0]]))
+            slots = [f"l.initial.{v}" if c else f"l.{v}" for v, c in pairs] + [f"l.{v}" for v, c in pairs if c]
             if len(slots) != len(params):
                 fn.failed.append(f"{new}: {params} for {slots}")
             for p, s in zip(params, slots):

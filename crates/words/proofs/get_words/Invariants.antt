@@ -13,7 +13,7 @@ use Rattle.words.proofs.Turns.{fill_word}
 use Rattle.words.proofs.get_words.Given as goal
 
 abbrev pub invariant-loop-i : goal.invariant-loop-i
-invariant-loop-i l = (l.i ≤ length l.initial.out) × (length l.initial.i ≡ length l.initial.out) × (sets l.initial.i l.i (words_at l.s (l.at + 8 * l.i) (length l.initial.out - l.i)) ≡ sets l.initial.out 0 (words_at l.s l.at (length l.initial.out)))
+invariant-loop-i l = (l.i ≤ length l.initial.out) × (length l.out ≡ length l.initial.out) × (sets l.out l.i (words_at l.s (l.at + 8 * l.i) (length l.initial.out - l.i)) ≡ sets l.initial.out 0 (words_at l.s l.at (length l.initial.out)))
 
 abbrev pub decreases-loop-i : goal.decreases-loop-i
 decreases-loop-i l = length l.initial.out - l.i

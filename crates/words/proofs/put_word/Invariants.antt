@@ -11,7 +11,7 @@ use Rattle.words.proofs.Turns.{write_byte}
 use Rattle.words.proofs.put_word.Given as goal
 
 abbrev pub invariant-loop-n : goal.invariant-loop-n
-invariant-loop-n l = (l.n ≤ 8) × (length l.rest ≡ length l.initial.out) × (sets l.rest (l.out + l.n) (low_bytes (8 - l.n) l.initial.n) ≡ sets l.initial.out l.out (bytes l.at))
+invariant-loop-n l = (l.n ≤ 8) × (length l.out ≡ length l.initial.out) × (sets l.out (l.at + l.n) (low_bytes (8 - l.n) l.rest) ≡ sets l.initial.out l.at (bytes l.x))
 
 abbrev pub decreases-loop-n : goal.decreases-loop-n
 decreases-loop-n l = 8 - l.n

@@ -11,7 +11,7 @@ use Rattle.words.proofs.Turns.{write_word}
 use Rattle.words.proofs.put_words.Given as goal
 
 abbrev pub invariant-loop-i : goal.invariant-loop-i
-invariant-loop-i l = (l.i ≤ length l.at) × (length l.initial.i ≡ length l.initial.out) × (sets l.initial.i (l.out + 8 * l.i) (all_bytes (drop l.i l.at)) ≡ sets l.initial.out l.out (all_bytes l.at))
+invariant-loop-i l = (l.i ≤ length l.words) × (length l.out ≡ length l.initial.out) × (sets l.out (l.at + 8 * l.i) (all_bytes (drop l.i l.words)) ≡ sets l.initial.out l.at (all_bytes l.words))
 
 abbrev pub decreases-loop-i : goal.decreases-loop-i
-decreases-loop-i l = length l.at - l.i
+decreases-loop-i l = length l.words - l.i

@@ -28,7 +28,7 @@ pub returns-then-not-acked_fits : goal.returns-then-not-acked_fits
 returns-then-not-acked_fits c = let args = c.args in
     let long = c.requires in
     let more : 3 < get_or args.n.now 18 0 = omega (arith, c.if-count-le3.false) in
-    ap greatest (sym (acked_outside args.n.now args.lists.now long more (sym c.acked_fits.ensures ∙ not-true _ c.if-not-acked_fits.true)))
+    ap greatest (sym (acked_outside args.n.now args.lists.now long more (sym c.acked_fits.ensures ∙ c.if-not-acked_fits.true)))
 
 pub overflow_add-end : goal.overflow_add-end
 overflow_add-end c = omega (arith, inside c)
@@ -43,7 +43,7 @@ pub returns : goal.returns
 returns c = let args = c.args in
     let long = c.requires in
     let more : 3 < get_or args.n.now 18 0 = omega (arith, c.if-count-le3.false) in
-    let fits = sym c.acked_fits.ensures ∙ not-false _ c.if-not-acked_fits.false in
+    let fits = sym c.acked_fits.ensures ∙ c.if-not-acked_fits.false in
     let start = get_or args.n.now 19 0 in
     let count = get_or args.n.now 18 0 in
     let part : start + count - start ≡ count = omega arith in

@@ -13,32 +13,32 @@ use Rattle.calls.proofs.ask.read.Goals as goal
 
 pub returns-in-23 : goal.returns-in-23
 unfolding read_of
-returns-in-23 c = rw c.in-23.is (ap number c.bandwidth.ensures.reply ∙ c.bandwidth_estimate.ensures.reply, read_as (λ (b : Bandwidth). b.0) _ _ zero_bandwidth _ _ c.bandwidth.ensures.value c.bandwidth_estimate.ensures.bandwidth refl)
+returns-in-23 c = rw c.in-23.is record { reply = ap number c.bandwidth.ensures.reply ∙ c.bandwidth_estimate.ensures.reply; value = read_as (λ (b : Bandwidth). b.0) _ _ zero_bandwidth _ _ c.bandwidth.ensures.value c.bandwidth_estimate.ensures.bandwidth refl }
 
 pub returns-in-24 : goal.returns-in-24
 unfolding read_of
-returns-in-24 c = rw c.in-24.is (ap number c.length.ensures.reply ∙ c.min_rtt.ensures.reply, read_as (λ (d : Duration). d.0) _ _ zero_length _ _ c.length.ensures.value c.min_rtt.ensures.length refl)
+returns-in-24 c = rw c.in-24.is record { reply = ap number c.length.ensures.reply ∙ c.min_rtt.ensures.reply; value = read_as (λ (d : Duration). d.0) _ _ zero_length _ _ c.length.ensures.value c.min_rtt.ensures.length refl }
 
 pub returns-in-25 : goal.returns-in-25
 unfolding read_of
-returns-in-25 c = rw c.in-25.is (ap number c.moment.ensures.reply ∙ c.min_rtt_timestamp.ensures.reply, read_as (λ (m : Moment). m.0) _ _ zero_moment _ _ c.moment.ensures.value c.min_rtt_timestamp.ensures.moment refl)
+returns-in-25 c = rw c.in-25.is record { reply = ap number c.moment.ensures.reply ∙ c.min_rtt_timestamp.ensures.reply; value = read_as (λ (m : Moment). m.0) _ _ zero_moment _ _ c.moment.ensures.value c.min_rtt_timestamp.ensures.moment refl }
 
 pub returns-in-26 : goal.returns-in-26
 unfolding read_of
-returns-in-26 c = rw c.in-26.is (ap number c.bandwidth-in-26.ensures.reply ∙ c.max_bandwidth.ensures.reply, read_as (λ (b : Bandwidth). b.0) _ _ zero_bandwidth _ _ c.bandwidth-in-26.ensures.value c.max_bandwidth.ensures.bandwidth refl)
+returns-in-26 c = rw c.in-26.is record { reply = ap number c.bandwidth-in-26.ensures.reply ∙ c.max_bandwidth.ensures.reply; value = read_as (λ (b : Bandwidth). b.0) _ _ zero_bandwidth _ _ c.bandwidth-in-26.ensures.value c.max_bandwidth.ensures.bandwidth refl }
 
 pub returns-in-27 : goal.returns-in-27
 unfolding read_of
-returns-in-27 c = rw c.in-27.is (c.max_bytes_delivered_in_round.ensures.reply, c.max_bytes_delivered_in_round.ensures.value)
+returns-in-27 c = rw c.in-27.is record { reply = c.max_bytes_delivered_in_round.ensures.reply; value = c.max_bytes_delivered_in_round.ensures.value }
 
 pub returns-in-28 : goal.returns-in-28
 unfolding read_of
-returns-in-28 c = rw c.in-28.is (c.total_bytes_acked.ensures.reply, c.total_bytes_acked.ensures.value)
+returns-in-28 c = rw c.in-28.is record { reply = c.total_bytes_acked.ensures.reply; value = c.total_bytes_acked.ensures.value }
 
 pub returns-in-29 : goal.returns-in-29
 unfolding read_of
-returns-in-29 c = rw c.in-29.is (c.total_bytes_lost.ensures.reply, c.total_bytes_lost.ensures.value)
+returns-in-29 c = rw c.in-29.is record { reply = c.total_bytes_lost.ensures.reply; value = c.total_bytes_lost.ensures.value }
 
 pub returns-in_default : goal.returns-in_default
 unfolding read_of
-returns-in_default c = let r = c.in_default.rest in rw (ne_eqb _ 23 r.0.0.0.0.0.0.1, ne_eqb _ 24 r.0.0.0.0.0.1, ne_eqb _ 25 r.0.0.0.0.1, ne_eqb _ 26 r.0.0.0.1, ne_eqb _ 27 r.0.0.1, ne_eqb _ 28 r.0.1, ne_eqb _ 29 r.1) (c.refused.ensures.reply, c.refused.ensures.value ∙ settled_same _ _)
+returns-in_default c = let r = c.in_default.rest in rw (ne_eqb _ 23 r.0.0.0.0.0.0.1, ne_eqb _ 24 r.0.0.0.0.0.1, ne_eqb _ 25 r.0.0.0.0.1, ne_eqb _ 26 r.0.0.0.1, ne_eqb _ 27 r.0.0.1, ne_eqb _ 28 r.0.1, ne_eqb _ 29 r.1) record { reply = c.refused.ensures.reply; value = c.refused.ensures.value ∙ settled_same _ _ }

@@ -9,7 +9,7 @@ use Rattle.filters.proofs.Greatest.{turn, over}
 use Rattle.filters.proofs.round_trip_counter.most_of_few.Given as goal
 
 abbrev pub invariant-loop-i : goal.invariant-loop-i
-invariant-loop-i l = (l.i ≤ length l.numbers) × (most_of l.initial.i (drop l.i l.numbers) ≡ most_of l.first l.numbers)
+invariant-loop-i l = (l.i ≤ length l.numbers) × (most_of l.most (drop l.i l.numbers) ≡ most_of l.first l.numbers)
 
 abbrev pub decreases-loop-i : goal.decreases-loop-i
 decreases-loop-i l = length l.numbers - l.i

@@ -16,12 +16,12 @@ use Rattle.guovssalu.proofs.ModelRun.{Carried, by_send, by_start, by_end, by_oth
 use Rattle.guovssalu.proofs.model_run.run_calls.Given as goal
 
 abbrev pub invariant-loop-i : goal.invariant-loop-i
-invariant-loop-i l = (l.i ≤ l.answers)
-    × (392 * l.answers < 2 ^ 64)
-    × (length l.y ≡ length l.initial.answers)
-    × (sets l.y (144 * l.i) (all_bytes (answers_to l.initial.fine l.fine l.calls l.lists (392 * l.i) (l.answers - l.i))) ≡ sets l.initial.answers 0 (all_bytes (answers_to l.count l.initial.m l.calls l.lists 0 l.answers)))
-    × (left_by l.initial.fine l.fine l.calls l.lists (392 * l.i) (l.answers - l.i) ≡ left_by l.count l.initial.m l.calls l.lists 0 l.answers)
-    × (l.initial.i ≡ model_ok l.initial.fine)
+invariant-loop-i l = (l.i ≤ l.count)
+    × (392 * l.count < 2 ^ 64)
+    × (length l.answers ≡ length l.initial.answers)
+    × (sets l.answers (144 * l.i) (all_bytes (answers_to l.m l.y l.calls l.lists (392 * l.i) (l.count - l.i))) ≡ sets l.initial.answers 0 (all_bytes (answers_to l.initial.m l.initial.y l.calls l.lists 0 l.count)))
+    × (left_by l.m l.y l.calls l.lists (392 * l.i) (l.count - l.i) ≡ left_by l.initial.m l.initial.y l.calls l.lists 0 l.count)
+    × (l.fine ≡ model_ok l.m)
 
 abbrev pub decreases-loop-i : goal.decreases-loop-i
-decreases-loop-i l = l.answers - l.i
+decreases-loop-i l = l.count - l.i

@@ -9,7 +9,7 @@ use native.Mathlib.Omega.{arith}
 use Rattle.mending.proofs.sift.sift.Given as goal
 
 abbrev pub invariant-loop-kept : goal.invariant-loop-kept
-invariant-loop-kept l = (Done l.initial.list l.s l.from l.initial.out l.initial.kept l.out l.kept l.initial.listed l.listed l.room l.places) × (l.initial.at ≡ length l.initial.out) × (l.at ≡ length l.out) × (l.room ≤ l.initial.at) × (l.places ≤ l.at)
+invariant-loop-kept l = (Done l.initial.cur l.s l.from l.initial.out l.out l.initial.list l.list l.cur l.at l.kept l.listed) × (l.room ≡ length l.initial.out) × (l.places ≡ length l.initial.list) × (l.kept ≤ l.room) × (l.listed ≤ l.places)
 
 abbrev pub decreases-loop-kept : goal.decreases-loop-kept
-decreases-loop-kept l = length l.s - l.listed
+decreases-loop-kept l = length l.s - l.at

@@ -25,7 +25,7 @@ pub returns-then-not-is_done : goal.returns-then-not-is_done
 returns-then-not-is_done c = let loop = c.loop-i in
     let src = c.args.src.now in
     let number = rw c.pair_at-pair.ensures at c.update-updated.ensures.reply in
-    let refused = sym (ap (λ (n : ℕ). eqb n 0) number) ∙ sym c.is_done.ensures ∙ not-true _ c.if-not-is_done.true in
+    let refused = sym (ap (λ (n : ℕ). eqb n 0) number) ∙ sym c.is_done.ensures ∙ c.if-not-is_done.true in
     refused_now src loop.i (length src / 16) c.loop-i-test.true loop.filter refused loop.invariant.1
 
 pub overflow_add-i : goal.overflow_add-i
@@ -42,7 +42,7 @@ loop-i-preserved c = let loop = c.loop-i in
     let update = c.update-updated.ensures in
     let number = rw pair at update.reply in
     let next = rw pair at update.filter in
-    let done = sym (ap (λ (n : ℕ). eqb n 0) number) ∙ sym c.is_done.ensures ∙ not-false _ c.if-not-is_done.false in
+    let done = sym (ap (λ (n : ℕ). eqb n 0) number) ∙ sym c.is_done.ensures ∙ c.if-not-is_done.false in
     (omega arith, rw next (refused_later src loop.i (length src / 16) c.loop-i-test.true loop.filter done loop.invariant.1))
 
 pub returns : goal.returns

@@ -13,7 +13,7 @@ use Rattle.pairs.proofs.Run.{refused_now, refused_later}
 use Rattle.pairs.proofs.pairs.meets_refusal.Given as goal
 
 abbrev pub invariant-loop-i : goal.invariant-loop-i
-invariant-loop-i l = (l.i ≤ l.count) × (refuses l.initial.i l.src (16 * l.i) (l.count - l.i) ≡ refuses (windowed_new l.window) l.src 0 l.count)
+invariant-loop-i l = (l.i ≤ l.count) × (refuses l.filter l.src (16 * l.i) (l.count - l.i) ≡ refuses (windowed_new l.window) l.src 0 l.count)
 
 abbrev pub decreases-loop-i : goal.decreases-loop-i
 decreases-loop-i l = l.count - l.i

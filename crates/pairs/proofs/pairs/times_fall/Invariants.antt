@@ -9,7 +9,7 @@ use Rattle.pairs.proofs.Run.{falls_now, falls_later}
 use Rattle.pairs.proofs.pairs.times_fall.Given as goal
 
 abbrev pub invariant-loop-i : goal.invariant-loop-i
-invariant-loop-i l = (l.i ≤ l.count) × (times_fall l.initial.i l.src (16 * l.i) (l.count - l.i) ≡ times_fall 0 l.src 0 l.count)
+invariant-loop-i l = (l.i ≤ l.count) × (times_fall l.last l.src (16 * l.i) (l.count - l.i) ≡ times_fall 0 l.src 0 l.count)
 
 abbrev pub decreases-loop-i : goal.decreases-loop-i
 decreases-loop-i l = l.count - l.i

@@ -15,10 +15,10 @@ use Rattle.pairs.proofs.Run.{filter, stepped_words_lem, taken_later, written}
 use Rattle.pairs.proofs.pairs.write_run.Given as goal
 
 abbrev pub invariant-loop-i : goal.invariant-loop-i
-invariant-loop-i l = (l.i ≤ l.out)
-    × (length l.held ≡ length l.initial.out)
-    × (refuses (filter l.window l.initial.i) l.src (16 * l.i) (l.out - l.i) ≡ false)
-    × (sets l.held (32 * l.i) (all_bytes (run_words (filter l.window l.initial.i) l.src (16 * l.i) (l.out - l.i))) ≡ sets l.initial.out 0 (all_bytes (run_words (windowed_new l.window) l.src 0 l.out)))
+invariant-loop-i l = (l.i ≤ l.count)
+    × (length l.out ≡ length l.initial.out)
+    × (refuses (filter l.window l.held) l.src (16 * l.i) (l.count - l.i) ≡ false)
+    × (sets l.out (32 * l.i) (all_bytes (run_words (filter l.window l.held) l.src (16 * l.i) (l.count - l.i))) ≡ sets l.initial.out 0 (all_bytes (run_words (windowed_new l.window) l.src 0 l.count)))
 
 abbrev pub decreases-loop-i : goal.decreases-loop-i
-decreases-loop-i l = l.out - l.i
+decreases-loop-i l = l.count - l.i

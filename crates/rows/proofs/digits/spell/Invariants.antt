@@ -10,7 +10,7 @@ use Prim.Native.Nat.{◌≤◌, ◌-◌}
 use Rattle.rows.proofs.digits.spell.Given as goal
 
 abbrev pub invariant-loop-i : goal.invariant-loop-i
-invariant-loop-i l = (l.initial.rest ≤ l.at) × (length l.i ≡ length l.initial.out) × (sets l.i l.out (digits_of l.initial.rest l.rest) ≡ sets l.initial.out l.out (digits_of l.at l.k))
+invariant-loop-i l = (l.i ≤ l.k) × (length l.out ≡ length l.initial.out) × (sets l.out l.at (digits_of l.i l.rest) ≡ sets l.initial.out l.at (digits_of l.k l.n))
 
 abbrev pub decreases-loop-i : goal.decreases-loop-i
-decreases-loop-i l = l.initial.rest
+decreases-loop-i l = l.i

@@ -9,7 +9,7 @@ use native.Mathlib.Omega.{arith}
 use Rattle.rows.proofs.entry.put_text.Given as goal
 
 abbrev pub invariant-loop-i : goal.invariant-loop-i
-invariant-loop-i l = (l.i ≤ length l.at) × (length l.initial.i ≡ length l.initial.out) × (sets l.initial.i (l.out + l.i) (drop l.i l.at) ≡ sets l.initial.out l.out l.at)
+invariant-loop-i l = (l.i ≤ length l.text) × (length l.out ≡ length l.initial.out) × (sets l.out (l.at + l.i) (drop l.i l.text) ≡ sets l.initial.out l.at l.text)
 
 abbrev pub decreases-loop-i : goal.decreases-loop-i
-decreases-loop-i l = length l.at - l.i
+decreases-loop-i l = length l.text - l.i

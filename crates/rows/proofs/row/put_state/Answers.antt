@@ -9,7 +9,7 @@ use Rattle.rows.proofs.row.put_state.Goals as goal
 
 pub returns-then-not-shown : goal.returns-then-not-shown
 unfolding state_text
-returns-then-not-shown c = rw (not-true c.args.shown c.if-not-shown.true) (put_put _ _ (put_put _ _ c.put_byte-a.ensures c.put_byte-b.ensures) c.put_byte.ensures)
+returns-then-not-shown c = rw c.if-not-shown.true (put_put _ _ (put_put _ _ c.put_byte-a.ensures c.put_byte-b.ensures) c.put_byte.ensures)
 
 pub put_byte-b-requires-2 : goal.put_byte-b-requires-2
 put_byte-b-requires-2 c = omega (arith, decimal_few c.args.s.round, decimal_few c.args.s.maxbw, given_few c.args.s.lo, given_few c.args.s.hi)
@@ -31,4 +31,4 @@ put_given-requires c = omega (arith, decimal_few c.args.s.round, decimal_few c.a
 
 pub returns : goal.returns
 unfolding state_text
-returns c = rw (not-false c.args.shown c.if-not-shown.false) (put_put _ _ (put_put _ _ (put_put _ _ (put_put _ _ (put_put _ _ (put_put _ _ c.put_decimal-a.ensures c.put_byte-b-2.ensures) c.put_decimal-c.ensures) c.put_byte-d.ensures) c.put_given-e.ensures) c.put_byte-f.ensures) c.put_given.ensures)
+returns c = rw c.if-not-shown.false (put_put _ _ (put_put _ _ (put_put _ _ (put_put _ _ (put_put _ _ (put_put _ _ c.put_decimal-a.ensures c.put_byte-b-2.ensures) c.put_decimal-c.ensures) c.put_byte-d.ensures) c.put_given-e.ensures) c.put_byte-f.ensures) c.put_given.ensures)

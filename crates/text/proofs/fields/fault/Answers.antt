@@ -25,7 +25,7 @@ pub overflow_add-result : goal.overflow_add-result
 overflow_add-result c = omega arith
 
 pub returns-then-not-accept : goal.returns-then-not-accept
-returns-then-not-accept c = fault_here c.args.rules.now c.args.tags.now c.args.values.now c.loop-k.k c.loop-k.invariant.4 (omega arith) (omega arith) (omega arith) (sym c.accept.ensures ∙ not-true _ c.if-not-accept.true)
+returns-then-not-accept c = fault_here c.args.rules.now c.args.tags.now c.args.values.now c.loop-k.k c.loop-k.invariant.4 (omega arith) (omega arith) (omega arith) (sym c.accept.ensures ∙ c.if-not-accept.true)
 
 pub overflow_add-k : goal.overflow_add-k
 overflow_add-k c = omega arith
@@ -34,7 +34,7 @@ pub loop-k-smaller : goal.loop-k-smaller
 loop-k-smaller c = omega arith
 
 pub loop-k-preserved : goal.loop-k-preserved
-loop-k-preserved c = (omega arith, omega arith, omega arith, omega arith, fault_next c.args.rules.now c.args.tags.now c.args.values.now c.loop-k.k c.loop-k.invariant.4 (omega arith) (omega arith) (omega arith) (sym c.accept.ensures ∙ not-false _ c.if-not-accept.false))
+loop-k-preserved c = (omega arith, omega arith, omega arith, omega arith, fault_next c.args.rules.now c.args.tags.now c.args.values.now c.loop-k.k c.loop-k.invariant.4 (omega arith) (omega arith) (omega arith) (sym c.accept.ensures ∙ c.if-not-accept.false))
 
 pub returns : goal.returns
 returns c = fault_none c.args.rules.now c.args.tags.now c.args.values.now c.loop-k.k c.loop-k.invariant.4 (omega arith)

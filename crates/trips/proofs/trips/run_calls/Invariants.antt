@@ -11,11 +11,11 @@ use Rattle.trips.proofs.Run.{left_later, write_answer}
 use Rattle.trips.proofs.trips.run_calls.Given as goal
 
 abbrev pub invariant-loop-i : goal.invariant-loop-i
-invariant-loop-i l = (l.i ≤ l.answers)
-    × (32 * l.answers < 2 ^ 64)
-    × (length l.s ≡ length l.initial.answers)
-    × (sets l.s (40 * l.i) (all_bytes (answers_to l.initial.i l.calls (32 * l.i) (l.answers - l.i))) ≡ sets l.initial.answers 0 (all_bytes (answers_to l.count l.calls 0 l.answers)))
-    × (left_by l.initial.i l.calls (32 * l.i) (l.answers - l.i) ≡ left_by l.count l.calls 0 l.answers)
+invariant-loop-i l = (l.i ≤ l.count)
+    × (32 * l.count < 2 ^ 64)
+    × (length l.answers ≡ length l.initial.answers)
+    × (sets l.answers (40 * l.i) (all_bytes (answers_to l.s l.calls (32 * l.i) (l.count - l.i))) ≡ sets l.initial.answers 0 (all_bytes (answers_to l.initial.s l.calls 0 l.count)))
+    × (left_by l.s l.calls (32 * l.i) (l.count - l.i) ≡ left_by l.initial.s l.calls 0 l.count)
 
 abbrev pub decreases-loop-i : goal.decreases-loop-i
-decreases-loop-i l = l.answers - l.i
+decreases-loop-i l = l.count - l.i

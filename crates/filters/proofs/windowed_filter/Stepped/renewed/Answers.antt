@@ -7,14 +7,14 @@ use Rattle.filters.proofs.windowed_filter.Stepped.renewed.Goals as goal
 
 pub returns-then-lingers : goal.returns-then-lingers
 unfolding renewed renewed_reason
-returns-then-lingers c = rw (← c.lingers.ensures, c.if-lingers.true) (refl, refl)
+returns-then-lingers c = rw (← c.lingers.ensures, c.if-lingers.true) record { estimates = refl; reason = refl }
 
 pub returns-then-lingers-2 : goal.returns-then-lingers-2
 unfolding renewed renewed_reason
 returns-then-lingers-2 c = rw (← c.lingers.ensures, c.if-lingers.false, ← c.lingers-else-lingers.ensures, c.if-lingers-2.true)
-    (refl, refl)
+    record { estimates = refl; reason = refl }
 
 pub returns-else-lingers-2 : goal.returns-else-lingers-2
 unfolding renewed renewed_reason
 returns-else-lingers-2 c = rw (← c.lingers.ensures, c.if-lingers.false, ← c.lingers-else-lingers.ensures, c.if-lingers-2.false)
-    (refl, refl)
+    record { estimates = refl; reason = refl }

@@ -7,7 +7,7 @@ use Rattle.filters.proofs.windowed_filter.WindowedFilter.update.Goals as goal
 
 pub returns-then-is_after : goal.returns-then-is_after
 unfolding windowed_number windowed_update windowed_reason
-returns-then-is_after c = rw (← c.is_after.ensures, c.if-is_after.true) (refl, (refl, refl))
+returns-then-is_after c = rw (← c.is_after.ensures, c.if-is_after.true) record { reply = refl; filter = refl; reason = refl }
 
 pub returns : goal.returns
 unfolding windowed_number windowed_update windowed_reason
@@ -17,4 +17,4 @@ returns c = rw (
       c.updated-stepped.ensures.estimates,
       c.updated-stepped.ensures.reason,
     )
-    (refl, (refl, refl))
+    record { reply = refl; filter = refl; reason = refl }

@@ -5,7 +5,7 @@ use borrow.Author.Rules.{rules}
 use Rattle.trace.proofs.replay.Replay.event.Goals as goal
 
 pub returns-then-not-begun : goal.returns-then-not-begun
-returns-then-not-begun c = event_early _ _ _ (not-true _ c.if-not-begun.true) c.answer.ensures
+returns-then-not-begun c = event_early _ _ _ c.if-not-begun.true c.answer.ensures
 
 pub returns : goal.returns
-returns c = let p = c.occur-occurred.ensures in event_is _ _ c.occur-occurred.result.reply _ _ _ (not-false _ c.if-not-begun.false) p.reply p.model p.ended p.fault c.answer-2.ensures
+returns c = let p = c.occur-occurred.ensures in event_is _ _ c.occur-occurred.result.reply _ _ _ c.if-not-begun.false p.reply p.model p.ended p.fault c.answer-2.ensures
