@@ -92,7 +92,7 @@ abbrev pub AllWords : List ℕ → Type 0
 AllWords words = (i : ℕ) → get_or words i 0 < 2 ^ 64
 
 pub words_of_lem : (words rest : List ℕ) → AllWords words → words_at (all_bytes words ++ rest) 0 (length words) ≡ words
-unfolding words_at all_bytes
+unfolding words_at all_bytes low_bytes
 words_of_lem [] rest h = refl
 words_of_lem (x ∷ words) rest h =
     rw append_assoc

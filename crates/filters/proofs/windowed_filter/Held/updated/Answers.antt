@@ -11,10 +11,10 @@ returns-then-is_replaced c = rw (c.in-Set.is, ← c.is_replaced.ensures, c.if-is
 
 pub returns-else-is_replaced : goal.returns-else-is_replaced
 returns-else-is_replaced c = rw (
-      c.in-Set.is,
-      ← c.is_replaced.ensures,
-      c.if-is_replaced.false,
-      ← c.raised.ensures.estimates,
-      ← c.raised.ensures.reason,
-    )
+  c.in-Set.is,
+  ← c.is_replaced.ensures,
+  c.if-is_replaced.false,
+  ← c.raised.ensures.estimates,
+  ← c.raised.ensures.reason,
+)
     c.aged.ensures

@@ -12,9 +12,9 @@ returns-then-is_after c = rw (← c.is_after.ensures, c.if-is_after.true) record
 pub returns : goal.returns
 unfolding windowed_number windowed_update windowed_reason
 returns c = rw (
-      ← c.is_after.ensures,
-      c.if-is_after.false,
-      c.updated-stepped.ensures.estimates,
-      c.updated-stepped.ensures.reason,
-    )
+  ← c.is_after.ensures,
+  c.if-is_after.false,
+  c.updated-stepped.ensures.estimates,
+  c.updated-stepped.ensures.reason,
+)
     record { reply = refl; filter = refl; reason = refl }
