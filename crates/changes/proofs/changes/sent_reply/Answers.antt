@@ -12,4 +12,4 @@ sent_rows-rows-requires c = c.requires
 
 pub returns : goal.returns
 unfolding sent_number
-returns c = let it = asked c.refusal.result _ _ _ _ c.refusal.ensures (ap (λ (r : Rows). first_of r) c.sent_rows-rows.ensures) c.sent_fault.ensures in record { result_value = it.0; result_value_2 = it.1 }
+returns c = let it = asked c.refusal.result _ _ _ _ (c.refusal.ensures.result_value, c.refusal.ensures.result_value_2) (ap (λ (r : Rows). first_of r) c.sent_rows-rows.ensures) c.sent_fault.ensures in record { result_value = it.0; result_value_2 = it.1 }

@@ -21,14 +21,14 @@ unfolding state_out answers_out model_reply
 returns-then-not-is_done c = let args = c.args in let state = args.state.now in let calls = args.calls.now in let lists = args.lists.now in let reply = c.model_reply-reply.ensures in let test = c.is_done.ensures in let row = c.word.ensures in let stopped = c.if-not-is_done.true in let kept = refused reply test (words_left state calls lists) state row stopped in record { value = kept.0; state_after = kept.1; answers_after = (refused reply test (answers_from state calls lists) args.answers.now row stopped).1 }
 
 pub state_in-words-requires : goal.state_in-words-requires
-state_in-words-requires c = run_whole _ _ _ (done_row c.model_reply-reply.ensures c.is_done.ensures c.if-not-is_done.false)
+state_in-words-requires c = run_whole _ _ _ (done_row (c.model_reply-reply.ensures.result_value, c.model_reply-reply.ensures.result_value_2) c.is_done.ensures c.if-not-is_done.false)
 
 pub run_calls-left-requires : goal.run_calls-left-requires
-run_calls-left-requires c = run_room _ _ _ (done_row c.model_reply-reply.ensures c.is_done.ensures c.if-not-is_done.false)
+run_calls-left-requires c = run_room _ _ _ (done_row (c.model_reply-reply.ensures.result_value, c.model_reply-reply.ensures.result_value_2) c.is_done.ensures c.if-not-is_done.false)
 
 pub put_words-requires : goal.put_words-requires
 put_words-requires c = let args = c.args in
-    let done = done_row c.model_reply-reply.ensures c.is_done.ensures c.if-not-is_done.false in
+    let done = done_row (c.model_reply-reply.ensures.result_value, c.model_reply-reply.ensures.result_value_2) c.is_done.ensures c.if-not-is_done.false in
     let left = ap length c.run_calls-left.ensures.value ∙ length_left _ _ args.calls.now args.lists.now 0 _ in
     omega (arith, left, run_whole _ _ _ done)
 

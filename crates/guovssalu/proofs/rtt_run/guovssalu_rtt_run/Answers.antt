@@ -19,15 +19,15 @@ unfolding rtt_state_out rtt_answers_out rtt_reply
 returns-then-not-is_done c = let state = c.args.state.now in let calls = c.args.calls.now in let reply = c.run_reply-reply.ensures in let test = c.is_done.ensures in let kept = refused reply test (rtt_left state calls) state c.word.ensures c.if-not-is_done.true in record { value = kept.0; state_after = kept.1; answers_after = (refused reply test (rtt_answers state calls) c.args.answers.now c.word.ensures c.if-not-is_done.true).1 }
 
 pub stats_in-requires : goal.stats_in-requires
-stats_in-requires c = run_whole _ _ _ (done_row c.run_reply-reply.ensures c.is_done.ensures c.if-not-is_done.false)
+stats_in-requires c = run_whole _ _ _ (done_row (c.run_reply-reply.ensures.result_value, c.run_reply-reply.ensures.result_value_2) c.is_done.ensures c.if-not-is_done.false)
 
 pub run_calls-left-requires : goal.run_calls-left-requires
-run_calls-left-requires c = run_room _ _ _ (done_row c.run_reply-reply.ensures c.is_done.ensures c.if-not-is_done.false)
+run_calls-left-requires c = run_room _ _ _ (done_row (c.run_reply-reply.ensures.result_value, c.run_reply-reply.ensures.result_value_2) c.is_done.ensures c.if-not-is_done.false)
 
 pub put_words-requires : goal.put_words-requires
 unfolding stats_words
 put_words-requires c = let six = ap length c.stats_words.ensures in
-    omega (arith, six, run_whole _ _ _ (done_row c.run_reply-reply.ensures c.is_done.ensures c.if-not-is_done.false))
+    omega (arith, six, run_whole _ _ _ (done_row (c.run_reply-reply.ensures.result_value, c.run_reply-reply.ensures.result_value_2) c.is_done.ensures c.if-not-is_done.false))
 
 pub returns : goal.returns
 unfolding rtt_state_out rtt_answers_out rtt_reply rtt_answers rtt_left

@@ -6,4 +6,4 @@ use Rattle.phases.proofs.phases.slope_reply.Goals as goal
 
 pub returns : goal.returns
 unfolding slope_number
-returns c = let it = asked c.refusal.result _ _ _ _ c.refusal.ensures (simp (c.bytes_ok.ensures, c.ok.ensures)) c.slope_fault.ensures in record { result_value = it.0; result_value_2 = it.1 }
+returns c = let it = asked c.refusal.result _ _ _ _ (c.refusal.ensures.result_value, c.refusal.ensures.result_value_2) (simp (c.bytes_ok.ensures, c.ok.ensures)) c.slope_fault.ensures in record { result_value = it.0; result_value_2 = it.1 }
