@@ -66,7 +66,9 @@ def tuple_parts(text):
         else:
             cur += ch
     parts.append(cur)
-    return [p.strip() for p in parts] if len(parts) > 1 else None
+    # a comma may stand after the last
+    parts = [p.strip() for p in parts if p.strip()]
+    return parts if len(parts) > 1 else None
 
 
 def flatten(text, n):

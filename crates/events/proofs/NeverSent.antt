@@ -1,6 +1,6 @@
 -- Which lists give refusal 10 (specs/NeverSent.antt), and that the greatest number decides. Assumes nothing.
 use Prim.Native.Nat.{ℕ, max, ◌+◌, ◌≤◌}
-use mathlib.Core.Bool.{Bool, true, false, not, ◌||◌, or_true, or_false, or_assoc}
+use mathlib.Core.Bool.{Bool, true, false, not, ◌||◌, or-true, or-false, or_assoc}
 use mathlib.Core.List.{List, [], ◌∷◌}
 use mathlib.Core.Path.{◌≡◌, refl, sym, ap, ◌∙◌}
 use native.Mathlib.Nat.{le_refl}
@@ -28,7 +28,7 @@ larger m n k = go m.begun
 
 from_first : (m : NetworkModel) (n : ℕ) (l : List ℕ) → (never_sent m n || is_unsent m l) ≡ never_sent m (most_of n l)
 unfolding is_unsent
-from_first m n [] = or_false (never_sent m n)
+from_first m n [] = or-false (never_sent m n)
 from_first m n (k ∷ l) = sym (or_assoc (never_sent m n) (never_sent m k) (is_unsent m l)) ∙ ap (λ (t : Bool). t || is_unsent m l) (larger m n k) ∙ from_first m (max n k) l
 
 -- the test of the greatest
@@ -72,7 +72,7 @@ never_sent_lem =
       empty = λ m. refl;
       passes = λ m n l. (λ h. ((passes_one m n (or_left (never_sent m n) (is_unsent m l) h)).0, none_above m (n ∷ l) h), λ h. all_pass m (n ∷ l) h.0 h.1);
       last = λ m b. all_pass m (m.rounds.sent ∷ []) b (le_refl m.rounds.sent, tt);
-      next = λ m. sym (one_unsent m (m.rounds.sent + 1)) ∙ rw (lt-ltb m.rounds.sent (m.rounds.sent + 1) (omega arith)) (or_true (not m.begun));
+      next = λ m. sym (one_unsent m (m.rounds.sent + 1)) ∙ rw (lt-ltb m.rounds.sent (m.rounds.sent + 1) (omega arith)) (or-true (not m.begun));
       before = λ m n l b. simp b;
       decides = λ m l. unsent_same m l (listed (greatest l)) (sym (listed_back (greatest l)));
     }

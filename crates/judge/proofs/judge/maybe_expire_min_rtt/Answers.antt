@@ -7,7 +7,4 @@ use Rattle.state.proofs.Settling.{settled_as}
 use Rattle.judge.proofs.judge.maybe_expire_min_rtt.Goals as goal
 
 pub returns : goal.returns
-returns c = let reply = c.judged_reply.ensures in let decide = c.decide.ensures in let it = (
-      ap number decide.reply ∙ reply.result_value,
-      (decide.model ∙ settled_as _ _ _ _ _ reply.result_value c.expire_next.ensures, (decide.yes ∙ settled_as _ _ _ _ _ reply.result_value (ap₂ ◌&&◌ c.is_given.ensures c.is_due.ensures), ap fault decide.reply ∙ reply.result_value_2)),
-    ) in record { reply = it.0; model = it.1.0; yes = it.1.1.0; fault = it.1.1.1 }
+returns c = let reply = c.judged_reply.ensures in let decide = c.decide.ensures in record { reply = ap number decide.reply ∙ reply.result_value; model = decide.model ∙ settled_as _ _ _ _ _ reply.result_value c.expire_next.ensures; yes = decide.yes ∙ settled_as _ _ _ _ _ reply.result_value (ap₂ ◌&&◌ c.is_given.ensures c.is_due.ensures); fault = ap fault decide.reply ∙ reply.result_value_2 }

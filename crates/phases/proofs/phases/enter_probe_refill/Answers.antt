@@ -7,7 +7,4 @@ use Rattle.state.proofs.Settling.{settled_as}
 use Rattle.phases.proofs.phases.enter_probe_refill.Goals as goal
 
 pub returns : goal.returns
-returns c = let reply = asked c.entry_reply-reply.result _ _ _ _ (c.entry_reply-reply.ensures.result_value, c.entry_reply-reply.ensures.result_value_2) refl c.refill_fault.ensures in let settle = c.settle.ensures in let it = (
-      ap number settle.reply ∙ reply.0,
-      (settle.model ∙ settled_as _ _ _ _ _ reply.0 c.refill_model.ensures, (settle.cycle ∙ settled_as _ _ _ _ _ reply.0 c.refill_cycle.ensures, ap fault settle.reply ∙ reply.1)),
-    ) in record { reply = it.0; model = it.1.0; cycle = it.1.1.0; fault = it.1.1.1 }
+returns c = let reply = asked c.entry_reply-reply.result _ _ _ _ (c.entry_reply-reply.ensures.result_value, c.entry_reply-reply.ensures.result_value_2) refl c.refill_fault.ensures in let settle = c.settle.ensures in record { reply = ap number settle.reply ∙ reply.0; model = settle.model ∙ settled_as _ _ _ _ _ reply.0 c.refill_model.ensures; cycle = settle.cycle ∙ settled_as _ _ _ _ _ reply.0 c.refill_cycle.ensures; fault = ap fault settle.reply ∙ reply.1 }

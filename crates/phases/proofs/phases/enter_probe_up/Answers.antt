@@ -6,7 +6,4 @@ use Rattle.state.proofs.Settling.{settled_as}
 use Rattle.phases.proofs.phases.enter_probe_up.Goals as goal
 
 pub returns : goal.returns
-returns c = let reply = c.up_reply-reply.ensures in let settle = c.settle.ensures in let it = (
-      ap number settle.reply ∙ reply.result_value,
-      (settle.model ∙ settled_as _ _ _ _ _ reply.result_value c.restarted_at.ensures, (settle.cycle ∙ settled_as _ _ _ _ _ reply.result_value c.up_cycle.ensures, ap fault settle.reply ∙ reply.result_value_2)),
-    ) in record { reply = it.0; model = it.1.0; cycle = it.1.1.0; fault = it.1.1.1 }
+returns c = let reply = c.up_reply-reply.ensures in let settle = c.settle.ensures in record { reply = ap number settle.reply ∙ reply.result_value; model = settle.model ∙ settled_as _ _ _ _ _ reply.result_value c.restarted_at.ensures; cycle = settle.cycle ∙ settled_as _ _ _ _ _ reply.result_value c.up_cycle.ensures; fault = ap fault settle.reply ∙ reply.result_value_2 }
