@@ -20,7 +20,7 @@ use Rattle.judge.specs.Judge.{judged_number, growth_full, queue_number}
 use Rattle.state.specs.Cycle.{fresh_number, fresh_cycle}
 use Rattle.phases.specs.Phases.{entry_number, exit_number, slope_number}
 use Rattle.laws.specs.Replies.{Exactly, Answered, EveryAnswer, EveryChange, EveryEvent, EveryPhase, EveryFilter, EveryReply}
-use Rattle.laws.proofs.Outcomes.{settled_both}
+use Rattle.laws.proofs.Contracts.{settled_both}
 
 -- ---- refusal n is given exactly when row n holds and none that is asked before it does
 abbrev Row : ℕ → Bool → Bool → Bool → Bool → Bool → Bool → Type 0

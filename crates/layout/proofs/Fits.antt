@@ -8,7 +8,7 @@ use lib.Dec.{T, leb, eqb}
 use lib.Ieee.{Float, binary32, of_bits, to_bits, is_nan}
 use lib.Ieee.Bits.{to_bits-of_bits, nan_bits_is}
 use borrow.Author.Tests.{eq-eqb, ne_eqb, eqb-true, eqb-false, lt-leb, leb-true, leb-false, lt-ltb, le-ltb}
-use Rattle.numbers.proofs.Fields.{plain_bits, nan_bits}
+use Rattle.numbers.proofs.Fields.{plain_bits, nan_bits_lem}
 use Rattle.state.proofs.Rows.{and_left, and_right}
 use Rattle.units.specs.declared.maybe.MaybeNumber.TheVariants as Number
 use Rattle.units.specs.declared.maybe.MaybeBandwidth.TheVariants.{Unset, Set}
@@ -56,7 +56,7 @@ narrow w h = go (leb (w % 0x8000_0000) 0x7f80_0000) refl
     go true e =
         let plain : T (not (is_nan (of_bits binary32 w))) = rw (← nan_bits_is binary32 w) (plain_bits binary32 w (leb-true _ _ e)) in
         eq-eqb _ w (to_bits-of_bits binary32 w (omega arith) plain)
-    go false e = ap (λ (x : Float). eqb (to_bits binary32 x) w) (nan_bits binary32 w (leb-false _ _ e)) ∙ eqb_swap 0x7fc0_0000 w
+    go false e = ap (λ (x : Float). eqb (to_bits binary32 x) w) (nan_bits_lem binary32 w (leb-false _ _ e)) ∙ eqb_swap 0x7fc0_0000 w
 
 -- a pattern, or more
 float : (w : ℕ) → eqb (float_word (float_of w)) w ≡ float_fits w

@@ -13,7 +13,7 @@ use Rattle.events.proofs.Examples.{unsent_events_lem}
 use Rattle.events.proofs.NeverSent.{never_sent_lem}
 use Rattle.events.proofs.OnlyGreatest as events
 use Rattle.dispatch.proofs.Alike as dispatch
-use Rattle.laws.proofs.Outcomes.{every_call}
+use Rattle.laws.proofs.Contracts.{every_call}
 use Rattle.laws.proofs.Reasons.{reasons}
 use Rattle.laws.proofs.Named.{every_fault}
 use Rattle.laws.proofs.Replies.{every_reply}

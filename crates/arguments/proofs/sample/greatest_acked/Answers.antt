@@ -5,17 +5,17 @@ use mathlib.Core.Path.{◌≡◌, sym, ap, ◌∙◌}
 use native.Mathlib.Omega.{arith}
 use lib.ListN.{length, get_or, take, drop}
 use borrow.Author.Tests.{not-true, not-false}
+use mathlib.Core.Bool.{Bool, true}
+use mathlib.Core.List.{List, ◌++◌}
+use Rattle.arguments.specs.Sample.{acked_fits}
 use Rattle.filters.specs.RoundTripCounter.{greatest}
 use Rattle.arguments.proofs.Acked.{acked_few, acked_outside, acked_listed, place_fits}
 use Rattle.arguments.proofs.sample.greatest_acked.Goals as goal
 
 -- the place lies inside of the lists
-inside :
-    (c : lts.After-start (three.Asked, three.Learnt, fits.Asked, fits.Learnt, many.Asked, many.Learnt) reads.Pre reads.Post) →
-    let args = c.before.before.before.before.before.before.args in get_or args.n.now 19 0 + get_or args.n.now 18 0 ≤ length args.lists.now
-inside c =
-    let args = c.before.before.before.before.before.before.args in
-    place_fits args.n.now args.lists.now c.before.before.before.before.before.before.requires (omega (arith, c.before.before.before.if1.false)) (sym c.before.before.acked-fits.ensures ∙ not-false _ c.before.if2.false)
+inside : (n lists : List ℕ) → length n ≡ 49 → 3 < get_or n 18 0 → (fits : Bool) → fits ≡ acked_fits (n ++ lists) → fits ≡ true →
+    get_or n 19 0 + get_or n 18 0 ≤ length lists
+inside n lists long more fits is h = place_fits n lists long more (sym is ∙ h)
 
 pub returns-then-count-le3 : goal.returns-then-count-le3
 returns-then-count-le3 c = let args = c.args in
@@ -31,13 +31,13 @@ returns-then-not-acked_fits c = let args = c.args in
     ap greatest (sym (acked_outside args.n.now args.lists.now long more (sym c.acked_fits.ensures ∙ c.if-not-acked_fits.true)))
 
 pub overflow_add-end : goal.overflow_add-end
-overflow_add-end c = omega (arith, inside c)
+overflow_add-end c = omega (arith, inside c.args.n.now c.args.lists.now c.requires (omega (arith, c.if-count-le3.false)) c.acked_fits.result c.acked_fits.ensures c.if-not-acked_fits.false)
 
 pub offset_bounds-lists-start : goal.offset_bounds-lists-start
-offset_bounds-lists-start c = omega (arith, inside c)
+offset_bounds-lists-start c = omega (arith, inside c.args.n.now c.args.lists.now c.requires (omega (arith, c.if-count-le3.false)) c.acked_fits.result c.acked_fits.ensures c.if-not-acked_fits.false)
 
 pub slice_bounds-greatest_of-end : goal.slice_bounds-greatest_of-end
-slice_bounds-greatest_of-end c = omega (arith, inside c)
+slice_bounds-greatest_of-end c = omega (arith, inside c.args.n.now c.args.lists.now c.requires (omega (arith, c.if-count-le3.false)) c.acked_fits.result c.acked_fits.ensures c.if-not-acked_fits.false)
 
 pub returns : goal.returns
 returns c = let args = c.args in

@@ -4,4 +4,4 @@ use mathlib.Core.Path.{◌∙◌}
 use Rattle.calls.proofs.enter.enter.Goals as goal
 
 pub returns : goal.returns
-returns c = let one = c.enter_one-entered.ensures in let it = (c.row.ensures ∙ one.reply, one.1) in record { row = it.0; model = it.1.0; cycle = it.1.1 }
+returns c = let one = c.enter_one-entered.ensures in record { row = c.row.ensures ∙ one.reply; model = one.model; cycle = one.cycle }

@@ -39,20 +39,18 @@ pub loop-i-smaller : goal.loop-i-smaller
 loop-i-smaller c = omega arith
 
 pub loop-i-preserved : goal.loop-i-preserved
-loop-i-preserved c = let stored = c in
-    let made = stored.before.before.before.before in
-    let loop = made.before.before.before.loop in
-    let args = made.before.before.before.before.before.before.args in
-    let src = args.src.now in
+loop-i-preserved c =
+    let loop = c.loop-i in
+    let src = c.args.src.now in
     let count = length src / 16 in
-    let more = made.before.before.loop-test.true in
-    let pair = made.before.pair-at.ensures in
-    let update = made.updated.ensures in
-    let words = stored.before.before.words_of_lem.ensures ∙ stepped_words_lem src args.window loop.held (16 * loop.i) made.updated.result _ pair update.0 update.1 in (
+    let more = c.loop-i-test.true in
+    let pair = c.pair_at.ensures in
+    let update = c.updated-stepped.ensures in
+    let words = c.words_of.ensures ∙ stepped_words_lem src c.args.window loop.held (16 * loop.i) c.updated-stepped.result _ pair update.estimates update.reason in (
       omega arith,
       search rules,
-      rw (update.0, pair) (taken_later src loop.i count more args.window loop.held loop.invariant.2),
-      rw (stored.put-words.ensures, words, update.0, pair) (written src loop.i count more args.window loop.held loop.out loop.invariant.2 loop.invariant.3),
+      rw (update.estimates, pair) (taken_later src loop.i count more c.args.window loop.held loop.invariant.2),
+      rw (c.put_words.ensures, words, update.estimates, pair) (written src loop.i count more c.args.window loop.held loop.out loop.invariant.2 loop.invariant.3),
     )
 
 pub shape_of-out : goal.shape_of-out

@@ -3,25 +3,6 @@ use borrow.Author.Rules.{rules}
 use Rattle.places.specs.Places.{record_fits}
 use Rattle.places.proofs.fits.record_fits.Goals as goal
 
-record-fits-spec =
-    tie.close
-    (tie.spec
-    (λ c. search rules)
-    (λ c κs. search rules)
-    (λ c. search rules)
-    (λ c κs. search rules)
-    (λ c. search rules)
-    (λ c. search rules)
-    (λ c κs. search rules)
-    (λ c. search rules)
-    (λ c. search rules)
-    (λ c κs. search rules)
-    (λ c. search rules)
-    (λ c κs. search rules)
-    (λ c. search rules)
-    (λ c κs. search rules)
-    returns)
-
 pub returns : goal.returns
 unfolding record_fits
 returns c = rw (c.flag_fits.ensures, c.flag_fits-2.ensures, c.maybe_fits.ensures, c.maybe_fits-2.ensures, c.flag_fits-3.ensures, c.flag_fits-4.ensures)

@@ -3,13 +3,6 @@ use borrow.Author.Rules.{rules}
 use Rattle.places.specs.Places.{record_in}
 use Rattle.places.proofs.fits.record_in.Goals as goal
 
-record-in-spec =
-    tie.close
-    (tie.spec
-    (λ c κs. search rules)
-    (λ c. search rules)
-    returns)
-
 pub returns : goal.returns
 unfolding record_in
 returns c = rw c.event_from-event.ensures

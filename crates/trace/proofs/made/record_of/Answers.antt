@@ -3,8 +3,6 @@ use Rattle.trace.specs.Made.{record_of}
 use borrow.Author.Rules.{rules}
 use Rattle.trace.proofs.made.record_of.Goals as goal
 
-record-of-spec = tie.close (tie.spec no-state-requires returns)
-
 pub returns : goal.returns
 unfolding record_of
 returns c = rw c.no_state-state.ensures
