@@ -7,13 +7,13 @@ use Rattle.words.specs.Words.{words_at}
 use Rattle.dispatch.specs.declared.outcome.Outcome.{Outcome}
 
 -- the 49 words of the call at an index
-abbrev pub field_own : (src : List ℕ) → ℕ → List ℕ
-field_own src at = words_at src at 49
+abbrev pub own_at : (src : List ℕ) → ℕ → List ℕ
+own_at src at = words_at src at 49
 
 -- and after them the words of the lists that the run was lent, of which a call can name a place: word 49 + i is word i
 -- of the lists
 abbrev pub call_at : (src lists : List ℕ) → ℕ → List ℕ
-call_at src lists at = field_own src at ++ lists
+call_at src lists at = own_at src at ++ lists
 
 -- the word of a call's reply: its row, and where that is 2 the first fault of the call's words, in the model that it
 -- was made on
