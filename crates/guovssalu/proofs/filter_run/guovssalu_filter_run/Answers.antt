@@ -1,5 +1,7 @@
 -- `guovssalu_filter_run` meets its contract: it stops at a refusal, or writes the answer. Assumes nothing.
 use borrow.Author.Rules.{rules}
+use mathlib.Core.Bool.{not}
+use mathlib.Core.Path.{ap}
 use Rattle.filters.specs.WindowedFilter.{windowed_new}
 use Rattle.pairs.specs.Pairs.{pairs, run_words}
 use Rattle.guovssalu.specs.FilterRun.{run_reply, run_out}
@@ -9,11 +11,11 @@ use Rattle.guovssalu.proofs.filter_run.guovssalu_filter_run.Goals as goal
 
 pub returns-then-not-is_done : goal.returns-then-not-is_done
 unfolding run_out run_reply
-returns-then-not-is_done c = let args = c.args in let src = args.src.now in let it = refused (c.run_reply-reply.ensures.result_value, c.run_reply-reply.ensures.result_value_2) c.is_done.ensures (run_words (windowed_new args.window) src 0 (pairs src)) args.out.now c.word.ensures c.if-not-is_done.true in record { value = it.0; out_after = it.1 }
+returns-then-not-is_done c = let args = c.args in let src = args.src.now in let it = refused (c.run_reply-reply.ensures.result_value, c.run_reply-reply.ensures.result_value_2) c.is_done.ensures (run_words (windowed_new args.window) src 0 (pairs src)) args.out.now c.word.ensures (ap not c.if-not-is_done.true) in record { value = it.0; out_after = it.1 }
 
 pub write_run-requires : goal.write_run-requires
-write_run-requires c = run_done _ _ _ (done_row (c.run_reply-reply.ensures.result_value, c.run_reply-reply.ensures.result_value_2) c.is_done.ensures c.if-not-is_done.false)
+write_run-requires c = run_done _ _ _ (done_row (c.run_reply-reply.ensures.result_value, c.run_reply-reply.ensures.result_value_2) c.is_done.ensures (ap not c.if-not-is_done.false))
 
 pub returns : goal.returns
 unfolding run_out run_reply
-returns c = let args = c.args in let src = args.src.now in let it = written (c.run_reply-reply.ensures.result_value, c.run_reply-reply.ensures.result_value_2) c.is_done.ensures (run_words (windowed_new args.window) src 0 (pairs src)) args.out.now c.word-2.ensures c.if-not-is_done.false c.write_run.ensures in record { value = it.0; out_after = it.1 }
+returns c = let args = c.args in let src = args.src.now in let it = written (c.run_reply-reply.ensures.result_value, c.run_reply-reply.ensures.result_value_2) c.is_done.ensures (run_words (windowed_new args.window) src 0 (pairs src)) args.out.now c.word-2.ensures (ap not c.if-not-is_done.false) c.write_run.ensures in record { value = it.0; out_after = it.1 }

@@ -14,6 +14,7 @@ use Rattle.guovssalu.specs.ModelRun.{outcome_at, answers_to, left_by}
 use Rattle.dispatch.specs.OneCall.{call_at, answer_words}
 use Rattle.guovssalu.proofs.ModelRun.{Carried, by_send, by_start, by_end, by_other, left_later, write_answer}
 use Rattle.guovssalu.proofs.model_run.run_calls.Goals as goal
+use Rattle.guovssalu.proofs.model_run.run_calls.Goals.{then-call-eq1, else-call-eq1+then-call-eq3, else-call-eq1+else-call-eq3+then-call-eq4, else-call-eq1+else-call-eq3+else-call-eq4}
 
 pub loop-i-init : goal.loop-i-init
 loop-i-init c = (search rules, omega arith, refl, simp sub-zero, simp sub-zero, c.ok-fine.ensures)
@@ -54,14 +55,12 @@ loop-i-preserved c = let loop = c.loop-i in
     let call = c.get_word-call.ensures in
     let now = c.if-call-eq1 in
     let carried : Carried loop.m loop.y calls lists (392 * loop.i) loop.answers (144 * loop.i) now.answers now.m now.y now.fine =
-    ⊎_elim
-    (λ w. by_send _ _ _ _ _ _ _ _ _ _ _ (sym call ∙ w.0.taken) (w.6 ∙ w.2.ensures.0) w.7 (w.8 ∙ loop.invariant.5) (w.5 ∙ w.2.ensures.1))
-    (⊎_elim
-    (λ w. by_start _ _ _ _ _ _ _ _ _ _ _ (sym call ∙ w.1.taken) (w.7 ∙ w.3.ensures.0) w.8 (w.9 ∙ loop.invariant.5) (w.6 ∙ w.3.ensures.1))
-    (⊎_elim
-    (λ w. by_end _ _ _ _ _ _ _ _ _ _ _ (sym call ∙ w.2.taken) (w.8 ∙ w.4.ensures.0) w.9 (w.10 ∙ loop.invariant.5) (w.7 ∙ w.4.ensures.1))
-    (λ w. by_other _ _ _ _ _ _ _ _ _ _ _ call w.0.left w.1.left w.2.left w.4.ensures.0 w.11 w.12 (w.13 ∙ w.9.ensures) (w.10 ∙ w.4.ensures.1))))
-    now.branch
+    elim now.branch [
+      | then-call-eq1 w ↦ by_send _ _ _ _ _ _ _ _ _ _ _ (sym call ∙ w.if-call-eq1.true) (w.m-is ∙ w.send-m.ensures.value) w.y-is (w.fine-is ∙ loop.invariant.5) (w.answers-is ∙ w.send-m.ensures.answers_after)
+      | else-call-eq1+then-call-eq3 w ↦ by_start _ _ _ _ _ _ _ _ _ _ _ (sym call ∙ w.if-call-eq3.true) (w.m-is ∙ w.event_start-m.ensures.value) w.y-is (w.fine-is ∙ loop.invariant.5) (w.answers-is ∙ w.event_start-m.ensures.answers_after)
+      | else-call-eq1+else-call-eq3+then-call-eq4 w ↦ by_end _ _ _ _ _ _ _ _ _ _ _ (sym call ∙ w.if-call-eq4.true) (w.m-is ∙ w.event_finish-m.ensures.value) w.y-is (w.fine-is ∙ loop.invariant.5) (w.answers-is ∙ w.event_finish-m.ensures.answers_after)
+      | else-call-eq1+else-call-eq3+else-call-eq4 w ↦ by_other _ _ _ _ _ _ _ _ _ _ _ call w.if-call-eq1.false w.if-call-eq3.false w.if-call-eq4.false w.other-outcome.ensures.value w.m-is w.y-is (w.fine-is ∙ w.ok-fine-else-call-eq4.ensures) (w.answers-is ∙ w.other-outcome.ensures.answers_after)
+    ]
     in (
       omega arith,
       loop.invariant.1,
