@@ -192,7 +192,9 @@ def whole(crate):
     for path in files(f"crates/{crate}/src/*.rt"):
         for found in FUNCTION.finditer(read(path)):
             if found.group(1).startswith(OF_ARCHIVE + "_"):
-                yield (os.path.basename(path), found.group(1)), (found.group(2), found.group(0))
+                # in one line, since an exported function's first line is longer
+                promised = " ".join(found.group(2).split()).replace("( ", "(").replace(", )", ")")
+                yield (os.path.basename(path), found.group(1)), (promised, found.group(0))
 
 
 def check_archive():

@@ -31,12 +31,7 @@ pub fn guovssalu_run(state: &mut [u8], calls: &[u8], answers: &mut [u8]) -> u64
 
 // The same with lists of words, from which an event takes more acked numbers than a call has room for, by place and
 // count.
-pub fn guovssalu_run_lists(
-    state: &mut [u8],
-    calls: &[u8],
-    lists: &[u64],
-    answers: &mut [u8],
-) -> u64
+pub fn guovssalu_run_lists(state: &mut [u8], calls: &[u8], lists: &[u64], answers: &mut [u8]) -> u64
     ensures value { result ≡ model_reply state.old calls.now (length answers.old) }
     ensures state_after { state.new ≡ state_out state.old calls.now lists.now answers.old }
     ensures answers_after { answers.new ≡ answers_out state.old calls.now lists.now answers.old }
