@@ -2,12 +2,10 @@
 .PHONY: run test contracts table refusal replay mend qlog diff diff-traces diff-mends patterns changes mutants drift estimate picture pictures lists rust year hostile bench replay-bench mend-bench instructions install clean kit archive
 
 run: kit
-	rt check show
-	@echo
-	@cat target/log/show.stdout
+	@cd crates/show && rt run
 
-# Its last line is the verdict of `rt ci`: every crate proved from nothing, every must-fail edit refused, every program
-# run. It is printed once all else has passed too (tests/gate.sh).
+# Its last line is the verdict of `rt ci`: every crate proved, every must-fail edit refused, every program run. It is
+# printed once all else has passed too (tests/gate.sh).
 test: kit
 	@sh tests/gate.sh
 
@@ -70,13 +68,15 @@ qlog:
 	@[ -n "$$QLOG" ] || { echo "Name a qlog, QLOG=file." >&2; exit 1; }
 	@python3 tests/qlog.py "$$QLOG"
 
-# Each program is made of the crates that it knows (crates.txt).
-REPLAY = target/bin/replay
-MEND = target/bin/mend
+# Each program is made of the crates that it knows (crates.txt). It is left where `rt` builds it.
+REPLAY = crates/replay/out/replay
+MEND = crates/mend/out/mend
+SERVE = crates/serve/out/serve
+known = $(1) $(shell sed -n 's/^$(1): //p' crates.txt)
 .SECONDEXPANSION:
-$(REPLAY) $(MEND): target/bin/%: $$(foreach crate,$$* $$(shell sed -n 's/^$$*: //p' crates.txt),$$(wildcard crates/$$(crate)/src/*.rt))
+$(REPLAY) $(MEND) $(SERVE): $$(foreach crate,$$(call known,$$(notdir $$@)),$$(wildcard crates/$$(crate)/src/*.rt))
 	@$(MAKE) -s kit
-	rt check $*
+	sh tests/build.sh $(notdir $@)
 	@touch $@
 
 # ---- the port beside the original (oracle/README.md)
@@ -115,7 +115,7 @@ patterns: kit
 # Small changes to the original, and to the reading of what it does not say, each of which the comparison with the port
 # must notice.
 changes: kit
-	rt check serve
+	@$(MAKE) -s $(SERVE)
 	PORT="$$(sh tests/program.sh serve)" python3 tests/changes.py
 
 # Makes the kept samples of the original's answers again, and keeps them.
@@ -128,7 +128,7 @@ lists:
 # tests/wrong, then MUTANTS at random places of each. Hours.
 MUTANTS = 300
 mutants: kit
-	rt check
+	rt all check
 	python3 tests/mutants.py --named
 	python3 tests/mutants.py $(SEED) $(MUTANTS)
 	python3 tests/mutants.py --specs $(SEED) $(MUTANTS)
@@ -136,18 +136,18 @@ mutants: kit
 # Random runs of the port beside exact fractions (docs/DRIFT.md).
 RUNS = 4000
 drift: kit
-	rt check serve
+	@$(MAKE) -s $(SERVE)
 	python3 tests/drift.py $(SEED) $(RUNS)
 
 # Random runs of the port's windowed filter beside what is promised of its estimates (docs/ESTIMATE.md).
 UPDATES = 1000000
 estimate: kit
-	rt check serve
+	@$(MAKE) -s $(SERVE)
 	python3 tests/estimate.py $(SEED) $(UPDATES)
 
 # The pages' pictures.
 pictures: kit
-	rt check serve
+	@$(MAKE) -s $(SERVE)
 	python3 tests/drift.py --picture docs/drift.svg
 	python3 tests/rtt_drift.py --picture docs/round_trip.svg
 	python3 tests/estimate.py --picture docs/estimate.svg
@@ -208,11 +208,7 @@ install:
 CARGO = CARGO_TARGET_DIR=$(CURDIR)/target/cargo cargo
 ARCHIVE = target/staticlib/libguovssalu.a
 archive: kit
-	@[ "$$(uname -m)" = x86_64 ] || { \
-		echo "The archive is for x86-64, and this machine is $$(uname -m): nothing that links it can be run here."; \
-		exit 1; \
-	}
-	rt staticlib guovssalu
+	@sh tests/archive.sh
 
 clean:
-	rm -rf target oracle/target rust/target bench/target hostile/target
+	rm -rf crates/*/out target oracle/target rust/target bench/target hostile/target

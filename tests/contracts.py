@@ -7,8 +7,9 @@ Every public function of a library crate has one row, and every row is of such a
 is cited in the function's contract, and a name alone is a definition of that crate's specs/ or of a lower crate's; what the
 contract cites besides, the row names too. Two wrong programs or more, an origin, must-fail edits that are there, in the
 crate's must-fail/ or in tests/wrong. Every edit is named somewhere, and what it replaces stands once in its file. Where a crate has proofs/Determined.antt, each of its
-functions stands in it. The paths that this and the other pages name are there. And the page of theorems counts the lines
-that its reader has to believe as they are. A line for each fault, and then 1."""
+functions stands in it. The crate of the archive exports the library's functions, each with its contract word for word. The
+paths that this and the other pages name are there, but for the page of changes, which names files as they were. And the page
+of theorems counts the lines that its reader has to believe as they are. A line for each fault, and then 1."""
 
 import collections
 import glob
@@ -19,20 +20,24 @@ import sys
 ROOT = os.path.dirname(os.path.dirname(os.path.abspath(__file__)))
 PAGE = "docs/CONTRACTS.md"
 THEOREMS = "crates/theorems/specs/Theorems.antt"
+# Names files as they were.
+HISTORY = "docs/CHANGES.md"
+# What is exported, and whose functions they are.
+ARCHIVE, OF_ARCHIVE = "guovssalu_c", "guovssalu"
 PAGES = ["docs/*.md", "*.md", "NOTICE", "rust/README.md", "oracle/README.md", "hostile/README.md"]
 COLUMNS = ["function", "answers", "definition", "from", "rules out", "must-fail"]
 FOLDERS = ["crates", "docs", "tests", "rust", "oracle", "include", "bench", "hostile", "traces"]
 # Cited by so many contracts that the page says once what they are.
-LEFT_OUT = {"number", "settled", "zeroBandwidth", "zeroLength", "zeroMoment", "zeroGain"}
+LEFT_OUT = {"number", "settled", "zero_bandwidth", "zero_length", "zero_moment", "zero_gain"}
 
-NAME = re.compile(r"[A-Za-z][\w′-]*")
+NAME = re.compile(r"[A-Za-z][\w']*")
 SPAN = re.compile(r"`([^`]*)`")
 CELL = re.compile(r"(?:`[^`]*`|\\\||[^|`])+")
 # Up to the brace of the body.
 FUNCTION = re.compile(r'^ *pub (?:extern "C" |const |unsafe )*fn (\w+)(.*?)(?:\n *\{| \{)\n', re.M | re.S)
-DEFINED = re.compile(r"^(?:abbrev |unfoldable |opaque )?pub (?!mod )(?:record |data )?([A-Za-z][\w′-]*)", re.M)
+DEFINED = re.compile(r"^(?:abbrev |unfoldable |opaque )?pub (?!mod )(?:record |data )?([A-Za-z][\w']*)", re.M)
 DECLARED = re.compile(
-    r"(?:^ *(?:abbrev |unfoldable |opaque )?pub (?!fn |struct |enum |const )|\b(?:fn|struct|enum|const) )([A-Za-z][\w′-]*)", re.M
+    r"(?:^ *(?:abbrev |unfoldable |opaque )?pub (?!fn |struct |enum |const )|\b(?:fn|struct|enum|const) )([A-Za-z][\w']*)", re.M
 )
 faults = []
 
@@ -88,7 +93,7 @@ def tables():
 def check_row(fault, crate, row, function, defined, edits):
     signature, promised = function
     spans = SPAN.findall(row[2])
-    cited = set(NAME.findall(re.sub(r"\.\w+", "", promised))) & defined - set(re.findall(r"(\w+):", signature))
+    cited = set(NAME.findall(re.sub(r"(?<=[\w)])\.\w+", "", promised))) & defined - set(re.findall(r"(\w+):", signature))
     if not (spans if promised else row[2] == "none"):
         fault("no definition" if promised else "it has no contract, and the row does not say: none")
     for span in spans:
@@ -129,7 +134,7 @@ def believed(page):
     while ahead:
         path = ahead.pop()
         reached.add(path)
-        for crate, name in re.findall(r"^(?:pub )?use Rattle·(\w+)(?:·specs)?\.specs\.(\w+)(?=[.\s])", read(path), re.M):
+        for crate, name in re.findall(r"^(?:pub )?use Rattle\.(\w+)\.specs\.(\w+)(?=[.\s])", read(path), re.M):
             used = f"crates/{crate}/specs/{name}.antt"
             if used not in reached and exists(used):
                 ahead.append(used)
@@ -182,6 +187,36 @@ def check_tables(public, lower, specs, edits):
     return rows, used
 
 
+def whole(crate):
+    """The functions of a crate whose names begin with the archive's, whole but for their bodies, by file and name."""
+    for path in files(f"crates/{crate}/src/*.rt"):
+        for found in FUNCTION.finditer(read(path)):
+            if found.group(1).startswith(OF_ARCHIVE + "_"):
+                # in one line, since an exported function's first line is longer
+                promised = " ".join(found.group(2).split()).replace("( ", "(").replace(", )", ")")
+                yield (os.path.basename(path), found.group(1)), (promised, found.group(0))
+
+
+def check_archive():
+    """What the archive exports is each function of the library's that has its name, with the same parameters, the same
+    answer and the same contract, word for word, and its body is the call of that function. Gives how many there are."""
+    library, exported = dict(whole(OF_ARCHIVE)), dict(whole(ARCHIVE))
+    for path, name in sorted(set(library) ^ set(exported)):
+        faults.append(f"{path}: {name} stands in one of crates/{OF_ARCHIVE} and crates/{ARCHIVE}, and not in both")
+    for key in sorted(set(library) & set(exported)):
+        path, name = key
+        promised, text = exported[key]
+        if promised != library[key][0]:
+            faults.append(f"crates/{ARCHIVE}/src/{path}: {name} has another contract than in crates/{OF_ARCHIVE}")
+        above, _, below = read(f"crates/{ARCHIVE}/src/{path}").partition(text)
+        given = ", ".join(re.findall(r"(\w+):(?!:)", promised.split("->")[0]))
+        if not above.endswith("#[unsafe(no_mangle)]\n") or not text.startswith('pub extern "C" fn '):
+            faults.append(f"crates/{ARCHIVE}/src/{path}: {name} is not exported")
+        if below.partition("\n}\n")[0].strip() != f"{path[:-3]}::{name}({given})":
+            faults.append(f"crates/{ARCHIVE}/src/{path}: {name} is not the call of {path[:-3]}::{name}")
+    return len(exported)
+
+
 def check_edit(path):
     """An edit's `old:` texts stand once in the file that it names, each after the changes before it."""
     crate = path.split("/")[2 if path.startswith("tests/") else 1]
@@ -200,10 +235,12 @@ def check_edit(path):
 
 def main():
     lower = dict(line.split(":") for line in read("crates.txt").splitlines() if ":" in line and not line.startswith("#"))
+    lower = {crate.split()[0]: below for crate, below in lower.items()}
     specs = {c: {n for p in files(f"crates/{c}/specs/**/*.antt") for n in DEFINED.findall(read(p))} for c in lower}
     edits = {"/".join(path[: -len(".edit")].split("/")[1::2]) for path in files("crates/*/must-fail/*.edit")}
     edits |= {"/".join(path[: -len(".edit")].split("/")[2:]) for path in files("tests/wrong/*/*.edit")}
     libraries = [path.split("/")[1] for path in files("crates/*/src/lib.rt")]
+    libraries.remove(ARCHIVE)
     listed = [(crate, name, function) for crate in libraries for name, function in functions(crate)]
     public = {(crate, name): function for crate, name, function in listed}
     rows, used = check_tables(public, lower, specs, edits)
@@ -212,21 +249,22 @@ def main():
             faults.append(f"{PAGE}: {rows[crate, name]} rows for {name} of crates/{crate}")
         proof, last = f"crates/{crate}/proofs/Determined.antt", name.split("::")[-1]
         alike = sum(1 for c, other, _ in listed if c == crate and other.split("::")[-1] == last)
-        if exists(proof) and len(re.findall(rf"\.{last}(?![\w-])", read(proof))) < alike:
+        if exists(proof) and len(re.findall(rf"\.{last}(?![\w'])", read(proof))) < alike:
             faults.append(f"{proof}: {name} is missing")
     for path in files("crates/*/must-fail/*.edit") + files("tests/wrong/*/*.edit"):
         check_edit(path)
     for edit in sorted(edits):
         if not re.search(rf"(?<!\w){edit.split('/')[1]}(?!\w)", read(PAGE)):
             faults.append(f"{PAGE}: the must-fail edit {edit} is named nowhere")
-    for path in (path for pattern in PAGES for path in files(pattern)):
+    for path in (path for pattern in PAGES for path in files(pattern) if path != HISTORY):
         check_paths(path, lower)
+    exported = check_archive()
     check_count(THEOREMS, lower)
     print("".join(line + "\n" for line in faults), end="")
     if faults:
         print(f"contracts: faults: {len(faults)}")
         return 1
-    print(f"contracts: {len(public)} public functions, {len(used)} definitions, {len(edits)} must-fail edits: all named")
+    print(f"contracts: {len(public)} public functions, {len(used)} definitions, {len(edits)} must-fail edits: all named; {exported} of them exported")
     return 0
 
 

@@ -8,13 +8,15 @@
 #     tests/diff.sh lists SEED CALLS     so many calls of the archive, which is linked: events with lists of up to 10,000
 #                                        acked numbers, in any order, among other calls
 #     tests/diff.sh rtt-runs SEED CALLS  so many calls of the archive, in runs of the estimator of up to 4,095
-#     tests/diff.sh gate                 245,095 calls in all, of `serve` built without proof
+#     tests/diff.sh gate                 240,000 calls of `serve` as `rt ci` left it: as LLVM built it, and as Rattle's own
+#                                        compiler did
+#     tests/diff.sh tries                5,095 calls of `serve` built without proof and with checks, by `rt try`
 #     tests/diff.sh patterns NUMBER..    every f32, as the bits of to_u64 and as the gain of scale with each number
 #
-# The last line is `N calls, 0 differences`. At a difference it ends with 1; `lists` and `rtt-runs` show the call, the gate
-# nothing of it, and the others the shortest run of calls found. Without the original `gate`, `lists` and `rtt-runs` say so
-# and go on, but not where CI is true. The archive is the one in target/staticlib, as `make archive` left it, or the one
-# that the variable GUOVSSALU_ARCHIVE names by its full path.
+# The last line is `N calls, 0 differences`. At a difference it ends with 1; `lists` and `rtt-runs` show the call, `gate` and
+# `tries` nothing of it, and the others the shortest run of calls found. Without the original those four say so and go on,
+# but not where CI is true. The archive is the one in target/staticlib, as `make archive` left it, or the one that the
+# variable GUOVSSALU_ARCHIVE names by its full path. The first and the last build `serve` where a source is newer.
 set -eu
 cd "$(dirname "$0")/.."
 . tests/oracle.sh
@@ -22,32 +24,49 @@ cd "$(dirname "$0")/.."
 if [ -n "$missing" ]; then
     echo "diff: the port is not compared with the original, since $missing"
     case $1 in
-    gate | lists | rtt-runs) [ "${CI:-}" = true ] || exit 0 ;;
+    gate | tries | lists | rtt-runs) [ "${CI:-}" = true ] || exit 0 ;;
     esac
     exit 1
 fi
 total=0
 
-# Fresh frames from a seed, so many calls, answered by the original alone, are held to what `serve` writes on them:
-# `rt try` builds it without proof, since `rt ci` proves it. What counts are the ways of building it that are
-# named: `rt try` itself ends with 1 where the interpreter stops before so many calls are made.
-tried() {
-    seed=$1 calls=$2
-    shift 2
-    "$oracle" frames-of "$seed" "$calls" "$copy/crates/serve" 2>"$copy/made" || {
-        cat "$copy/made"
+# Fresh frames from a seed, so many calls, answered by the original alone: $made/stdin, and what `serve` has to write on
+# them, $made/stdout.
+frames() {
+    "$oracle" frames-of "$1" "$2" "$made" 2>"$made/log" || {
+        cat "$made/log"
         exit 1
     }
-    (cd "$copy" && rt try serve) >"$copy/tried" 2>&1 || true
+}
+
+# What was written on the frames, held to what has to be.
+alike() {
+    cmp "$made/written" "$made/stdout" || {
+        echo "diff: serve, $1, doesn't answer as the original; \`make diff\` shows the shortest run of calls"
+        exit 1
+    }
+    echo "serve, $1: $2 calls, 0 differences"
+    total=$((total + $2))
+}
+
+# `rt try` builds `serve` without proof, and runs it with checks and on an interpreter, which is slow: it has limits of time
+# and of steps. Those that are named have to come to the end.
+tried() {
+    calls=$2
+    frames "$1" "$calls"
+    shift 2
+    (cd crates/serve && rt try <"$made/stdin") >"$made/written" 2>"$made/said" || {
+        tail -n 20 "$made/said" | cut -c 1-500
+        exit 1
+    }
     for way; do
-        grep -q "^ok: $way ended" "$copy/tried" || {
-            cut -c 1-500 "$copy/tried"
-            echo "diff: serve, by $way, doesn't answer as the original; \`make diff\` shows the shortest run of calls"
+        grep -q "^$way: ended status=0" "$made/said" || {
+            tail -n 20 "$made/said" | cut -c 1-500
+            echo "diff: serve, $way, doesn't come to its end"
             exit 1
         }
-        echo "serve by $way: $calls calls, 0 differences"
     done
-    total=$((total + calls))
+    alike "tried ($*)" "$calls"
 }
 
 # A command of the oracle, which asks `serve` over a pipe.
@@ -81,19 +100,39 @@ if [ "$1" = lists ] || [ "$1" = rtt-runs ]; then
     exit
 fi
 build_oracle
-if [ "$1" = gate ]; then
-    copy=$(mktemp -d)
-    trap 'rm -rf "$copy"' EXIT
-    cp -R crates crates.txt "$copy"
-    native='the native program'
-    tried 1 240000 "$native at -O3"
-    # The other ways are slow, and `rt try` has limits of time and of steps.
-    tried 2 5000 "$native at -O0" "$native with LLVM's assumptions checked"
-    tried 3 95 'the interpreter'
+case $1 in
+tries | gate)
+    made=$(mktemp -d)
+    trap 'rm -rf "$made"' EXIT
+    ;;
+esac
+case $1 in
+tries)
+    tried 2 5000 checked
+    tried 3 95 checked interpreter
     echo "$total calls, 0 differences"
     exit
-fi
-rt check serve
+    ;;
+gate)
+    frames 1 240000
+    serve=$(sh tests/program.sh serve)
+    [ -f "$serve" ] || {
+        echo "diff: there is no $serve; \`rt ci\` proves and builds it"
+        exit 1
+    }
+    "$serve" <"$made/stdin" >"$made/written"
+    alike 'as LLVM builds it' 240000
+    if [ -f "$serve.by-rattle" ]; then
+        "$serve.by-rattle" <"$made/stdin" >"$made/written"
+        alike "as Rattle's own compiler builds it" 240000
+    else
+        echo "diff: $serve.by-rattle is not there: as Rattle's own compiler builds it, it is left out"
+    fi
+    echo "$total calls, 0 differences"
+    exit
+    ;;
+esac
+make -s crates/serve/out/serve
 PORT=$(sh tests/program.sh serve)
 export PORT
 case $1 in

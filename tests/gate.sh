@@ -17,23 +17,23 @@ trap 'exit 143' TERM
 
 sh tests/contracts.sh
 sh tests/kit.sh
-rt fmt --check
 
-# The comparison goes on beside the first proofs, which leave a core free. It builds outside of target/, which `rt ci`
-# removes. What it needs is looked for first.
+# The comparison goes on beside the first proofs, which leave a core free. It builds outside of the repository. What it
+# needs is looked for first.
 . tests/oracle.sh
 if [ -n "$missing" ]; then
     sh tests/lists.sh
-    sh tests/diff.sh gate
+    sh tests/diff.sh tries
 else
     {
         ORACLE_TARGET=$work/oracle
         export ORACLE_TARGET
-        sh tests/lists.sh && sh tests/diff.sh gate
+        sh tests/lists.sh && sh tests/diff.sh tries
     } >"$work/compared" 2>&1 &
     comparison=$!
 fi
 
+# Every crate, every must-fail edit, every program as both compilers build it. It refuses files that are not laid out, too.
 {
     status=0
     rt ci || status=$?
@@ -51,9 +51,16 @@ if [ "$(cat "$work/status")" != 0 ]; then
     tail -n 1 "$work/said"
     exit 1
 fi
+# An edit that can't be applied or read shows nothing, and fails nothing in `rt ci`.
+if ! grep -q '^rt: ok' "$work/said" || grep '^rt: ok' "$work/said" | grep -Eq ', [1-9][0-9]* bad\b'; then
+    grep 'BAD EDIT' "$work/said" || true
+    echo "gate: a must-fail edit is bad, or rt ci does not say ok: $(grep '^rt: ok' "$work/said")"
+    exit 1
+fi
 
-# What was proved, run: briefly beside exact fractions, and beside the promises of the estimates; the replay and
+# What was proved, run: beside the original; briefly beside exact fractions, and beside the promises of the estimates; the replay and
 # the mending beside what their page shows, then beside the original.
+ORACLE_TARGET=$work/oracle sh tests/diff.sh gate
 if command -v python3 >/dev/null 2>&1; then
     python3 tests/drift.py 1 60
     python3 tests/estimate.py 1 20000
@@ -68,7 +75,7 @@ ORACLE_TARGET=$work/oracle sh tests/trace.sh gate
 ORACLE_TARGET=$work/oracle sh tests/mend_diff.sh gate
 
 if [ "$(uname -m)" = x86_64 ]; then
-    rt staticlib guovssalu
+    sh tests/archive.sh
 fi
 sh tests/links.sh
 tail -n 1 "$work/said"

@@ -41,31 +41,31 @@ READERS = [
     ("crates/arguments/src/congestion_event.rt", "event_from", "event", "EVENT_IN_CALL"),
     ("crates/arguments/src/params.rt", "params_from", "params", "PARAMS_IN_CALL"),
     ("crates/arguments/src/sample.rt", "sample_from", "sample", 0),
-    ("crates/layout/specs/NetworkModel.antt", "modelFrom", "state", 0),
-    ("crates/layout/specs/Cycle.antt", "cycleFrom", "state", 0),
-    ("crates/arguments/specs/CongestionEvent.antt", "eventFromWord", "event", 0),
-    ("crates/arguments/specs/Params.antt", "paramsFrom", "params", "PARAMS_IN_CALL"),
-    ("crates/arguments/specs/Sample.antt", "sampleFrom", "sample", 0),
+    ("crates/layout/specs/NetworkModel.antt", "model_from", "state", 0),
+    ("crates/layout/specs/Cycle.antt", "cycle_from", "state", 0),
+    ("crates/arguments/specs/CongestionEvent.antt", "event_from_word", "event", 0),
+    ("crates/arguments/specs/Params.antt", "params_from", "params", "PARAMS_IN_CALL"),
+    ("crates/arguments/specs/Sample.antt", "sample_from", "sample", 0),
     ("crates/trips/src/trips.rt", "stats_in", "rtt_state", 0),
-    ("crates/trips/specs/Trips.antt", "statsFrom", "rtt_state", 0),
+    ("crates/trips/specs/Trips.antt", "stats_from", "rtt_state", 0),
 ]
 # Functions that test the form of all the words of a section that have one.
 FORMS = [
     ("crates/layout/src/form.rt", None, "state", 0),
     ("crates/layout/specs/Form.antt", None, "state", 0),
     ("crates/arguments/src/congestion_event.rt", "event_fits", "event", "EVENT_IN_CALL"),
-    ("crates/arguments/specs/CongestionEvent.antt", "eventFits", "event", 0),
+    ("crates/arguments/specs/CongestionEvent.antt", "event_fits", "event", 0),
     ("crates/arguments/src/sample.rt", "sample_fits", "sample", 0),
-    ("crates/arguments/specs/Sample.antt", "sampleFits", "sample", 0),
+    ("crates/arguments/specs/Sample.antt", "sample_fits", "sample", 0),
 ]
 # Functions that take an event's acked numbers, and what they read of the call, in order: the count, the words that have
 # the numbers themselves, the one of them that has a place in the lists.
 ACKED = [
     ("crates/arguments/src/sample.rt", "acked_fits", ["count", "place"]),
     ("crates/arguments/src/sample.rt", "greatest_acked", ["count", "numbers", "place"]),
-    ("crates/arguments/specs/Sample.antt", "ackedCount", ["count"]),
-    ("crates/arguments/specs/Sample.antt", "listPlace", ["place"]),
-    ("crates/arguments/specs/Sample.antt", "ackedOf", ["numbers"]),
+    ("crates/arguments/specs/Sample.antt", "acked_count", ["count"]),
+    ("crates/arguments/specs/Sample.antt", "list_place", ["place"]),
+    ("crates/arguments/specs/Sample.antt", "acked_of", ["numbers"]),
 ]
 # Where a call's words become its arguments: for most calls in the first file, by a function that has the call's number and
 # chooses it in a file of its own; for a start, and for a send, in a function that knows the call. The arguments are handed
@@ -85,20 +85,20 @@ KNOWING = [
 WORDS = ("STATE_WORDS", "CALL_WORDS", "ANSWER_WORDS", "EVENT_WORDS", "SAMPLES_WORDS", "SLOPE_WORDS")
 PHRASES = [
     (r"\[0?(?:u64)?; (?!0\])(\d+)\]", WORDS),
-    (r"\bcount <= (\d+)|\bleb \(ackedCount l\) (\d+)", ("MOST_ACKED",)),
-    (r"\blistPlace l = (\d+) \+", ("CALL_WORDS",)),
+    (r"\bcount <= (\d+)|\bleb \(acked_count l\) (\d+)", ("MOST_ACKED",)),
+    (r"\blist_place l = (\d+) \+", ("CALL_WORDS",)),
     (r"\bn: &?\[u64; (\d+)\]", ("STATE_WORDS", "CALL_WORDS")),
-    (r"\bstate\.len\(\) != (\d+)|now state\) ≡ (\d+)|eqb \(length (?:s|state|\(r \.state\))\) (\d+)", ("STATE_BYTES",)),
-    (r"wordsAt s 0 (\d+)|\(cycleFrom w\)\) w 0 (\d+)|cycleWords c\) ≡ (\d+)", ("STATE_WORDS",)),
-    (r"\bcalls\.len\(\) [%/] (\d+)|\(r \.calls\) % (\d+)|callsIn src = length src / (\d+)", ("CALL_BYTES",)),
-    (r"\bat = (\d+) \* i\b|\bat \+ (\d+) ≤ length \(now calls\)|src \(at \+ ([2-9]\d\d)\) n|calls \(at \+ (\d+)\)", ("CALL_BYTES",)),
-    (r"wordsAt src at (\d+)", ("CALL_WORDS",)),
-    (r"\bto = (\d+) \* i\b|\bto \+ (\d+) ≤ length \(now answers\)|\b(\d+) \* \(?(?:callsIn|count r|calls\.len)", ("ANSWER_BYTES",)),
-    (r"\(eventWords e\) ≡ (\d+)|wordsFrom l 22 (\d+)", ("EVENT_WORDS",)),
-    (r"eventFromWord l (\d+)|wordsFrom l (\d+) 16", ("EVENT_IN_CALL",)),
-    (r"wordsFrom l (\d+) 11", ("PARAMS_IN_CALL",)),
+    (r"\bstate\.len\(\) != (\d+)|state\.(?:now|old|new) ≡ (\d+)|eqb \(length (?:s|state|r\.state)\) (\d+)", ("STATE_BYTES",)),
+    (r"words_at s 0 (\d+)|\(cycle_from w\)\) w 0 (\d+)|cycle_words c\) ≡ (\d+)", ("STATE_WORDS",)),
+    (r"\bcalls\.len\(\) [%/] (\d+)|r\.calls % (\d+)|calls_in src = length src / (\d+)", ("CALL_BYTES",)),
+    (r"\bat = (\d+) \* i\b|\bat \+ (\d+) ≤ length calls\.now|src \(at \+ ([2-9]\d\d)\) n|calls \(at \+ (\d+)\)", ("CALL_BYTES",)),
+    (r"words_at src at (\d+)", ("CALL_WORDS",)),
+    (r"\bto = (\d+) \* i\b|\bto \+ (\d+) ≤ length answers\.old|\b(\d+) \* \(?(?:calls_in|count r|calls\.len)", ("ANSWER_BYTES",)),
+    (r"\(event_words e\) ≡ (\d+)|words_from l 22 (\d+)", ("EVENT_WORDS",)),
+    (r"event_from_word l (\d+)|words_from l (\d+) 16", ("EVENT_IN_CALL",)),
+    (r"words_from l (\d+) 11", ("PARAMS_IN_CALL",)),
     (r"\bsrc\.len\(\) [%/] (\d+)|\bpairs src = length src / (\d+)", ("PAIR_BYTES",)),
-    (r"room < (\d+) \* \(src|ltb room \((\d+) \* pairs|put_words\(out, (\d+) \* i|\(r \.output\)\) \((\d+) \* pairs", ("SAMPLES_BYTES",)),
+    (r"room < (\d+) \* \(src|ltb room \((\d+) \* pairs|put_words\(out, (\d+) \* i|r\.output\) \((\d+) \* pairs", ("SAMPLES_BYTES",)),
     (r"or_short\(reply, room < (\d+)\)|\(ltb room (\d+)\)", ("SLOPE_BYTES",)),
 ]
 SIZED = [f"crates/{crate}/{folder}/*" for crate in ("words", "layout", "arguments", "places", "pairs", "calls", "dispatch", "guovssalu", "theorems") for folder in ("src", "specs")]
@@ -112,39 +112,39 @@ NOT_COUNTED = ["crates/guovssalu/specs/Examples.antt", "crates/theorems/specs/Ex
 # The source has a reply's place, and is proved to make the definition's number of it.
 NUMBERED = [
     ("replies", "Reply", "number", ["crates/units/specs/Reply.antt"]),
-    ("reasons", "Reason", "reasonNumber", ["crates/filters/src/windowed_filter.rt", "crates/filters/specs/Reason.antt"]),
+    ("reasons", "Reason", "reason_number", ["crates/filters/src/windowed_filter.rt", "crates/filters/specs/Reason.antt"]),
 ]
 
-# The kinds of a refusal 2: the constants of the source, and their names in definitions, `aWindow` for Window, but for
+# The kinds of a refusal 2: the constants of the source, and their names in definitions, `a_window` for Window, but for
 # these. Both files have a list of faults for each call, each fault with its place and its kind, in their order.
 FAULTS = {".rt": "crates/state/src/faults.rt", ".antt": "crates/state/specs/Faults.antt"}
-KINDS = {"ProbeRounds": "probeRounds", "ListLength": "listLength"}
+KINDS = {"ProbeRounds": "probe_rounds", "ListLength": "list_length"}
 # Which list a call of a run has: by its number, of the numbers in its words.
 PLACES = {".rt": "crates/places/src/places.rt", ".antt": "crates/places/specs/Places.antt"}
 # Which words of a record these test, each by its kind; and the words that these take as they stand.
 FITS = [
     ("crates/places/src/fits.rt", "record_fits", "event", "EVENT_IN_CALL"),
     ("crates/places/src/fits.rt", "sample_fits", "sample", 0),
-    ("crates/places/specs/Places.antt", "recordFits", "event", "EVENT_IN_CALL"),
-    ("crates/places/specs/Places.antt", "sampleFitsIn", "sample", 0),
+    ("crates/places/specs/Places.antt", "record_fits", "event", "EVENT_IN_CALL"),
+    ("crates/places/specs/Places.antt", "sample_fits_in", "sample", 0),
 ]
 STANDING = [
     ("crates/places/src/fits.rt", "record_in", "event", "EVENT_IN_CALL", "event_time"),
     ("crates/places/src/fits.rt", "sample_in", "sample", 0, "extra_acked"),
-    ("crates/places/specs/Places.antt", "recordIn", "event", "EVENT_IN_CALL", "event_time"),
-    ("crates/places/specs/Places.antt", "sampleIn", "sample", 0, "extra_acked"),
+    ("crates/places/specs/Places.antt", "record_in", "event", "EVENT_IN_CALL", "event_time"),
+    ("crates/places/specs/Places.antt", "sample_in", "sample", 0, "extra_acked"),
 ]
 # The lists of the exported functions. The two runs have the same one.
 EXPORTED = [
     ("guovssalu_run", "crates/guovssalu/src/model_run.rt", "model_reply"),
-    ("guovssalu_run", "crates/guovssalu/specs/ModelRun.antt", "lengthFaults"),
-    ("guovssalu_run_lists", "crates/guovssalu/specs/ModelRun.antt", "lengthFaults"),
+    ("guovssalu_run", "crates/guovssalu/specs/ModelRun.antt", "length_faults"),
+    ("guovssalu_run_lists", "crates/guovssalu/specs/ModelRun.antt", "length_faults"),
     ("guovssalu_filter_run", "crates/pairs/src/pairs.rt", "run_reply"),
-    ("guovssalu_filter_run", "crates/pairs/specs/Pairs.antt", "pairsFaults"),
+    ("guovssalu_filter_run", "crates/pairs/specs/Pairs.antt", "pairs_faults"),
     ("guovssalu_raise_inflight_high_slope", "crates/guovssalu/src/slope.rt", "slope_reply"),
-    ("guovssalu_raise_inflight_high_slope", "crates/guovssalu/specs/Slope.antt", "windowFaults"),
+    ("guovssalu_raise_inflight_high_slope", "crates/guovssalu/specs/Slope.antt", "window_faults"),
     ("guovssalu_rtt_run", "crates/trips/src/trips.rt", "run_reply"),
-    ("guovssalu_rtt_run", "crates/trips/specs/Trips.antt", "rttFaults"),
+    ("guovssalu_rtt_run", "crates/trips/specs/Trips.antt", "rtt_faults"),
 ]
 # Where a reply is put together, and by which part's step: a fault is a kind and so many times a place, a reply a row and
 # so many times a fault.
@@ -155,30 +155,30 @@ STEPS = [
     ("crates/units/specs/Reply.antt", r"= row \+ (\d+) \* fault\b", "kind"),
 ]
 
-# The round-trip estimator: where its calls' faults stand, as `updateFaults` or `update_fault`; and where a call is chosen by
+# The round-trip estimator: where its calls' faults stand, as `update_faults` or `update_fault`; and where a call is chosen by
 # its number and read from its words, which are there called a, b and c.
 RTT = {".rt": "crates/rtt/src/rtt.rt", ".antt": "crates/rtt/specs/Rtt.antt"}
 TRIPS = {".rt": "crates/trips/src/trips.rt", ".antt": "crates/trips/specs/Trips.antt"}
 # Functions that choose by the number, and with what the names end that they choose.
 RTT_CHOICES = {
     ".rt": [(["call_fault"], "_fault"), (["call_taken", "other_taken"], "_taken")],
-    ".antt": [(["callFaults"], "Faults"), (["callRow"], "Number"), (["callLeft"], "Left")],
+    ".antt": [(["call_faults"], "_faults"), (["call_row"], "_number"), (["call_left"], "_left")],
 }
 # Functions that read a call's words, write a state's and an answer's, and test a state's form.
-RTT_READ = {".rt": ["call_at"], ".antt": ["answerAt", "leftAt"]}
-RTT_WRITTEN = {".rt": ("stats_words", "answer_words"), ".antt": ("statsWords", "shown")}
-RTT_ANSWER = "answerWords"
-RTT_FORM = {".rt": "encodes_none", ".antt": "encodesNone"}
+RTT_READ = {".rt": ["call_at"], ".antt": ["answer_at", "left_at"]}
+RTT_WRITTEN = {".rt": ("stats_words", "answer_words"), ".antt": ("stats_words", "shown")}
+RTT_ANSWER = "answer_words"
+RTT_FORM = {".rt": "encodes_none", ".antt": "encodes_none"}
 # As PHRASES, and the files that have the estimator's sizes instead of the model's.
 RTT_SIZED = [*TRIPS.values(), "crates/guovssalu/src/rtt_run.rt", "crates/guovssalu/specs/RttRun.antt", "crates/theorems/specs/Rtt.antt"]
 RTT_PHRASES = [
     (r"\[u64; (\d+)\]", ("RTT_STATE_WORDS", "RTT_ANSWER_WORDS")),
-    (r"wordsAt s 0 (\d+)", ("RTT_STATE_WORDS",)),
-    (r"\bstate\.len\(\) [!=]= (\d+)|now state\) ≡ (\d+)|eqb \(length (?:s|state|\(r \.state\))\) (\d+)", ("RTT_STATE_BYTES",)),
-    (r"\bcalls\.len\(\) [%/] (\d+)|\blength (?:src|\(r \.calls\)) [%/] (\d+)|src \(at \+ (\d+)\) n\b", ("RTT_CALL_BYTES",)),
-    (r"\bcalls, (\d+) \* i\b|\bat \+ (\d+) ≤ length \(now calls\)", ("RTT_CALL_BYTES",)),
-    (r"\banswers, (\d+) \* i\b|\bto \+ (\d+) ≤ length \(now answers\)|\b(\d+) \* \(?(?:callsIn|calls\.len|rttCount)", ("RTT_ANSWER_BYTES",)),
-    (r"\btake (\d+) \(|\bdrop \((\d+) \* i\)|\(r \.written\) \((\d+) \* i\b", ("RTT_ANSWER_BYTES",)),
+    (r"words_at s 0 (\d+)", ("RTT_STATE_WORDS",)),
+    (r"\bstate\.len\(\) [!=]= (\d+)|state\.(?:now|old|new) ≡ (\d+)|eqb \(length (?:s|state|r\.state)\) (\d+)", ("RTT_STATE_BYTES",)),
+    (r"\bcalls\.len\(\) [%/] (\d+)|\blength (?:src|r\.calls) [%/] (\d+)|src \(at \+ (\d+)\) n\b", ("RTT_CALL_BYTES",)),
+    (r"\bcalls, (\d+) \* i\b|\bat \+ (\d+) ≤ length calls\.now", ("RTT_CALL_BYTES",)),
+    (r"\banswers, (\d+) \* i\b|\bto \+ (\d+) ≤ length answers\.old|\b(\d+) \* \(?(?:calls_in|calls\.len|rtt_count)", ("RTT_ANSWER_BYTES",)),
+    (r"\btake (\d+) \(|\bdrop \((\d+) \* i\)|r\.written \((\d+) \* i\b", ("RTT_ANSWER_BYTES",)),
 ]
 
 
@@ -192,9 +192,11 @@ def read(path):
 
 def code(path):
     """The text without comments, and of a source without its contracts."""
-    text = read(path)
-    text = re.sub(r"^ *(?:ensures|requires)\b[^⌝]*⌝ }$", "", text, flags=re.M) if path.endswith(".rt") else text
-    return re.sub(r"//.*" if path.endswith(".rt") else r"--.*", "", text)
+    text = re.sub(r"//.*" if path.endswith(".rt") else r"--.*", "", read(path))
+    clause = re.compile(r"^ *(?:ensures|requires)\b[^{\n]*\{", re.M)
+    while path.endswith(".rt") and (found := clause.search(text)):
+        text = text[: found.start()] + text[found.end() + len(closed(text, found.end() - 1)) + 1 :]
+    return text
 
 
 def line_of(path, part):
@@ -342,7 +344,7 @@ def without_tests(path, value):
     """Without the words that are only tested."""
     if path.endswith(".rt"):
         return re.sub(r"\bflag_fits\(n\[\d+\]\)", "", value)
-    return re.sub(r"\bflagFits \(word l (?:\d+|\(i \+ \d+\)|i)\)", "", value)
+    return re.sub(r"\bflag_fits \(word l (?:\d+|\(i \+ \d+\)|i)\)", "", value)
 
 
 def places(path, value):
@@ -380,9 +382,9 @@ def check_forms(table, path, name, section, first):
     text = "\n".join(bodies.values()) if name is None else bodies.get(name, "")
     word = r"n\[(\d+)\]" if path.endswith(".rt") else r"\(word l (?:\(i \+ )?(\d+)\)?\)"
     apart = ", " if path.endswith(".rt") else " "
-    tests = {"flag": r"\bflag_?[fF]its[( ]", "f32": r"\bfloat_?[fF]its[( ]", "phase": r"\bphase_?[fF]its[( ]"}
+    tests = {"flag": r"\bflag_fits[( ]", "f32": r"\bfloat_fits[( ]", "phase": r"\bphase_fits[( ]"}
     single = {kind: re.findall(test + word, text) for kind, test in tests.items()}
-    pairs = re.findall(r"\bpair_?[fF]its[( ]" + word + apart + word, text)
+    pairs = re.findall(r"\bpair_fits[( ]" + word + apart + word, text)
     stands = {kind: sorted(map(int, found)) for kind, found in single.items()}
     stands["pair"] = sorted(int(one) for pair in pairs for one in pair)
     due = {kind: [] for kind in stands}
@@ -544,7 +546,7 @@ def ending(path):
 
 def kind_names(table, path):
     """The names of the kinds in a file, and their numbers."""
-    named = constant if ending(path) == ".rt" else lambda name: KINDS.get(name, "a" + name)
+    named = constant if ending(path) == ".rt" else lambda name: KINDS.get(name, "a_" + constant(name).lower())
     return {named(row["name"]): int(row["number"]) for row in table.rows("faults")}
 
 
@@ -618,7 +620,7 @@ def entries(path, name):
             yield record, split(closed(body, found.end() - 1), ",")
         return
     body = functions(path).get(name, "")
-    for found in re.finditer(r"\bunless |\b(\w+Faults) ", body):
+    for found in re.finditer(r"\bunless |\b(\w+_faults) ", body):
         yield found.group(1), list(atoms(body[found.end() :]))
 
 
@@ -675,14 +677,14 @@ def chosen_lists(path):
         started = re.search(r"\bif n\[0\] == (\d+) \{\s*return started\(", text)
         yield int(started.group(1)), re.search(r"\b(\w+_fault)\(", bodies["started"]).group(1), None
         return
-    for chooser in ("entryFaults", "numberFaults"):
+    for chooser in ("entry_faults", "number_faults"):
         takes = re.search(rf"^{chooser} call ([\w ]+) =", text, re.M).group(1).split()
         words = dict(zip(takes, re.findall(r"word w (\d+)", re.search(rf"\({chooser} call (.*)$", text, re.M).group(1))))
         for found in re.finditer(r"\bcond \((eqb call [^()]*)\) (\(|\[\])", bodies[chooser]):
             chosen = closed(bodies[chooser], found.end() - 1) if found.group(2) == "(" else ""
             for number in sorted(numbers_in(found.group(1))):
                 yield number, chosen.split(" ")[0], [int(words[one]) for one in letters(chosen)]
-    started = re.search(r"\bcond \(eqb \(word w 0\) (\d+)\)\s*\((\w+)", bodies["faultsOf"])
+    started = re.search(r"\bcond \(eqb \(word w 0\) (\d+)\)\s*\((\w+)", bodies["faults_of"])
     yield int(started.group(1)), started.group(2), None
 
 
@@ -715,13 +717,13 @@ def differing_places(table, path, beside):
             if words != asked:
                 yield f"{path}: {name}: words {words} of call {number} are handed on there, and should be {asked}: {call}"
         seen.add(number)
-    record = numbers_in(bodies["is_about_event" if source else "isAboutEvent"])
+    record = numbers_in(bodies["is_about_event" if source else "is_about_event"])
     place = re.search(r"\bevent\.fault\((\d+)", bodies["other_fault"]).group(1) if source else None
-    name = "CongestionEvent" if source else "eventFaults"
+    name = "CongestionEvent" if source else "event_faults"
     for number in sorted(record):
         call = numbers.get(number, f"{number}, no call's number")
         yield from check_list(f"{beside}: {name}", listed(beside, name, kinds, place), faults_due(table, call), f"{number} {call}")
-    free = numbers_in(bodies["is_given_nothing" if source else "isGivenNothing"])
+    free = numbers_in(bodies["is_given_nothing" if source else "is_given_nothing"])
     for number in sorted(set(numbers) - seen - record - free):
         yield f"{path}: no list for {number} {numbers[number]} stands there"
     for number in sorted((seen | record | free) - set(numbers)):
@@ -731,16 +733,16 @@ def differing_places(table, path, beside):
     if source:
         where, stands = beside, [divmod(int(found), 256) for found in re.findall(r"\bNO_CALL: u32 = (\d+);", code(beside))]
     else:
-        where, stands = path, listed(path, "noCall", kinds)
-    due = [(0, kinds["LIST_LENGTH" if source else "listLength"])]
+        where, stands = path, listed(path, "no_call", kinds)
+    due = [(0, kinds["LIST_LENGTH" if source else "list_length"])]
     yield from check_list(f"{where}: a number that is no call's", stands, due, "no call")
 
 
 def check_fields(table, path):
     """The numbers of a record's definition are its fields, each once, in order."""
     kinds = kind_names(table, path)
-    for name, argument in (("recordFaults", "event"), ("sampleFaults", "sample")):
-        form = kinds["listLength"]
+    for name, argument in (("record_faults", "event"), ("sample_faults", "sample")):
+        form = kinds["list_length"]
         stands = [".".join(re.findall(r"\.(\w+)", test)) for _, kind, test in listed(path, name, kinds) if kind != form]
         due = [here for _, kind, here in record_due(table, argument, 0) if kind != form]
         if stands != due:
@@ -751,7 +753,7 @@ def check_fits(table, path, name, section, first):
     """The words that are tested are those of the fields that can be malformed, a pair as one."""
     start = table.place.__dict__[first] if first else 0
     word = r"n\[(\d+)\]" if ending(path) == ".rt" else r"\(word w (\d+)\)"
-    tests = re.findall(rf"\b(flag|maybe)_?[fF]its[( ]{word}(?:,? {word})?", functions(path).get(name, ""))
+    tests = re.findall(rf"\b(flag|maybe)_fits[( ]{word}(?:,? {word})?", functions(path).get(name, ""))
     stands = [(kind, *(int(one) for one in words if one)) for kind, *words in tests]
     due = []
     for row in table.rows(section):
@@ -787,7 +789,7 @@ def check_rtt_faults(table, path):
     """Each call's list of faults is the table's, and tests what is given at each place."""
     source = ending(path) == ".rt"
     for row in table.rows("rtt_calls"):
-        name, due = row["here"] + ("_fault" if source else "Faults"), faults_due(table, row["name"], "rtt_arguments")
+        name, due = row["here"] + ("_fault" if source else "_faults"), faults_due(table, row["name"], "rtt_arguments")
         found = list(listed(path, name, kind_names(table, path)))
         yield from check_list(f"{path}: {name}", found, due, row["name"])
         given = (parameters(path, name) if source else takes(path, name)) or []
@@ -806,7 +808,7 @@ def takes(path, name):
 def check_rtt_rows(table, path):
     """The number of a call's reply is made of the estimator where the call reads the stored numbers, and only there."""
     for row in table.rows("rtt_calls"):
-        name = row["here"] + "Number"
+        name = row["here"] + "_number"
         stands = takes(path, name)[:1] == ["s"]
         if stands != bool(row["state"]):
             yield f"{path}: {name}: it is made of {'' if stands else 'no '}stored numbers there: {row['name']} should {'' if row['state'] else 'not '}read them"
@@ -836,7 +838,7 @@ def check_rtt_choices(table, path, choices):
         stands = sorted((number, name, once(given)) for number, name, given in rtt_choices(path, names))
         if stands != due:
             yield f"{path}: {', '.join(names)}: {stands} are chosen there, and should be {due}"
-    unknown = r"\n +NO_CALL\n" if ending(path) == ".rt" else r"unless false 0 listLength"
+    unknown = r"\n +NO_CALL\n" if ending(path) == ".rt" else r"unless false 0 list_length"
     if not re.search(unknown, functions(path).get(choices[0][0][0], "")):
         yield f"{path}: {choices[0][0][0]}: a number that is no call's has another fault there, and should have 2.8 at 0"
 
@@ -844,7 +846,7 @@ def check_rtt_choices(table, path, choices):
 def check_rtt_words(table, path, readers):
     """The number and the arguments of a call are read from their words, at so many bytes after its first."""
     due = [WORD_BYTES * word for word in range(table.size.RTT_CALL_WORDS)]
-    word = r"get_word\(calls, at(?: \+ (\d+))?\)" if ending(path) == ".rt" else r"wordAt src (?:at\b|\(at \+ (\d+)\))"
+    word = r"get_word\(calls, at(?: \+ (\d+))?\)" if ending(path) == ".rt" else r"word_at src (?:at\b|\(at \+ (\d+)\))"
     for name in readers:
         stands = [int(at or 0) for at in re.findall(word, functions(path).get(name, ""))]
         if stands != due:
@@ -876,7 +878,7 @@ def check_rtt_answer(table, path, name):
 
 def check_rtt_form(table, path, name):
     """The words of a state that are tested are its flags."""
-    found = re.findall(r"\bflag_?[fF]its(?:\(get_word\(state, | \(wordAt s )(\d+)\)", functions(path).get(name, ""))
+    found = re.findall(r"\bflag_fits(?:\(get_word\(state, | \(word_at s )(\d+)\)", functions(path).get(name, ""))
     due = [WORD_BYTES * int(row["word"]) for row in table.rows("rtt_state") if row["kind"] == "flag"]
     if [int(at) for at in found] != due:
         yield f"{path}: {name}: the words at {found} are tested there, and should be those at {due}"

@@ -5,10 +5,10 @@
 #     tests/mend_diff.sh SEED TRACES   the cases, and so many traces that are chosen from the seed
 #     tests/mend_diff.sh gate          the cases, and 300 traces: some ten seconds
 #
-# The port is the commands in the variables PORT_MEND and PORT_REPLAY, or else the programs that `rt check mend replay`
-# builds: without `gate` they are proved and built here. The last line is `N lines of M traces, 0 wrong`. At the first
-# thing wrong it shows the trace's name, what was expected and what was given, and ends with 1. Without cargo or the
-# original `gate` says so and goes on, but not where CI is true.
+# The port is the commands in the variables PORT_MEND and PORT_REPLAY, or else the programs of crates/mend and
+# crates/replay, as they were built last: without `gate` they are proved and built here where a source is newer. The last
+# line is `N lines of M traces, 0 wrong`. At the first thing wrong it shows the trace's name, what was expected and what
+# was given, and ends with 1. Without cargo or the original `gate` says so and goes on, but not where CI is true.
 set -eu
 cd "$(dirname "$0")/.."
 . tests/oracle.sh
@@ -34,12 +34,10 @@ fi
 programs=
 [ -n "${PORT_MEND:-}" ] || programs=mend
 [ -n "${PORT_REPLAY:-}" ] || programs="$programs replay"
-if [ -n "$programs" ] && [ "$1" != gate ]; then
-    rt check $programs
-fi
 for program in $programs; do
-    [ -f "target/bin/$program" ] || {
-        echo "mend_diff: there is no target/bin/$program; \`rt check $program\` proves and builds it"
+    [ "$1" = gate ] || make -s "crates/$program/out/$program"
+    [ -f "$(sh tests/program.sh "$program")" ] || {
+        echo "mend_diff: the program $program is not built yet; \`sh tests/build.sh $program\` proves and builds it"
         exit 1
     }
 done

@@ -596,19 +596,29 @@ def check_at_work(folder):
     due("till the end", read(seen).decode() == f"t.csv\n{below}\n", f"there is {read(seen)}")
 
 
-# A kit that builds a program once, and leaves it when it has not changed.
-RT = '#!/bin/sh\necho proved\necho "$*" >>log\n[ -e "target/bin/$2" ] || : >"target/bin/$2"\n'
+# A kit that builds a program once, and leaves it when it has not changed. As `rt run` it is called in the crate's folder,
+# and ends with the program's own status.
+RT = '''#!/bin/sh
+echo proved
+name=${PWD##*/}
+echo "$1 $name" >>../../log
+mkdir -p out
+[ -e "out/$name" ] || : >"out/$name"
+: >"out/$name.stamp"
+exit 1
+'''
 
 
 def check_built(folder):
     """A program is built where a source of a crate that it knows is newer, and not otherwise; so is the other."""
     crates = ["crates/low/src/a.rt", "crates/mend/src/main.rt", "crates/replay/src/main.rt", "crates/far/src/b.rt"]
-    others = {"crates.txt": "far:\nlow:\nreplay: low far io\nmend: low\n", "log": "", "t.csv": "", "target/bin/other": ""}
+    others = {"crates.txt": "far:\nlow:\nreplay: low far io\nmend: low\n", "log": "", "t.csv": ""}
     commands = {"tests/mend.sh": "echo mended\n", "tests/replay.sh": "echo rows\n", "bin/rt": RT}
     for name, content in {**dict.fromkeys(crates, ""), **others, **commands}.items():
         os.makedirs(os.path.dirname(os.path.join(folder, name)), exist_ok=True)
         write(os.path.join(folder, name), content)
     shutil.copy(os.path.join(ROOT, "Makefile"), folder)
+    shutil.copy(os.path.join(ROOT, "tests", "build.sh"), os.path.join(folder, "tests"))
     os.chmod(os.path.join(folder, "bin", "rt"), 0o755)
     path = os.path.join(folder, "bin") + os.pathsep + os.environ["PATH"]
 
@@ -617,7 +627,7 @@ def check_built(folder):
     def made(target, newer, wanted):
         """After a change of one file, or of none, a command builds so, or nothing."""
         if newer:
-            for name, seconds in {**dict.fromkeys(crates, 90), f"target/bin/{target}": 60, newer: 30}.items():
+            for name, seconds in {**dict.fromkeys(crates, 90), f"crates/{target}/out/{target}": 60, newer: 30}.items():
                 old(name, seconds)
         before = len(read(os.path.join(folder, "log")))
         status, text, said = ended([target, "TRACE=t.csv"], folder, PATH=path)
@@ -626,13 +636,13 @@ def check_built(folder):
         due(f"make {target}, {newer}", fine, f"it ends with {status}, writes {text!r}, says {said!r} and builds {built!r}")
 
     for target, other in (("mend", "replay"), ("replay", "mend")):
-        made(target, None, f"check {target}\n")
+        made(target, None, f"run {target}\n")
         made(target, None, "")
         for newer in ("crates/low/src/a.rt", f"crates/{target}/src/main.rt"):
-            made(target, newer, f"check {target}\n")
+            made(target, newer, f"run {target}\n")
             made(target, None, "")
         made(target, f"crates/{other}/src/main.rt", "")
-        made(target, "crates/far/src/b.rt", "check replay\n" if target == "replay" else "")
+        made(target, "crates/far/src/b.rt", "run replay\n" if target == "replay" else "")
     given = ended(["-n", "diff-mends", "SEED=3", "COUNT=5"])
     due("make diff-mends", given[0] == 0 and "sh tests/mend_diff.sh 3 5\n" in given[1], f"{given}")
 

@@ -19,7 +19,7 @@ says:
     not told           the prover ended without a verdict
 
 Ends with 1 where a survivor isn't explained; an edit of tests/wrong that is no program, or is not told, counts as one. `rt
-check` has to have proved everything before."""
+all check` has to have proved everything before: a check in the copy begins with what it kept."""
 
 import argparse
 import os
@@ -79,6 +79,7 @@ VARIANT = re.compile(r"\b([A-Z]\w+)::([A-Z]\w+)\b")
 # two arguments of a function, in a definition
 NAMES = re.compile(r"(?<=\w )([a-z]\w*) ([a-z]\w*)(?=[) ]|$)")
 SKIPPED = ("//", "use ", "pub use ", "ghost ", "pub mod ", "mod ", "#", "pub struct ", "struct ", "pub enum ", "enum ", "impl ")
+CLAUSE = re.compile(r"(ensures|requires)\b")
 
 
 class Change:
@@ -142,16 +143,19 @@ def files(crate, specs):
 
 def code_lines(text):
     """The lines of function bodies and constants: no comment, no import, no signature, no clause, no declared field."""
-    declared = False
+    declared, depth = False, 0
     for index, line in enumerate(text):
         bare = line.strip()
+        if depth or CLAUSE.match(bare):
+            depth += bare.count("{") - bare.count("}")
+            continue
         if bare.startswith(("pub struct", "struct", "pub enum", "enum")):
             declared = bare.endswith("{")
             continue
         if declared:
             declared = bare != "}"
             continue
-        if not bare or bare.startswith(SKIPPED) or "λ" in bare or "⌜" in bare or re.search(r"\bfn \w+", bare):
+        if not bare or bare.startswith(SKIPPED) or re.search(r"\bfn \w+", bare):
             continue
         yield index, line
 
@@ -225,31 +229,39 @@ def known():
 
 # What the prover says where a proof file no longer has the shape of the code.
 MISFIT = re.compile(
-    r"error: (`(Inv-loop|μ-loop)`:|.*(has no field|expected type .tie\.Need-|unexpected argument|no .* that can be named|is not in scope|takes .* argument|binders, but its type))"
+    r"proofs/\S+: error: .*(has no (field|`)|expected type .goal\.|unexpected argument|no .* that can be named|is not in scope|takes .* argument|binders, but its type|was not admitted)"
 )
 # The programs that reach every floor.
 RUNS = ("serve", "answers")
 
 
-def said_by(copy, *words):
-    """What `rt` ends with and prints."""
-    ran = subprocess.run(["rt", *words], cwd=copy, stdout=subprocess.PIPE, stderr=subprocess.STDOUT, timeout=1800)
+def checked(copy, crate):
+    """What `rt check` of a crate ends with and prints."""
+    how = {"cwd": os.path.join(copy, "crates", crate), "stdout": subprocess.PIPE, "stderr": subprocess.STDOUT}
+    ran = subprocess.run(["rt", "check"], timeout=1800, **how)
     return ran.returncode, ran.stdout.decode("utf-8", "replace")
 
 
 def run_differs(copy, program):
     """Whether a program, built without proof, writes something else than its file `stdout`, or doesn't end well."""
-    return said_by(copy, "try", program)[1].count("\nok: the native program") < 3
+    folder = os.path.join(copy, "crates", program)
+    text = lambda name: open(os.path.join(folder, name), "rb").read() if os.path.exists(os.path.join(folder, name)) else b""
+    data = os.path.join(folder, "data")
+    given = [f"{name}=data/{name}" for name in sorted(os.listdir(data))] if os.path.isdir(data) else []
+    words = [word for one in given for word in ("--data", one)] + ["--", *text("args").decode().splitlines()]
+    how = {"cwd": folder, "input": text("stdin"), "stdout": subprocess.PIPE, "stderr": subprocess.DEVNULL}
+    ran = subprocess.run(["rt", "try", *words], timeout=1800, **how)
+    return (ran.returncode, ran.stdout) != (int(text("status") or 0), text("stdout"))
 
 
 def outcome(copy, crate, specs):
     """What became of the change that stands in the copy."""
-    status, said = said_by(copy, "dev", crate)
+    status, said = checked(copy, crate)
     if status == 0:
         return survivor(copy, crate, specs)
-    if re.search(r"src/\S+\.rt:\d+:\d+: error|^error|/specs/\S+\.antt:\d+:\d+: error", said, re.M):
+    if re.search(r"^(src/\S+\.rt|specs/\S+\.antt):\d+:\d+: error|^error", said, re.M):
         return "no program"
-    if status != 1:
+    if status != 1 or not re.search(r"^logic=not-proved", said, re.M):
         return "not told"
     if specs or not MISFIT.search(said):
         return "a fact fails"
@@ -259,7 +271,7 @@ def outcome(copy, crate, specs):
 def survivor(copy, crate, specs):
     """Of a change with which its own crate is proved: what else notices it."""
     if specs:
-        return "a floor above" if said_by(copy, "check", *above(crate))[0] == 1 else "survived"
+        return "a floor above" if any(checked(copy, one)[0] == 1 for one in above(crate)) else "survived"
     if os.path.exists(os.path.join(copy, "crates", crate, "specs")):
         return "survived"
     return "a run differs" if any(run_differs(copy, p) for p in reaching(crate)) else "survived"
@@ -268,7 +280,7 @@ def survivor(copy, crate, specs):
 def needs():
     """The crates that each crate names in crates.txt."""
     lines = (line.split("#")[0] for line in open(os.path.join(ROOT, "crates.txt"), encoding="utf-8"))
-    return {line.split(":")[0].strip(): line.split(":")[1].split() for line in lines if ":" in line}
+    return {line.split()[0].strip(":"): line.split(":")[1].split() for line in lines if ":" in line}
 
 
 def above(crate):
@@ -335,7 +347,7 @@ def main():
     counted, unexplained = 0, 0
     with tempfile.TemporaryDirectory() as folder:
         copy = os.path.join(folder, "repository")
-        shutil.copytree(ROOT, copy, symlinks=True, ignore=shutil.ignore_patterns(".git"))
+        shutil.copytree(ROOT, copy, symlinks=True, ignore=shutil.ignore_patterns(".git", "out", "target"))
         for crate, change in in_order(found, asked.seed):
             if counted == most:
                 break

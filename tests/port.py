@@ -34,7 +34,7 @@ def program(name="serve"):
     if asked.returncode != 0 or not words:
         raise Fault(f"there is no command for the program `{name}` on this machine: tests/program.sh gives none")
     if not os.path.exists(os.path.join(ROOT, words[-1])):
-        raise Fault(f"{words[-1]} is not built yet: `rt check {name}` proves and builds it")
+        raise Fault(f"{words[-1]} is not built yet: `sh tests/build.sh {name}` proves and builds it")
     return words
 
 

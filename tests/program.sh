@@ -1,15 +1,12 @@
 #!/bin/sh
-# Prints the command that runs a program of this repository from its root, once `rt check` has built it: on x86-64 the
-# program itself, elsewhere the kit's emulator with it.
+# Prints the command that runs a program of this repository from its root, where tests/build.sh or `rt ci` leaves it. The
+# kit builds for x86-64: elsewhere there is none, and this ends with 1.
 #
 #     tests/program.sh NAME
 set -eu
 machine=$(uname -m)
-program=target/bin/$1
-if [ "$machine" = x86_64 ]; then
-    echo "$program"
-    exit
+if [ "$machine" != x86_64 ]; then
+    echo "program: the kit builds programs for x86-64, and this machine is $machine" >&2
+    exit 1
 fi
-kit=$(dirname "$(dirname "$(rt doc)")")
-tools=$kit/on/$machine/toolchain
-echo "$tools/bin/qemu-x86_64 $tools/lib/ld-linux-x86-64.so.2 --library-path $tools/lib $program"
+echo "crates/$1/out/$1"

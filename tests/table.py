@@ -35,9 +35,9 @@ WIDTH = 100
 BOUNDS = {".rt": "crates/state/src/bounds.rt", ".antt": "crates/state/specs/Bounds.antt"}
 VALUES = [
     ("UNSET", BOUNDS[".rt"], r"^pub const UNSET: u64 = (.*);$"),
-    ("UNSET", BOUNDS[".antt"], r"^bytesOrUnsetOk n = .* eqb n \((.*)\)$"),
+    ("UNSET", BOUNDS[".antt"], r"^bytes_or_unset_ok n = .* eqb n \((.*)\)$"),
     ("LONGEST", BOUNDS[".rt"], r"^pub const MOST_LENGTH: u64 = (.*);$"),
-    ("LONGEST", BOUNDS[".antt"], r"^lengthOk d = leb \(d \.0\) \((.*)\)$"),
+    ("LONGEST", BOUNDS[".antt"], r"^length_ok d = leb d\.0 \((.*)\)$"),
     ("LONGEST", PATH, r"^4 +Length .*?  (\S+) ns  "),
 ]
 

@@ -4,10 +4,10 @@
 #     tests/trace.sh SEED LINES   the cases, and so many lines of traces that are chosen from the seed
 #     tests/trace.sh gate         the cases, and 20,000 lines: some seconds
 #
-# The port is the command in the variable PORT, or else the program that `rt check replay` builds: without `gate` it is
-# proved and built here. The last line is `N lines of M traces, 0 differences`. At a difference it shows the trace's name,
-# the line, and the rows that were expected and given, and ends with 1. Without cargo or the original `gate` says so and
-# goes on, but not where CI is true.
+# The port is the command in the variable PORT, or else the program of crates/replay, as it was built last: without `gate`
+# it is proved and built here where a source is newer. The last line is `N lines of M traces, 0 differences`. At a
+# difference it shows the trace's name, the line, and the rows that were expected and given, and ends with 1. Without cargo
+# or the original `gate` says so and goes on, but not where CI is true.
 set -eu
 cd "$(dirname "$0")/.."
 . tests/oracle.sh
@@ -31,12 +31,12 @@ if [ -n "$missing" ]; then
     exit
 fi
 if [ -z "${PORT:-}" ]; then
-    [ "$1" = gate ] || rt check replay
-    [ -f target/bin/replay ] || {
-        echo "trace: there is no target/bin/replay; \`rt check replay\` proves and builds it"
+    [ "$1" = gate ] || make -s crates/replay/out/replay
+    PORT=$(sh tests/program.sh replay)
+    [ -f "$PORT" ] || {
+        echo "trace: there is no $PORT; \`sh tests/build.sh replay\` proves and builds it"
         exit 1
     }
-    PORT=$(sh tests/program.sh replay)
 fi
 export PORT
 build_oracle

@@ -5,7 +5,7 @@ use std::path::Path;
 use std::path::PathBuf;
 use std::process;
 
-/// Where `rt staticlib guovssalu` writes it, seen from the repository's top folder.
+/// Where `make archive` writes it, seen from the repository's top folder.
 const ARCHIVE: &str = "target/staticlib/libguovssalu.a";
 
 fn main() {

@@ -20,7 +20,8 @@ send_time_state_of valid limited acked inflight =
 -- its four flags: end_of_round_trip, is_probing_for_bandwidth, the send state's is_valid and is_app_limited
 unfoldable pub event_fits : List ℕ → ℕ → Bool
 event_fits l i =
-    flag_fits (word l (i + 6)) && flag_fits (word l (i + 7)) && flag_fits (word l (i + 12)) && flag_fits (word l (i + 13))
+    flag_fits (word l (i + 6)) && flag_fits (word l (i + 7)) && flag_fits (word l (i + 12))
+    && flag_fits (word l (i + 13))
 
 unfoldable pub event_from_word : List ℕ → ℕ → CongestionEvent
 event_from_word l i =

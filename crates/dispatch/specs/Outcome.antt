@@ -67,7 +67,8 @@ event_start_leaves w m =
 
 abbrev pub event_start_words : List ℕ → NetworkModel → List ℕ
 event_start_words w m =
-    settled (event_start_number w m) (event_words (event_next m (event_from w) (sample_from w) (acked_of w))) (event_in w)
+    settled (event_start_number w m) (event_words (event_next m (event_from w) (sample_from w) (acked_of w)))
+    (event_in w)
 
 -- its answer has the record: "an event's record as handed in" where it is refused, word by word
 unfoldable pub event_outcome : List ℕ → NetworkModel → Cycle → Outcome

@@ -3,10 +3,10 @@
 -- the model before the event, e the event as handed in, s what the sampler says to it, and `acked` the packet numbers
 -- acked.
 --
--- The way of an event. Check: the table's rows (`event_rows`). Round: whether one ends (`rounds_ended`, `rounds_acked`).
--- Sample: the event itself, the filters and the round's sums (`event_after`, `maxbw_next`, `minrtt_after`, `round_next`).
--- Bounds: the lower ones, then the latest (`adapt_lower_bounds`, `latest_after`). Settle: all is stored (`model_after`).
--- Last on the page three events are worked out, step by step.
+-- The way of an event. Check: the table's rows (`event_rows`). Round: whether one ends (`rounds_ended`,
+-- `rounds_acked`). Sample: the event itself, the filters and the round's sums (`event_after`, `maxbw_next`,
+-- `minrtt_after`, `round_next`). Bounds: the lower ones, then the latest (`adapt_lower_bounds`, `latest_after`).
+-- Settle: all is stored (`model_after`). Last on the page three events are worked out, step by step.
 use Rattle.std.specs.Prelude.{ℕ, min, max, ◌+◌, ◌-◌, ◌*◌, ◌^◌, Bool, true, false, cond, not, ◌&&◌, ◌||◌, List, [], ◌∷◌, ltb, leb, eqb, Float}
 use Rattle.std.specs.Float.{binary32}
 use Rattle.std.specs.Float.Ieee.{of_bits}

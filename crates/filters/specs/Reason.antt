@@ -48,7 +48,8 @@ aged_reason e new w before =
 -- step 1, "empty" too; else the steps after it, 3 to 5 on the estimates that step 2 leaves
 abbrev pub reason_of : Held → Sample → ℕ → Reason
 reason_of Unset new w = AllReplaced
-reason_of (Set e) new w = cond (is_replaced e new w) AllReplaced (aged_reason (raised e new) new w (raised_reason e new))
+reason_of (Set e) new w =
+    cond (is_replaced e new w) AllReplaced (aged_reason (raised e new) new w (raised_reason e new))
 
 -- a refused update leaves the filter unchanged, and says so
 unfoldable pub windowed_reason : WindowedFilter → ℕ → ℕ → Reason

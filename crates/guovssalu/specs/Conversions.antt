@@ -1,5 +1,5 @@
--- The exported conversions: those of the crates below, with floats as their bits. `of_bits` reads every pattern of a NaN
--- as a NaN. A whole number's float is none.
+-- The exported conversions: those of the crates below, with floats as their bits. `of_bits` reads every pattern of a
+-- NaN as a NaN. A whole number's float is none.
 use Rattle.std.specs.Prelude.{ℕ}
 use Rattle.std.specs.Float.{binary32, binary64}
 use Rattle.std.specs.Float.Ieee.{of_bits, to_bits}

@@ -1,6 +1,6 @@
 -- The exported runs of the model: calls, carried out in order on a state in lent bytes (docs/LAYOUT.md), with lists
--- from which a call can take numbers, or with none. `model_reply` is what they reply, whatever the lists are, `model_row`
--- its row; `answers_out` and `state_out` are the bytes that they leave; one call is `outcome_of` in
+-- from which a call can take numbers, or with none. `model_reply` is what they reply, whatever the lists are,
+-- `model_row` its row; `answers_out` and `state_out` are the bytes that they leave; one call is `outcome_of` in
 -- crates/dispatch/specs/Outcome.antt. A run in bytes that begins with a start is worked out in Examples.antt
 -- (`start_examples`), four with events, one of them with lists, in crates/theorems/specs/Examples.antt.
 use Rattle.std.specs.Prelude.{ℕ, zero, suc, ◌+◌, ◌*◌, ◌/◌, ◌%◌, Bool, false, not, ◌&&◌, ◌||◌, List, [], ◌∷◌, ◌++◌, ltb, eqb, length}
@@ -56,7 +56,8 @@ answers_from state src lists =
     answers_to (model_from (state_in state)) (cycle_from (state_in state)) src lists 0 (calls_in src)
 
 unfoldable pub words_left : (state src lists : List ℕ) → List ℕ
-words_left state src lists = left_by (model_from (state_in state)) (cycle_from (state_in state)) src lists 0 (calls_in src)
+words_left state src lists =
+    left_by (model_from (state_in state)) (cycle_from (state_in state)) src lists 0 (calls_in src)
 
 -- docs/LAYOUT.md, "What the run itself replies", 1, 2 and 7: "Of several the lowest is given; then no byte is written"
 unfoldable pub model_row : (state src : List ℕ) (room : ℕ) → ℕ

@@ -7,48 +7,42 @@ use units::{Bandwidth, Duration};
 use words::float_bits::{f32_bits, f32_of, f64_bits};
 
 // n as an `f32`.
-#[unsafe(no_mangle)]
-pub extern "C" fn guovssalu_u64_to_f32(n: u64) -> u32
+pub fn guovssalu_u64_to_f32(n: u64) -> u32
     ensures { result ≡ f32_bits n }
 {
     f32_bits(to_f32(n))
 }
 
 // n as an `f64`.
-#[unsafe(no_mangle)]
-pub extern "C" fn guovssalu_u64_to_f64(n: u64) -> u64
+pub fn guovssalu_u64_to_f64(n: u64) -> u64
     ensures { result ≡ f64_bits n }
 {
     f64_bits(to_f64(n))
 }
 
 // An `f32` without its fraction.
-#[unsafe(no_mangle)]
-pub extern "C" fn guovssalu_f32_to_u64(bits: u32) -> u64
+pub fn guovssalu_f32_to_u64(bits: u32) -> u64
     ensures { result ≡ f32_to_u64 bits }
 {
     pattern_to_u64(bits)
 }
 
 // An `f64` to the nearest whole number.
-#[unsafe(no_mangle)]
-pub extern "C" fn guovssalu_f64_round_to_u64(bits: u64) -> u64
+pub fn guovssalu_f64_round_to_u64(bits: u64) -> u64
     ensures { result ≡ f64_round_to_u64 bits }
 {
     pattern_round_to_u64(bits)
 }
 
 // n times an `f32`, as a byte count is scaled.
-#[unsafe(no_mangle)]
-pub extern "C" fn guovssalu_scale(n: u64, gain: u32) -> u64
+pub fn guovssalu_scale(n: u64, gain: u32) -> u64
     ensures { result ≡ scaled_by n gain }
 {
     scale(n, f32_of(gain))
 }
 
 // A bandwidth times an `f32`.
-#[unsafe(no_mangle)]
-pub extern "C" fn guovssalu_bandwidth_mul_f32(bandwidth: u64, gain: u32) -> u64
+pub fn guovssalu_bandwidth_mul_f32(bandwidth: u64, gain: u32) -> u64
     ensures { result ≡ bandwidth_by bandwidth gain }
 {
     let product = Bandwidth(bandwidth).mul_f32(f32_of(gain));
@@ -56,8 +50,7 @@ pub extern "C" fn guovssalu_bandwidth_mul_f32(bandwidth: u64, gain: u32) -> u64
 }
 
 // The whole bytes that a bandwidth carries in a period.
-#[unsafe(no_mangle)]
-pub extern "C" fn guovssalu_to_bytes_per_period(bandwidth: u64, nanos: u64) -> u64
+pub fn guovssalu_to_bytes_per_period(bandwidth: u64, nanos: u64) -> u64
     ensures { result ≡ bytes_in bandwidth nanos }
 {
     Bandwidth(bandwidth).to_bytes_per_period(Duration(nanos))

@@ -6,8 +6,7 @@ use pairs::pairs::{run_reply, write_run};
 
 // The filter's three samples after each pair of the source and why they moved, four words to a pair:
 // 2.8 at place 2 for bytes not in whole sixteens, 3 where a pair is refused, 7 for an output under 32 bytes a pair.
-#[unsafe(no_mangle)]
-pub extern "C" fn guovssalu_filter_run(window: u64, src: &[u8], out: &mut [u8]) -> u64
+pub fn guovssalu_filter_run(window: u64, src: &[u8], out: &mut [u8]) -> u64
     ensures value { result ≡ run_reply window src.now (length out.old) }
     ensures out_after { out.new ≡ run_out window src.now out.old }
 {

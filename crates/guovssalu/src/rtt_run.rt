@@ -8,8 +8,7 @@ use words::put_words;
 // Carries out the calls in order, answers each and leaves the new estimator: 1 for bytes that encode
 // no estimator, 2.8 for a length that is none of an estimator's, at place 1, or of whole calls, at
 // place 2, 7 for answers under 40 bytes a call.
-#[unsafe(no_mangle)]
-pub extern "C" fn guovssalu_rtt_run(state: &mut [u8], calls: &[u8], answers: &mut [u8]) -> u64
+pub fn guovssalu_rtt_run(state: &mut [u8], calls: &[u8], answers: &mut [u8]) -> u64
     ensures value { result ≡ rtt_reply state.old calls.now (length answers.old) }
     ensures state_after { state.new ≡ rtt_state_out state.old calls.now answers.old }
     ensures answers_after { answers.new ≡ rtt_answers_out state.old calls.now answers.old }

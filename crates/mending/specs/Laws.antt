@@ -46,7 +46,8 @@ pub record MendLaws : Type 0 where
   pub six_where : (r : Replay) (l : List ℕ) (k : ℕ) → placed_at r.started (line_of l) ≡ Refused k →
       (gives_six r l ≡ true) × (field_of (line_of l) ≡ k)
   -- Lines in two parts: in each the lines kept are kept in order, and the others listed
-  pub kept_parts : (r : Replay) (a b : List (List ℕ)) → kept_lines r (a ++ b) ≡ kept_lines r a ++ kept_lines (after r a) b
+  pub kept_parts : (r : Replay) (a b : List (List ℕ)) →
+      kept_lines r (a ++ b) ≡ kept_lines r a ++ kept_lines (after r a) b
   pub listed_parts : (r : Replay) (a b : List (List ℕ)) →
       listed_lines r (a ++ b) ≡ listed_lines r a ++ listed_lines (after r a) b
   -- "kept plus listed equals lines read"
@@ -70,7 +71,8 @@ pub record MendLaws : Type 0 where
       let k = kept_lines begin (all_lines t) in (mended_of t ≡ input_header ++ joined k) × (all_lines (joined k) ≡ k)
   pub twice : (t : List ℕ) →
       let k = joined (kept_lines begin (all_lines t)) in (mended_of k ≡ mended_of t) × (list_of k ≡ list_header)
-  pub whole : (t : List ℕ) → listed_lines begin (all_lines t) ≡ [] → (mended_of t ≡ input_header ++ t) × (list_of t ≡ list_header)
+  pub whole : (t : List ℕ) → listed_lines begin (all_lines t) ≡ [] →
+      (mended_of t ≡ input_header ++ t) × (list_of t ≡ list_header)
   -- The rows that are spoken of here are those that the program `replay` writes (crates/trace/specs/Output.antt)
   pub rows : (t : List ℕ) → rows_after t ≡ row_texts (row_list begin (all_lines t))
   --

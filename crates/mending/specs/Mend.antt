@@ -1,6 +1,6 @@
 -- A trace mended: document 02, request k. "A second program copies a trace, drops every line that gives 6 in the replay
--- as it then stands, and writes a separate list, also RFC 4180, of line number and first field at fault, in order .. The
--- lines kept are unchanged and in order".
+-- as it then stands, and writes a separate list, also RFC 4180, of line number and first field at fault, in order ..
+-- The lines kept are unchanged and in order".
 use Rattle.std.specs.Prelude.{ℕ, Bool, cond, List, [], ◌∷◌, ◌++◌, eqb}
 use Rattle.text.specs.declared.line.Line.{Line}
 use Rattle.text.specs.declared.line.Line.TheVariants.{Refused, Start, Sent, Event}

@@ -11,7 +11,8 @@ bytes_are (Number.Set b) n = eqb b n
 
 -- the slope that follows the rounds given, with the window 26,000
 abbrev pub raised_from : ℕ → Slope
-raised_from rounds = slope_raised (record { rounds = rounds; bytes = Number.Unset; acked = 0; applimited = false }) 26_000
+raised_from rounds =
+    slope_raised (record { rounds = rounds; bytes = Number.Unset; acked = 0; applimited = false }) 26_000
 
 abbrev pub gives : Slope → ℕ → ℕ → Bool
 gives s bytes rounds = bytes_are s.bytes bytes && eqb s.rounds rounds

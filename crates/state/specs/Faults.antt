@@ -167,7 +167,8 @@ postpone_faults length postponed = unless (length_ok length) 1 a_length ∷ unle
 
 -- enter_probe_down: last_cycle_probed_too_high, last_cycle_stopped_risky_probe, now
 unfoldable pub down_faults : (high risky : Bool) → Moment → List ℕ
-down_faults high risky now = unless high 1 list_length ∷ unless risky 2 list_length ∷ unless (moment_ok now) 3 a_moment ∷ []
+down_faults high risky now =
+    unless high 1 list_length ∷ unless risky 2 list_length ∷ unless (moment_ok now) 3 a_moment ∷ []
 
 -- enter_probe_cruise, and a fresh cycle: now
 unfoldable pub now_faults : Moment → List ℕ

@@ -314,7 +314,8 @@ growth_restarted g =
     }
 
 unfoldable pub restart_next : NetworkModel → NetworkModel
-restart_next m = with_growth (with_rounds (with_round m round_new) (rounds_restart m.rounds)) (growth_restarted m.growth)
+restart_next m =
+    with_growth (with_rounds (with_round m round_new) (rounds_restart m.rounds)) (growth_restarted m.growth)
 
 -- ---- cap_inflight_lo, clear_inflight_lo, clear_bandwidth_lo, advance_max_bandwidth_filter
 unfoldable pub cap_next : NetworkModel → ℕ → NetworkModel

@@ -43,4 +43,5 @@ abbrev pub no_cells : Cells
 no_cells = record { whole = false; tags = replicate 10 0; values = replicate 10 0 }
 
 unfoldable pub cells_of : List (List ℕ) → Cells
-cells_of fs = cond (eqb (length fs) 10) (record { whole = true; tags = map tag_of fs; values = map number_of fs }) no_cells
+cells_of fs =
+    cond (eqb (length fs) 10) (record { whole = true; tags = map tag_of fs; values = map number_of fs }) no_cells

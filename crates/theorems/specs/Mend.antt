@@ -25,10 +25,11 @@ pub record MendUnasked : Type 0 where
   pub take : AsksNothing mend.take.Reads.Asked
   pub sift : AsksNothing sift.sift.Reads.Asked
 
--- ---- and every outcome that they allow is what the definitions say: of a line where it stands, which `replay` asks too
--- (crates/trace/specs/Placed.antt), and whether a start is accepted; of one line more (crates/mending/specs/Sorted.antt);
--- of the lines of a piece from an index on (Sift.antt there). `put_entry` and `put_sorted` ask for room: an entry, or
--- a line that is kept, stands at the index, and nothing else is changed (`Put`, crates/rows/specs/Digits.antt)
+-- ---- and every outcome that they allow is what the definitions say: of a line where it stands
+-- (crates/trace/specs/Placed.antt), and whether a start is accepted; of one line more
+-- (crates/mending/specs/Sorted.antt); of the lines of a piece from an index on (Sift.antt there). `put_entry` and
+-- `put_sorted` ask for room: an entry, or a line that is kept, stands at the index, and nothing else is changed (`Put`,
+-- crates/rows/specs/Digits.antt)
 pub record MendDefined : Type 0 where
   pub placed : Gives placed.Reads.Learnt (λ κ a. placed_at a.0 a.1.0)
   pub begun : Gives begun.Reads.Learnt (λ κ a. begins a.0 a.1.0)

@@ -146,7 +146,8 @@ rtt_step n a b c =
 unfoldable pub rtt_steps : (src : List ℕ) (at n : ℕ) → List Step
 rtt_steps src at zero = []
 rtt_steps src at (suc n) =
-    rtt_step (Bytes.word_at src at) (Bytes.word_at src (at + 8)) (Bytes.word_at src (at + 16)) (Bytes.word_at src (at + 24))
+    rtt_step (Bytes.word_at src at) (Bytes.word_at src (at + 8)) (Bytes.word_at src (at + 16))
+    (Bytes.word_at src (at + 24))
     ∷ rtt_steps src (at + 32) n
 
 -- ---- runs one after the other: each is lent the bytes that the one before it left

@@ -50,7 +50,8 @@ judge_step w =
 unfoldable pub enter_step : List ℕ → Step
 enter_step w =
     cond (eqb (word w 0) 40)
-    (other (C.down (params_from w) (flag_of (word w 1)) (flag_of (word w 2)) (down_at (word w 1) (word w 2) (word w 3))))
+    (other (C.down (params_from w) (flag_of (word w 1)) (flag_of (word w 2))
+    (down_at (word w 1) (word w 2) (word w 3))))
     (cond (eqb (word w 0) 41) (makes (C.cruise (moment (word w 1))))
     (cond (eqb (word w 0) 42) (makes (C.refill (word w 1) (moment (word w 2))))
     (cond (eqb (word w 0) 43) (other (C.up (moment (word w 1)) (word w 2)))

@@ -284,10 +284,10 @@ pub record Theorems : Type 0 where
   -- ==== A trace mended (document 02, request k). The functions that the program `mend` is made of take any lines, and
   -- return what their definitions say; reading and writing are not proved. Of any lines those are kept that do not give
   -- 6 in the replay, unchanged and in order, and the others are listed with their numbers, which rise; together they
-  -- are as many as the lines. The replay of what is kept has the rows of the whole that are not 6; mending again changes
-  -- nothing; a trace of which no line gives 6 comes out byte for byte. What is written for an input that comes in
-  -- pieces, cut anywhere, is that of the whole (crates/mending/specs/Mend.antt, `mended_of` and `list_of`). Then traces
-  -- worked out, with each field at fault
+  -- are as many as the lines. The replay of what is kept has the rows of the whole that are not 6; mending again
+  -- changes nothing; a trace of which no line gives 6 comes out byte for byte. What is written for an input that comes
+  -- in pieces, cut anywhere, is that of the whole (crates/mending/specs/Mend.antt, `mended_of` and `list_of`). Then
+  -- traces worked out, with each field at fault
   pub mend_any : MendUnasked
   pub mend_defined : MendDefined
   pub mend_laws : MendLaws
@@ -301,6 +301,6 @@ pub record Theorems : Type 0 where
 -- which are only read, share bytes. The page docs/LAYOUT.md. And the definitions that this page is made of, written
 -- from documents 01 and 02, the original and docs/LAYOUT.md: all files of specs/ to which `use` lines lead from here,
 -- with their remarks. A script of the gate counts their lines (tests/contracts.py):
---   numbers 257, units 125, filters 442, words 137, text 242, rows 71, state 939, worth 274, rtt 480, layout 216,
---   events 464, phases 208, changes 62, judge 199, arguments 222, reads 18, places 142, pairs 63, trips 188,
---   calls 204, laws 658, dispatch 242, trace 567, guovssalu 206, drift 379, theorems 1268: together 8273
+--   numbers 245, units 120, filters 427, words 129, text 223, rows 72, state 922, worth 265, rtt 469, layout 208,
+--   events 453, phases 205, changes 59, judge 193, arguments 208, reads 17, places 139, pairs 59, trips 183,
+--   calls 192, laws 639, dispatch 233, trace 570, guovssalu 193, drift 370, mending 420, theorems 1307: together 8520

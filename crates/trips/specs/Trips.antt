@@ -91,7 +91,8 @@ calls_in src = length src / 32
 
 -- the call at an index, by its words
 unfoldable pub answer_at : RttStats → (src : List ℕ) (at : ℕ) → List ℕ
-answer_at s src at = answer_words s (word_at src at) (word_at src (at + 8)) (word_at src (at + 16)) (word_at src (at + 24))
+answer_at s src at =
+    answer_words s (word_at src at) (word_at src (at + 8)) (word_at src (at + 16)) (word_at src (at + 24))
 
 unfoldable pub left_at : RttStats → (src : List ℕ) (at : ℕ) → RttStats
 left_at s src at = call_left s (word_at src at) (word_at src (at + 8)) (word_at src (at + 16)) (word_at src (at + 24))

@@ -50,7 +50,7 @@
 //!
 //! # Linking
 //!
-//! The feature `link`, which is on by default, has the archive linked that `rt staticlib guovssalu`
+//! The feature `link`, which is on by default, has the archive linked that `make archive`
 //! writes for x86-64. Without it nothing is linked and no archive is looked for: the numbers, places
 //! and sizes of [`table`] are there all the same.
 

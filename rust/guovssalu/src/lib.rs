@@ -1,5 +1,5 @@
 //! The BBRv2 network model and the round-trip estimator of quiche 0.30.0, proved in Rattle, for Rust: a
-//! safe wrapper over the archive that `rt staticlib guovssalu` writes for x86-64.
+//! safe wrapper over the archive that `make archive` writes for x86-64.
 //!
 //! A [`NetworkModel`], a [`Cycle`] and the round-trip estimator, an [`RttStats`], hold their state as bytes,
 //! and their methods have the original's names. Each call is done, or it is refused with a [`Refusal`] and

@@ -1,0 +1,15 @@
+// The windowed filter, run over pairs of a time and a sample.
+ghost use Rattle.std.specs.Prelude.{◌≡◌, length};
+ghost use Rattle.guovssalu.specs.FilterRun.{run_reply, run_out};
+
+use guovssalu::filter_run;
+
+// The filter's three samples after each pair of the source and why they moved, four words to a pair:
+// 2.8 at place 2 for bytes not in whole sixteens, 3 where a pair is refused, 7 for an output under 32 bytes a pair.
+#[unsafe(no_mangle)]
+pub extern "C" fn guovssalu_filter_run(window: u64, src: &[u8], out: &mut [u8]) -> u64
+    ensures value { result ≡ run_reply window src.now (length out.old) }
+    ensures out_after { out.new ≡ run_out window src.now out.old }
+{
+    filter_run::guovssalu_filter_run(window, src, out)
+}
