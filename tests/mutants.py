@@ -227,10 +227,13 @@ def known():
     return explained
 
 
-# What the prover says where a proof file no longer has the shape of the code.
-MISFIT = re.compile(
-    r"proofs/\S+: error: .*(has no (field|`)|expected type .goal\.|unexpected argument|no .* that can be named|is not in scope|takes .* argument|binders, but its type|was not admitted)"
-)
+# Lines of the prover that name a place; where a proof file only names what is gone; where a text can't be read; and what
+# it says then of an error that has a name.
+TOLD = re.compile(r"(?:note: .*|\S+:\d+:\d+: .*error.*)", re.M)
+PLACE = re.compile(r"(?:note: )?\S+:\d+:\d+:")
+MISFIT = re.compile(r"(?:note: )?(?:\./)?proofs/.*(?:has no field|is not in scope|has no `|was not admitted)")
+UNREAD = re.compile(r"^(?:\./)?(?:src|specs)/\S+?:\d+:\d+: error: (?:(`[^`]*`): )?(.*)$", re.M)
+NOT_READ = re.compile(r"is not in scope|has no field|is no name|operand is missing|expected the end|cannot continue")
 # The programs that reach every floor.
 RUNS = ("serve", "answers")
 
@@ -259,11 +262,12 @@ def outcome(copy, crate, specs):
     status, said = checked(copy, crate)
     if status == 0:
         return survivor(copy, crate, specs)
-    if re.search(r"^(src/\S+\.rt|specs/\S+\.antt):\d+:\d+: error|^error", said, re.M):
+    if any(not name or NOT_READ.search(re.sub(r"`[^`]*`", "", rest)) for name, rest in UNREAD.findall(said)):
         return "no program"
-    if status != 1 or not re.search(r"^logic=not-proved", said, re.M):
-        return "not told"
-    if specs or not MISFIT.search(said):
+    if not re.search(r"^logic=not-proved", said, re.M):
+        return "no program" if re.search(r"\berror\[[\w-]+\]", said) else "not told"
+    told = [line for line in TOLD.findall(said) if PLACE.match(line)]
+    if specs or not told or not all(map(MISFIT.match, told)):
         return "a fact fails"
     return "a proof misfits" if any(run_differs(copy, p) for p in reaching(crate)) else "survived"
 
