@@ -1,5 +1,5 @@
 -- One call of a run in bytes: its words, and the words of its answer (docs/LAYOUT.md).
-use Rattle.std.specs.Prelude.{ℕ, List, [], ◌∷◌, ◌++◌}
+use Rattle.std.specs.Prelude.{ℕ, List, ◌∷◌, ◌++◌}
 use Rattle.state.specs.declared.network_model.NetworkModel.{NetworkModel}
 use Rattle.state.specs.Faults.{first, replied}
 use Rattle.places.specs.Places.{faults_of}

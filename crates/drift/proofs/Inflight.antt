@@ -26,7 +26,7 @@ use Rattle.state.specs.declared.congestion_event.CongestionEventSample.{Congesti
 use Rattle.events.specs.Event as E
 use Rattle.state.specs.declared.cycle.Cycle.{Cycle}
 use Rattle.phases.specs.Phases.{restarted_at, cruise_model, refill_model, left_model}
-use Rattle.drift.specs.Calls.{Call, event, cap, clear_inflight, clear_bandwidth, cruise, refill, other, State, next_of, after, run, started}
+use Rattle.drift.specs.Calls.{Call, event, cap, clear_inflight, clear_bandwidth, cruise, refill, other, State, next_of, run, started}
 use Rattle.drift.specs.Exact.{stays, clears, caps, reduces, Exact, unset, over, is_reduced, inflight_effect, exactly, exact_run}
 use Rattle.units.specs.declared.maybe.MaybeNumber.TheVariants as Number
 use Rattle.drift.specs.Drift.{inflight_low, Nearer, Near, Follows, Along, HasBeta, IsSmall, InflightDrift}

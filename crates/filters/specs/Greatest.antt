@@ -1,7 +1,6 @@
 -- What the greatest number of a list is (`greatest` in RoundTripCounter.antt), and that in a list that rises it is the
 -- last: there the rule is document 01's and the Rust's. Statements only.
 use Rattle.std.specs.Prelude.{ℕ, ◌≤◌, List, [], ◌∷◌, ◌⊎◌, ◌≡◌, length, get_or}
-use Rattle.units.specs.declared.maybe.MaybeNumber.{MaybeNumber}
 use Rattle.units.specs.declared.maybe.MaybeNumber.TheVariants as Number
 use Rattle.filters.specs.RoundTripCounter.{greatest}
 

@@ -33,7 +33,6 @@ use Rattle.guovssalu.specs.Slope.{slope_row, slope_words, slope_out}
 use Rattle.rtt.specs.Rtt.{stats_tests, given_number, new_faults, new_number, stats_new, new_left, update_faults, update_number, first_sample, delay_taken, plausible, adjusted, later_sample, update_next, update_left, minimum_shown}
 use Rattle.state.specs.Faults.{first}
 use Rattle.trips.specs.Trips as Trips
-use Rattle.words.specs.Word.{flag_word, flag_of, flag_fits}
 
 pub export_examples_lem : all export_examples ≡ true
 unfolding all export_examples is_replaced raised shifted lingers renewed aged windowed_number windowed_update raised_reason shifted_reason renewed_reason aged_reason windowed_reason number_at low_bytes all_bytes after_pair refuses samples pair_words run_words run_row run_out row_of or_short answered slope_row slope_words slope_out model_row encodes_none is_state same_words words_at model_from model_words cycle_from cycle_words left_by words_left answers_to answers_from state_out answers_out to_bits of_bits

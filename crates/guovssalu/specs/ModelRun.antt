@@ -3,7 +3,7 @@
 -- `model_row` its row; `answers_out` and `state_out` are the bytes that they leave; one call is `outcome_of` in
 -- crates/dispatch/specs/Outcome.antt. A run in bytes that begins with a start is worked out in Examples.antt
 -- (`start_examples`), four with events, one of them with lists, in crates/theorems/specs/Examples.antt.
-use Rattle.std.specs.Prelude.{ℕ, zero, suc, ◌+◌, ◌*◌, ◌/◌, ◌%◌, Bool, false, not, ◌&&◌, ◌||◌, List, [], ◌∷◌, ◌++◌, ltb, eqb, length}
+use Rattle.std.specs.Prelude.{ℕ, zero, suc, ◌+◌, ◌*◌, ◌/◌, ◌%◌, Bool, not, ◌&&◌, ◌||◌, List, [], ◌∷◌, ◌++◌, ltb, eqb, length}
 use Rattle.state.specs.declared.network_model.NetworkModel.{NetworkModel}
 use Rattle.state.specs.Faults.{list_length, unless, first, replied}
 use Rattle.state.specs.Refusals.{no_rows, stored, argument, first_of, or_short}

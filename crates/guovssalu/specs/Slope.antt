@@ -1,6 +1,6 @@
 -- The exported slope: document 01, "One event, in order", Slope: "growth is 2^rounds; rounds become min(rounds + 1,
 -- 30); probe_up_bytes is max(window / growth, 1300)". It is the cycle's rule, on the two numbers that it reads.
-use Rattle.std.specs.Prelude.{ℕ, not, false, List, [], ◌∷◌, length, ltb}
+use Rattle.std.specs.Prelude.{ℕ, not, List, [], ◌∷◌, length, ltb}
 use Rattle.state.specs.Bounds.{bytes_ok}
 use Rattle.state.specs.Faults.{a_window, unless, first, replied}
 use Rattle.state.specs.Refusals.{no_rows, stored, argument, first_of, or_short}

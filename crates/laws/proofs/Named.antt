@@ -1,10 +1,10 @@
 -- Each call names the first of its faults (specs/Named.antt): a line a call. Assumes nothing.
 use Prim.Native.Nat.{ℕ, zero, suc, ◌<◌}
-use mathlib.Core.Bool.{Bool, true, false, cond, not, true≢false}
+use mathlib.Core.Bool.{Bool, true, false, not, true≢false}
 use mathlib.Core.List.{List, [], ◌∷◌}
 use mathlib.Core.Path.{◌≡◌, refl, sym, ap, ◌∙◌}
 use native.Mathlib.Omega.{arith}
-use borrow.Author.Tests.{eq-eqb, ne_eqb, eqb-true, not-false}
+use borrow.Author.Tests.{eq-eqb, ne_eqb, eqb-true}
 use lib.Dec.{eqb}
 use lib.ListN.{get_or}
 use Rattle.units.specs.declared.reply.Reply.{Reply}
@@ -19,8 +19,7 @@ use Rattle.changes.specs.Changes.{sent_number, postpone_number}
 use Rattle.events.specs.Event.{event_number, finish_number}
 use Rattle.judge.specs.Judge.{judged_number, growth_full, queue_number}
 use Rattle.phases.specs.Phases.{entry_number, slope_number}
-use Rattle.laws.specs.Replies.{Exactly}
-use Rattle.laws.specs.Named.{IsFirst, Firsts, Names, EveryFault}
+use Rattle.laws.specs.Named.{IsFirst, Names, EveryFault}
 use Rattle.laws.proofs.Replies.{exactly}
 
 -- ---- what `first` is

@@ -14,7 +14,7 @@ use Rattle.units.specs.declared.maybe.MaybeNumber.TheVariants as Number
 use Rattle.units.specs.declared.maybe.MaybeBandwidth.TheVariants.{Unset, Set}
 use Rattle.units.specs.declared.maybe.MaybeDuration.TheVariants as Length
 use Rattle.words.specs.declared.maybe.Maybe.{Maybe}
-use Rattle.words.specs.Word.{word, flag_word, flag_of, flag_fits, float_word, float_of}
+use Rattle.words.specs.Word.{flag_word, flag_of, flag_fits, float_word, float_of}
 use Rattle.words.specs.Maybe.{unset, held, is_unset, number_in, bandwidth_maybe, bandwidth_of, plain_maybe, plain_of, length_maybe, length_of}
 use Rattle.layout.specs.NetworkModel.{model_from, model_words}
 use Rattle.layout.specs.Cycle.{cycle_from, cycle_words, phase_word, phase_of}

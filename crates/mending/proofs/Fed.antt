@@ -16,14 +16,13 @@ use Rattle.trace.specs.Stream.{lines_from, rest_from, kept_of}
 use Rattle.trace.specs.Output.{input_header}
 use Rattle.trace.specs.Pieces.{joined}
 use Rattle.trace.proofs.Pieces.{Alike, alike, longs, lines_in, rest_in, any_pieces}
-use Rattle.trace.proofs.Whole.{any_cut_rest, none_rest, held_lines, held_rest, kept_none}
+use Rattle.trace.proofs.Whole.{any_cut_rest, held_lines, held_rest, kept_none}
 use Rattle.mending.specs.declared.mend.Mend.{Mend}
-use Rattle.mending.specs.declared.mend.Sorted.{Sorted}
-use Rattle.mending.specs.Mend.{kept_lines, listed_lines, last_line, all_lines, entries_text, mended_of, list_header, list_of}
+use Rattle.mending.specs.Mend.{kept_lines, listed_lines, last_line, all_lines, mended_of, list_header, list_of}
 use Rattle.mending.specs.Sorted.{unread, sorted_as, sorted, kept_text, list_text}
 use Rattle.mending.specs.Pieces.{mend_after, kept_texts, list_texts, Fed, unfed, fed_lines, fed_piece, fed_pieces, fed_end}
 use Rattle.mending.proofs.Lines.{kept_few}
-use Rattle.mending.proofs.Beside.{beside_begin, kept_follows, list_follows, Counts, count_follows}
+use Rattle.mending.proofs.Beside.{beside_begin, kept_follows, list_follows, count_follows}
 use Rattle.mending.proofs.Bytes.{rest_none}
 
 -- ---- two lists of lines, one after the other

@@ -1,5 +1,5 @@
 -- One line: what the code has, over plain variables, and its definition. Assumes nothing.
-use Prim.Native.Nat.{ℕ, ◌+◌, ◌≤◌, ◌<◌}
+use Prim.Native.Nat.{ℕ, ◌≤◌, ◌<◌}
 use mathlib.Core.Bool.{Bool, true, false, cond, true≢false}
 use mathlib.Core.List.{List, []}
 use mathlib.Core.Path.{◌≡◌, refl, sym, ap, ◌∙◌}
@@ -10,7 +10,6 @@ use lib.ListN.{length}
 use borrow.Author.Tests.{leb-true, leb-false}
 use Rattle.text.specs.declared.line.Line.{Line}
 use Rattle.text.specs.declared.line.Line.TheVariants.{Refused}
-use Rattle.text.specs.Line.{line_of}
 use Rattle.text.proofs.Lines.{line_long}
 use Rattle.rows.specs.Digits.{Put}
 use Rattle.rows.specs.Entry.{entry_text}

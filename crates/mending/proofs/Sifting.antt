@@ -16,7 +16,6 @@ use Rattle.trace.specs.Stream.{lines_from}
 use Rattle.trace.proofs.Streams.{to_lf, line_none, line_split, line_length}
 use Rattle.mending.specs.declared.mend.Mend.{Mend}
 use Rattle.mending.specs.declared.mend.Sorted.{Sorted}
-use Rattle.mending.specs.declared.sift.Sifted.{Sifted}
 use Rattle.mending.specs.Sorted.{sorted, kept_text, list_text}
 use Rattle.mending.specs.Sift.{Sift, sifting, sifted, has_room, sift_of, Sifts}
 

@@ -1,6 +1,5 @@
 -- What holds of every mended trace: document 02, request k. Statements only; proofs/ proves them.
 use Rattle.std.specs.Prelude.{ℕ, ◌+◌, ◌-◌, ◌^◌, ◌≤◌, ◌<◌, true, cond, List, [], ◌∷◌, ◌++◌, map, ◌≡◌, length, drop}
-use Rattle.text.specs.declared.line.Line.{Line}
 use Rattle.text.specs.declared.line.Line.TheVariants.{Refused}
 use Rattle.text.specs.Line.{line_of}
 use Rattle.rows.specs.declared.row.Row.{Row}

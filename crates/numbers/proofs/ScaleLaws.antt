@@ -1,5 +1,5 @@
 -- The laws of `scaled` and `scaled_f64`: what lies between a floor and a ceiling, cut or rounded to a whole number. Assumes nothing.
-use Rattle.std.proofs.Common.{◌≡◌, ℕ, ◌+◌, ◌-◌, ◌*◌, ◌/◌, ◌^◌, ◌<◌, ◌≤◌, min, Bool, true, false, ◌&&◌, ◌||◌, T, eqb, ltb, ◌⊎◌, ℤ, pos, sym, refl, ap, ◌∙◌, subst, inl, inr, le_trans, le_of_eq, le_of_suc-le-suc, lt_of_le_of_lt, le_of_lt, mul-le-mul_right, mul_assoc, mul_comm, div-lt_iff_lt-mul, mul-le-mul, le_antisymm, lt_of_mul-lt-mul_right, eq-or-lt_of_le, mul-le-mul_left, mul-lt-mul_of_pos_right, mul-pos, one-mul, mul-zero, le-div_iff_mul-le, zero-mul, mul-one, div-mul-le_self, arith, lit<, lit≤, eqb→eq, pow_pos, ltb-true}
+use Rattle.std.proofs.Common.{◌≡◌, ℕ, ◌+◌, ◌-◌, ◌*◌, ◌/◌, ◌^◌, ◌<◌, ◌≤◌, min, Bool, true, false, ◌&&◌, ◌||◌, T, eqb, ltb, ℤ, pos, sym, refl, ap, ◌∙◌, subst, inl, inr, le_trans, le_of_eq, le_of_suc-le-suc, lt_of_le_of_lt, le_of_lt, mul-le-mul_right, mul_assoc, mul_comm, div-lt_iff_lt-mul, mul-le-mul, le_antisymm, lt_of_mul-lt-mul_right, eq-or-lt_of_le, mul-le-mul_left, mul-lt-mul_of_pos_right, mul-pos, one-mul, mul-zero, le-div_iff_mul-le, zero-mul, mul-one, div-mul-le_self, arith, lit<, lit≤, eqb→eq, pow_pos, ltb-true}
 use native.Mathlib.Nat.{div-le_of_le-mul, lt-div-mul-add, le-min, min-le_left, min-eq_left, div-eq_of_lt, eq_of_mul-eq-mul_right}
 use lib.Ieee.{Float, nan, inf, fin, Format, binary32, binary64, prec, low, unlike, up, down, round, mul, of_int, to_unsigned, le, lt, eq}
 use lib.Ieee.Exact.{HasValue}

@@ -1,8 +1,8 @@
 -- The faults of two calls that differ in their acked numbers alone, and of a call with and without the lists that a run was lent. Assumes nothing.
 use Prim.Native.Nat.{ℕ}
-use mathlib.Core.Bool.{true, false}
+use mathlib.Core.Bool.{false}
 use mathlib.Core.List.{List, ◌++◌}
-use mathlib.Core.Path.{◌≡◌, refl, sym}
+use mathlib.Core.Path.{◌≡◌, refl}
 use lib.Dec.{eqb}
 use lib.ListN.{length, get_or}
 use Rattle.units.specs.declared.time.Moment.{Moment}

@@ -1,25 +1,24 @@
 -- The faults of a call in words are there exactly where its row 2 holds: of its records, its floats and its flags. Assumes nothing.
-use Prim.Native.Nat.{ℕ, ◌+◌, ◌^◌}
+use Prim.Native.Nat.{ℕ, ◌^◌}
 use mathlib.Core.Bool.{Bool, true, false, cond, ◌&&◌, ◌||◌}
 use mathlib.Core.List.{List, [], ◌∷◌}
 use mathlib.Core.Path.{◌≡◌, refl, sym, ap, ◌∙◌}
-use lib.Dec.{leb, ltb, eqb}
-use lib.Ieee.{Float, nan, binary32, of_bits, le}
+use lib.Dec.{ltb, eqb}
+use lib.Ieee.{nan, binary32, of_bits, le}
 use Rattle.units.specs.declared.bandwidth.Bandwidth.{Bandwidth}
-use Rattle.units.specs.declared.time.Moment.{Moment}
 use Rattle.units.specs.declared.maybe.MaybeBandwidth.TheVariants.{Unset, Set}
 use Rattle.units.specs.declared.maybe.MaybeDuration.TheVariants as Length
 use Rattle.state.specs.declared.congestion_event.CongestionEvent.{CongestionEvent}
 use Rattle.state.specs.declared.congestion_event.CongestionEventSample.{CongestionEventSample}
 use Rattle.state.specs.declared.faults.RecordFits.{RecordFits}
 use Rattle.state.specs.declared.faults.SampleFits.{SampleFits}
-use Rattle.state.specs.Bounds.{bytes_ok, total_ok, moment_ok, bandwidth_ok, maybe_ok, gain_ok, within, all}
+use Rattle.state.specs.Bounds.{bytes_ok, total_ok, moment_ok, bandwidth_ok, maybe_ok, gain_ok, within}
 use Rattle.state.specs.CongestionEvent.{maybe_length_ok, event_tests, event_ok, sample_tests, sample_ok}
 use Rattle.state.specs.Faults.{list_length, unless, first, record_faults, sample_faults, started_faults, gain_faults, bdp_faults, down_faults}
 use Rattle.state.proofs.Rows.{and_left, and_right, and_both, all_at}
 use Rattle.state.proofs.Complete.{Test, faults_from, every, more, complete, test_at, every_at, same_test, and_one, and_two, and_three, all_right, all_right_lem}
 use Rattle.words.specs.Word.{word, or_outside, flag_of, flag_fits, float_of, float_fits}
-use Rattle.words.specs.Maybe.{is_unset, number_in, maybe_fits, bandwidth_of, length_of}
+use Rattle.words.specs.Maybe.{is_unset, maybe_fits, bandwidth_of, length_of}
 use Rattle.arguments.specs.CongestionEvent.{event_fits, event_from_word, event_from}
 use Rattle.arguments.specs.Sample.{acked_fits, sample_fits, sample_from}
 use Rattle.places.specs.Places.{record_fits, record_in, sample_fits_in, sample_in}

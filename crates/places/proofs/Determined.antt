@@ -1,5 +1,5 @@
 -- Any two replies that the contract of a public function allows coincide, about what its contract says (`Reads.Learnt`).
-use mathlib.Core.Path.{◌≡◌, sym, ◌∙◌}
+use mathlib.Core.Path.{sym, ◌∙◌}
 use Rattle.numbers.specs.OneReply.{OneReply}
 use Rattle.places.proofs.places as places
 

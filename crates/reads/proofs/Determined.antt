@@ -1,5 +1,5 @@
 -- Any two replies that the contract of a public function allows coincide: a line for each, about what its contract says (`Reads.Learnt`).
-use mathlib.Core.Path.{◌≡◌, sym, ◌∙◌}
+use mathlib.Core.Path.{sym, ◌∙◌}
 use Rattle.numbers.specs.OneReply.{OneReply}
 use Rattle.state.proofs.Determined.{number, bandwidthread, lengthread, momentread, flag, gainread, one_reply, by_stored, by_stored_with}
 use Rattle.reads.proofs.reads as reads

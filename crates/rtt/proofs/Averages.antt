@@ -1,5 +1,5 @@
 -- One sample on the stored averages and on the exact ones, over plain numbers. d is 8^past, f is 7^past. Assumes nothing.
-use Prim.Native.Nat.{ℕ, ◌+◌, ◌-◌, ◌*◌, ◌/◌, ◌≤◌, ◌<◌}
+use Prim.Native.Nat.{ℕ, ◌+◌, ◌-◌, ◌*◌, ◌≤◌, ◌<◌}
 use mathlib.Core.Path.{◌≡◌, ap₂, ◌∙◌}
 use native.Mathlib.Nat.{add-mul, mul_comm, mul-sub, mul-le-mul_right}
 use native.Mathlib.Omega.{arith}

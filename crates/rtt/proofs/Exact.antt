@@ -13,7 +13,7 @@ use Rattle.state.specs.Bounds.{length_ok}
 use Rattle.state.proofs.Rows.{row_stored, row_argument, and_left, and_right, all_at}
 use Rattle.rtt.specs.declared.rtt.RttStats.{RttStats}
 use Rattle.rtt.specs.Rtt.{stats_tests, stats_ok, given_number, new_number, stats_new, new_left, update_number, first_sample, smoothed_after, variation_after, plausible, adjusted, later_sample, update_next, update_left, delay_taken, delay_number, delay_next, delay_left}
-use Rattle.rtt.specs.Exact.{Step, begins, updates, limits, other, Sample, Ran, sample_of, taken_by, begun, step, go_on, ran, Exact, exact_first, exact_next, exactly, NearSmoothed, NearVariation, least, largest, Follows, Promised, Holds, EveryRun}
+use Rattle.rtt.specs.Exact.{Step, begins, updates, limits, other, Sample, Ran, sample_of, taken_by, begun, step, go_on, Exact, exact_first, exact_next, exactly, NearSmoothed, NearVariation, least, largest, Follows, Promised, Holds, EveryRun}
 use Rattle.rtt.proofs.Averages.{still_not_above, still_below, above_on, below_on, smoothed_within, variation_within}
 
 -- ---- the exact averages

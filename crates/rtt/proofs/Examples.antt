@@ -1,9 +1,9 @@
 -- The estimator worked out: by computing. Assumes nothing.
-use Prim.Native.Nat.{ℕ, min, ◌+◌, ◌-◌, ◌*◌, ◌^◌}
+use Prim.Native.Nat.{min, ◌+◌, ◌-◌}
 use mathlib.Core.Bool.{Bool, true, false, cond, true≢false}
-use mathlib.Core.Path.{◌≡◌, refl, sym, ap, ◌∙◌}
+use mathlib.Core.Path.{◌≡◌, refl, sym, ap}
 use native.Mathlib.Omega.{arith}
-use lib.Dec.{leb, ltb}
+use lib.Dec.{leb}
 use borrow.Author.Tests.{leb-true, leb-false, lt-ltb, ltb-true}
 use Rattle.units.specs.declared.time.Duration.{Duration}
 use Rattle.numbers.specs.Examples.{all}
@@ -12,7 +12,7 @@ use Rattle.state.specs.Faults.{first}
 use Rattle.state.specs.Refusals.{row_of}
 use Rattle.rtt.specs.Rtt.{stats_tests, given_number, new_faults, new_number, stats_new, new_left, update_faults, update_number, first_sample, lesser, delay_taken, plausible, adjusted, later_sample, update_next, update_left, delay_number, minimum_shown}
 use Rattle.rtt.specs.Exact.{taken_by}
-use Rattle.rtt.specs.Examples.{ns, rtt_examples, exact_of, low_smoothed, low_variation, high_variation, after, Worked}
+use Rattle.rtt.specs.Examples.{ns, rtt_examples, low_smoothed, low_variation, high_variation, Worked}
 
 pub rtt_examples_lem : all rtt_examples ≡ true
 unfolding all rtt_examples settled first row_of stats_tests given_number new_faults new_number stats_new new_left update_faults update_number first_sample delay_taken plausible adjusted later_sample update_next update_left delay_number minimum_shown taken_by

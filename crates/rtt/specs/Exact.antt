@@ -11,7 +11,6 @@
 -- `abbrev`, `unfoldable`, `pub` and `use` add nothing to what is said.
 use Rattle.std.specs.Prelude.{ℕ, suc, min, max, ◌+◌, ◌*◌, ◌^◌, ◌≤◌, ◌<◌, Bool, true, false, cond, List, [], ◌∷◌, ◌≡◌, eqb}
 use Rattle.units.specs.declared.time.Duration.{Duration}
-use Rattle.state.specs.Bounds.{length_ok}
 use Rattle.rtt.specs.declared.rtt.RttStats.{RttStats}
 use Rattle.rtt.specs.Rtt.{stats_ok, new_left, adjusted, distance, update_number, update_left, delay_left}
 

@@ -2,7 +2,6 @@
 -- RFC 9002 would answer something else; then three runs in which the averages come near to their bounds, so that no
 -- smaller whole number would bound them. Statements only; Exact.antt says how to read them.
 use Rattle.std.specs.Prelude.{ℕ, zero, suc, ◌+◌, ◌*◌, ◌^◌, ◌<◌, Bool, true, false, not, List, [], ◌∷◌, ◌≡◌, eqb}
-use Rattle.numbers.specs.Examples.{all}
 use Rattle.units.specs.declared.maybe.MaybeDuration.{MaybeDuration}
 use Rattle.units.specs.declared.maybe.MaybeDuration.TheVariants.{Unset, Set}
 use Rattle.units.specs.declared.time.Duration.{Duration}

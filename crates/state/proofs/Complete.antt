@@ -1,5 +1,5 @@
 -- The faults of a call are there exactly where its row 2 holds: list by list. Laws over plain variables. Assumes nothing.
-use Prim.Native.Nat.{ℕ, zero, suc, ◌+◌, ◌*◌, ◌<◌}
+use Prim.Native.Nat.{ℕ, zero, suc, ◌+◌, ◌*◌}
 use mathlib.Core.Bool.{Bool, true, false, cond, ◌&&◌}
 use mathlib.Core.List.{List, [], ◌∷◌}
 use mathlib.Core.Path.{◌≡◌, refl, sym, ap, ◌∙◌}
@@ -15,10 +15,8 @@ use Rattle.state.specs.CongestionEvent.{maybe_length_ok, event_tests, event_ok, 
 use Rattle.state.specs.Cycle.{rounds_ok}
 use Rattle.state.specs.declared.congestion_event.CongestionEvent.{CongestionEvent}
 use Rattle.state.specs.declared.congestion_event.CongestionEventSample.{CongestionEventSample}
-use Rattle.state.specs.declared.faults.RecordFits.{RecordFits}
-use Rattle.state.specs.declared.faults.SampleFits.{SampleFits}
 use Rattle.state.proofs.Rows.{and_left, and_right}
-use Rattle.state.specs.Faults.{unless, first, record_faults, whole_record, sample_faults, whole_sample, start_faults, sent_faults, started_faults, event_faults, gain_faults, bdp_faults, bdp1_faults, limit_faults, postpone_faults, down_faults, now_faults, refill_faults, up_faults, slope_faults}
+use Rattle.state.specs.Faults.{unless, first, record_faults, whole_record, sample_faults, whole_sample, start_faults, sent_faults, started_faults, gain_faults, bdp_faults, bdp1_faults, limit_faults, postpone_faults, down_faults, now_faults, refill_faults, up_faults, slope_faults}
 
 -- ---- tests with the places and kinds of their faults
 abbrev pub Test : Type 0

@@ -1,5 +1,5 @@
 -- document 01, "Replies and bounds": "Every refusal returns the state unchanged, 0 for a number, no for a yes or no".
-use Rattle.std.specs.Prelude.{ℕ, Bool, false, cond, eqb, Float}
+use Rattle.std.specs.Prelude.{ℕ, cond, eqb, Float}
 use Rattle.std.specs.Float.{binary32}
 use Rattle.std.specs.Float.Ieee.{of_bits}
 use Rattle.units.specs.declared.bandwidth.Bandwidth.{Bandwidth}

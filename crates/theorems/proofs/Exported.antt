@@ -14,7 +14,7 @@ use Rattle.state.specs.Faults.{named, replied}
 use Rattle.state.specs.Refusals.{row_of, or_short}
 use Rattle.state.proofs.Rows.{and_left, and_right}
 use Rattle.guovssalu.specs.Reply.{answered}
-use Rattle.pairs.specs.Pairs.{pairs, run_row}
+use Rattle.pairs.specs.Pairs.{run_row}
 use Rattle.guovssalu.specs.FilterRun.{run_reply, run_out}
 use Rattle.guovssalu.specs.ModelRun.{model_row, model_reply, state_out, answers_out}
 use Rattle.guovssalu.specs.Slope.{slope_row, slope_reply, slope_out}

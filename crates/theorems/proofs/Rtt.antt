@@ -1,41 +1,33 @@
 -- The exported run of the round-trip estimator (specs/Rtt.antt): by its contract, call by call, and run by run. Assumes nothing.
-use Prim.Native.Nat.{ℕ, zero, suc, ◌+◌, ◌-◌, ◌*◌, ◌%◌, ◌^◌, ◌≤◌, ◌<◌}
-use mathlib.Core.Bool.{Bool, true, false, cond, not, ◌&&◌, ◌||◌, true≢false}
+use Prim.Native.Nat.{ℕ, zero, suc, ◌+◌, ◌-◌, ◌*◌, ◌^◌, ◌≤◌, ◌<◌}
+use mathlib.Core.Bool.{Bool, true, false, cond, true≢false}
 use mathlib.Core.List.{List, [], ◌∷◌, ◌++◌, append-nil}
 use mathlib.Core.Path.{◌≡◌, refl, sym, ap, subst, ◌∙◌}
-use native.Mathlib.Nat.{add-zero, zero-add}
 use native.Mathlib.Omega.{arith}
 use lib.Dec.{eqb}
-use lib.ListN.{length, get_or, take, drop}
+use lib.ListN.{length}
 use lib.Seq.{sets}
-use borrow.Author.Tests.{eq-eqb, ne_eqb, eqb-true, ltb-false, not-false}
-use Rattle.units.specs.Reply.{row_in, reply_word}
-use Rattle.units.specs.declared.maybe.MaybeDuration.TheVariants.{Unset, Set}
+use borrow.Author.Tests.{eq-eqb, ne_eqb, eqb-true}
+use Rattle.units.specs.Reply.{row_in}
 use Rattle.units.specs.declared.time.Duration.{Duration}
 use Rattle.units.proofs.reply.Number.{row_back}
-use Rattle.state.specs.Answers.{settled, zero_length}
-use Rattle.state.specs.Bounds.{length_ok}
-use Rattle.state.specs.Faults.{unless, first, named, replied, list_length}
-use Rattle.state.specs.Refusals.{or_short}
-use Rattle.state.proofs.Rows.{or_left, and_left, and_right}
+use Rattle.state.specs.Answers.{settled}
 use Rattle.words.specs.Word.{flag_word, flag_of, flag_fits}
 use Rattle.words.specs.Words.{word_at, words_at, all_bytes}
-use Rattle.words.proofs.Back.{flag_back, flag_written}
-use Rattle.words.proofs.Laws.{AllWords, length_all_bytes, get_d_words_at, words_of_lem, words_back}
+use Rattle.words.proofs.Back.{flag_back}
+use Rattle.words.proofs.Laws.{AllWords, length_all_bytes, words_of_lem}
 use Rattle.words.proofs.Stores.{sets_whole}
 use Rattle.rtt.specs.declared.rtt.RttStats.{RttStats}
-use Rattle.rtt.specs.Rtt.{stats_ok, stats_new, new_number, new_left, update_number, update_left, delay_left, minimum_shown}
-use Rattle.rtt.specs.Exact.{Step, begins, updates, limits, other, Sample, Ran, begun, step, go_on, Promised, Holds}
+use Rattle.rtt.specs.Rtt.{stats_ok, new_left, update_number, update_left, delay_left}
+use Rattle.rtt.specs.Exact.{begins, updates, limits, other, Ran, begun, step, go_on, Holds}
 use Rattle.rtt.proofs.Exact.{lengths, update_fine, begun_holds, step_holds}
-use Rattle.trips.specs.Trips.{ns, stats_words, stats_from, stats_in, encodes_none, call_row, call_faults, call_left, length_shown, shown, answer_words, calls_in, answer_at, left_at, answers_to, left_by, rtt_row, rtt_faults}
-use Rattle.trips.proofs.Run.{length_answer}
+use Rattle.trips.specs.Trips.{ns, stats_words, stats_from, stats_in, call_left, left_at, answers_to, left_by, rtt_row}
 use Rattle.guovssalu.specs.Reply.{answered}
 use Rattle.guovssalu.specs.RttRun.{rtt_reply, rtt_answers, rtt_left, rtt_answers_out, rtt_state_out}
 use Rattle.guovssalu.proofs.RttRun.{run_room, run_whole}
 use Rattle.theorems.specs.Runs.{Each}
-use Rattle.theorems.specs.Rtt.{RttRun, RttRan, OneRttOutcome, rtt_count, RttRow, rtt_before, rtt_word, RttAccepted, rtt_step, rtt_steps, RttChained, RttStarts, RttInOrder, RttHistory, taken_before, taken_after, taken_runs, nothing, Shown, InRttBytes, InRttAnswers}
+use Rattle.theorems.specs.Rtt.{RttRun, RttRan, OneRttOutcome, rtt_count, RttRow, rtt_before, rtt_step, rtt_steps, RttChained, RttStarts, RttHistory, taken_before, taken_after, taken_runs, nothing, InRttBytes}
 use Rattle.theorems.proofs.Exported.{stored_row, below, done_word, answered_refused}
-use Rattle.theorems.proofs.Choice.{arms}
 
 -- ---- what is replied and left
 pub rtt_is : (r : RttRun) → RttRan r →

@@ -1,7 +1,7 @@
 -- What a run of the round-trip estimator writes into the answers' bytes: for each call its words, and where it is accepted, numbers of which the promises hold. Assumes nothing.
-use Prim.Native.Nat.{ℕ, zero, suc, ◌+◌, ◌-◌, ◌*◌, ◌^◌, ◌≤◌, ◌<◌}
+use Prim.Native.Nat.{ℕ, zero, suc, ◌+◌, ◌*◌, ◌^◌, ◌≤◌, ◌<◌}
 use mathlib.Core.Bool.{Bool, true, false, cond, true≢false}
-use mathlib.Core.List.{List, [], ◌∷◌, ◌++◌, append_assoc}
+use mathlib.Core.List.{List, [], ◌∷◌, ◌++◌}
 use mathlib.Core.Logic.{◌⊎◌, inl, inr}
 use mathlib.Core.Path.{◌≡◌, refl, sym, ap, subst, ◌∙◌}
 use native.Mathlib.Nat.{add-zero, zero-add}
@@ -10,7 +10,6 @@ use lib.Dec.{eqb}
 use lib.ListN.{length, get_or, length-append, get_or-append}
 use lib.Seq.{sets}
 use borrow.Author.Tests.{eq-eqb, eqb-true}
-use Rattle.units.specs.Reply.{reply_word}
 use Rattle.units.specs.declared.maybe.MaybeDuration.TheVariants.{Unset, Set}
 use Rattle.state.specs.Answers.{settled, zero_length}
 use Rattle.state.specs.Bounds.{length_ok}
@@ -21,12 +20,12 @@ use Rattle.words.proofs.Back.{flag_written}
 use Rattle.words.proofs.Laws.{AllWords, length_all_bytes, get_d_words_at, words_back}
 use Rattle.rtt.specs.declared.rtt.RttStats.{RttStats}
 use Rattle.rtt.specs.Rtt.{stats_tests, stats_ok, stats_new, new_faults, new_number, new_left, update_faults, update_number, update_left, delay_faults, delay_number, delay_left, given_number, minimum_shown}
-use Rattle.rtt.specs.Exact.{Sample, Ran, go_on, least, Promised, Holds}
+use Rattle.rtt.specs.Exact.{Sample, go_on, least, Promised}
 use Rattle.rtt.proofs.Exact.{given_fine, update_fine, fresh_within, updated_within, limited_within}
-use Rattle.trips.specs.Trips.{ns, stats_words, stats_from, stats_in, encodes_none, call_row, call_faults, call_left, length_shown, shown, answer_words, calls_in, answer_at, left_at, answers_to, left_by}
+use Rattle.trips.specs.Trips.{ns, stats_words, stats_from, stats_in, encodes_none, call_row, call_faults, call_left, length_shown, shown, answer_words, answer_at, left_at, answers_to, left_by}
 use Rattle.trips.proofs.Run.{length_answer}
 use Rattle.theorems.specs.Runs.{AreBytes}
-use Rattle.theorems.specs.Rtt.{RttRun, RttRan, RttStarts, rtt_count, rtt_rows, rtt_before, rtt_word, RttAccepted, rtt_steps, RttHistory, taken_before, taken_runs, nothing, Shown, InRttAnswers}
+use Rattle.theorems.specs.Rtt.{RttRun, RttRan, RttStarts, rtt_count, rtt_rows, rtt_before, rtt_word, rtt_steps, taken_runs, nothing, Shown, InRttAnswers}
 use Rattle.theorems.proofs.Blames.{row_below}
 use Rattle.theorems.proofs.Choice.{either}
 use Rattle.theorems.proofs.Left.{number_small}

@@ -1,22 +1,21 @@
 -- One call of a run of the round-trip estimator, and its public functions: refused exactly when the rows say, and the first fault is named (specs/Rtt.antt). Assumes nothing.
-use Prim.Native.Nat.{ℕ, ◌%◌, ◌+◌, ◌*◌, ◌^◌, ◌<◌}
+use Prim.Native.Nat.{ℕ, ◌%◌, ◌<◌}
 use mathlib.Core.Bool.{Bool, true, false, cond, not, ◌&&◌, ◌||◌, true≢false}
 use mathlib.Core.List.{List, [], ◌∷◌}
 use mathlib.Core.Path.{◌≡◌, refl, sym, ap, subst, ◌∙◌}
-use native.Mathlib.Omega.{arith}
 use borrow.Author.Tests.{eq-eqb, ne_eqb}
 use lib.Dec.{eqb}
 use lib.ListN.{length}
 use Rattle.units.specs.declared.time.Duration.{Duration}
 use Rattle.state.specs.Answers.{settled, zero_length}
 use Rattle.state.specs.Bounds.{length_ok}
-use Rattle.state.specs.Faults.{unless, first, named, replied}
+use Rattle.state.specs.Faults.{first}
 use Rattle.state.specs.declared.refusals.Rows.{Rows}
 use Rattle.state.proofs.Complete as tests
 use Rattle.state.proofs.Complete.{faults_from, complete, and_one, and_two, and_three}
 use Rattle.words.specs.Word.{flag_of, flag_fits}
 use Rattle.rtt.specs.declared.rtt.RttStats.{RttStats}
-use Rattle.rtt.specs.Rtt.{stats_ok, asked_rows, given_number, stored_number, new_faults, new_rows, new_number, stats_new, new_left, update_faults, update_number, update_next, update_left, delay_faults, delay_number, delay_next, delay_left}
+use Rattle.rtt.specs.Rtt.{given_number, stored_number, new_faults, new_number, stats_new, new_left, update_faults, update_number, update_next, update_left, delay_faults, delay_number, delay_next, delay_left}
 use Rattle.rtt.proofs.Exact.{given_fine}
 use Rattle.trips.specs.Trips.{ns, call_row, call_faults, call_left, rtt_row, rtt_faults}
 use Rattle.guovssalu.specs.RttRun.{rtt_reply}
@@ -26,7 +25,7 @@ use Rattle.laws.proofs.Replies.{exactly, answered}
 use Rattle.theorems.specs.Blames.{Named}
 use Rattle.theorems.specs.Rtt.{RttRun, RttRan, rtt_rows, RttCall, EveryRttReply}
 use Rattle.theorems.proofs.Blames.{row_below, word_named, two_some, worded, either_uneven, byte}
-use Rattle.theorems.proofs.Choice.{arms, both}
+use Rattle.theorems.proofs.Choice.{both}
 use Rattle.theorems.proofs.Rtt.{rtt_is, rtt_row_lem, rtt_row_is}
 
 flipped : (a b : Bool) → a ≡ b → not b ≡ not a

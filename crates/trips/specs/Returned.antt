@@ -2,7 +2,7 @@
 -- which no more is known than their contracts. Statements only. crates/units/specs/Outcomes.antt says how a statement
 -- speaks of a contract (`Leaves`), Exact.antt how to read the rest. crates/theorems/specs/Theorems.antt says more: it
 -- speaks of the bytes that the exported run leaves.
-use Rattle.std.specs.Prelude.{ℕ, List, [], ◌∷◌, ◌≡◌}
+use Rattle.std.specs.Prelude.{List, [], ◌∷◌, ◌≡◌}
 use Rattle.units.specs.Outcomes.{Leaves}
 use Rattle.units.specs.Reply.{number}
 use Rattle.units.specs.declared.maybe.MaybeDuration.TheVariants.{Unset, Set}

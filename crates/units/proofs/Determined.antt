@@ -1,5 +1,5 @@
 -- Any two replies that the contract of a public function allows coincide: a line for each, about what its contract says (`Reads.Learnt`).
-use Rattle.std.proofs.Common.{◌≡◌, sym, ◌∙◌}
+use Rattle.std.proofs.Common.{sym, ◌∙◌}
 use Rattle.numbers.specs.OneReply.{OneReply}
 use Rattle.units.proofs.bandwidth.Bandwidth as bandwidth-bandwidth
 use Rattle.units.proofs.reply as reply

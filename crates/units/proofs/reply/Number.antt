@@ -1,5 +1,5 @@
 -- Two replies with one number and one fault are one reply: these lead back to the reply.
-use Rattle.std.proofs.Common.{◌≡◌, ℕ, ◌+◌, ◌*◌, ◌/◌, ◌%◌, ◌<◌, Bool, true, false, cond, eqb, [], ◌∷◌, get_or, sym, refl, ap, ◌∙◌, ap₂, true≢false, arith}
+use Rattle.std.proofs.Common.{◌≡◌, ℕ, ◌<◌, Bool, true, false, cond, eqb, [], ◌∷◌, get_or, sym, refl, ap, ◌∙◌, ap₂, true≢false, arith}
 use Rattle.units.specs.declared.reply.Reply.{Reply}
 use Rattle.units.specs.declared.reply.Reply.TheVariants.{Done, OutOfBounds, BadArgument, EarlierMoment, LowerTotal, FullCounter, BadText, ShortOutput, NeverSent}
 use Rattle.units.specs.Reply.{number, fault, reply_word, row_in, fault_in}

@@ -1,5 +1,4 @@
 -- `words::get_word` meets its contract: the eight bytes, each at its place. Assumes nothing.
-use borrow.Author.Rules.{rules}
 use Rattle.words.proofs.Turns.{eight_bytes}
 use Rattle.words.proofs.get_word.Goals as goal
 

@@ -1,6 +1,5 @@
 -- `words::get_words` meets its contract. The invariant: the words that are left, stored, make the answer. Assumes nothing.
 use borrow.Author.Rules.{rules}
-use Prim.Native.Nat.{◌+◌, ◌-◌, ◌*◌, ◌≤◌}
 use mathlib.Core.Path.{◌≡◌, refl, ◌∙◌}
 use native.Mathlib.Nat.{add-zero, sub-zero, sub_self}
 use native.Mathlib.Omega.{arith}

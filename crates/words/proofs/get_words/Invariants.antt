@@ -1,15 +1,9 @@
 -- `words::get_words` meets its contract. The invariant: the words that are left, stored, make the answer. Assumes nothing.
-use borrow.Author.Rules.{rules}
 use Prim.Native.Nat.{◌+◌, ◌-◌, ◌*◌, ◌≤◌}
-use mathlib.Core.Path.{◌≡◌, refl, ◌∙◌}
-use native.Mathlib.Nat.{add-zero, sub-zero, sub_self}
-use native.Mathlib.Omega.{arith}
-use lib.ListN.{length, length-set}
+use mathlib.Core.Path.{◌≡◌}
+use lib.ListN.{length}
 use lib.Seq.{sets}
 use Rattle.words.specs.Words.{words_at}
-use Rattle.words.proofs.Stores.{sets_whole}
-use Rattle.words.proofs.Laws.{length_words_at}
-use Rattle.words.proofs.Turns.{fill_word}
 use Rattle.words.proofs.get_words.Given as goal
 
 abbrev pub invariant-loop-i : goal.invariant-loop-i

@@ -1,13 +1,9 @@
 -- `words::put_word` meets its contract. The invariant: the bytes that are left, stored, make the word. Assumes nothing.
-use borrow.Author.Rules.{rules}
 use Prim.Native.Nat.{◌+◌, ◌-◌, ◌≤◌}
-use mathlib.Core.Path.{◌≡◌, refl}
-use native.Mathlib.Nat.{add-zero}
-use native.Mathlib.Omega.{arith}
-use lib.ListN.{length, length-set}
+use mathlib.Core.Path.{◌≡◌}
+use lib.ListN.{length}
 use lib.Seq.{sets}
 use Rattle.words.specs.Words.{low_bytes, bytes}
-use Rattle.words.proofs.Turns.{write_byte}
 use Rattle.words.proofs.put_word.Given as goal
 
 abbrev pub invariant-loop-n : goal.invariant-loop-n

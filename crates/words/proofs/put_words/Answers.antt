@@ -1,10 +1,10 @@
 -- `words::put_words` meets its contract. The invariant: the bytes of the words that are left, stored, make the answer. Assumes nothing.
 use borrow.Author.Rules.{rules}
-use Prim.Native.Nat.{◌+◌, ◌-◌, ◌*◌, ◌≤◌}
+use Prim.Native.Nat.{◌+◌, ◌*◌}
 use mathlib.Core.Path.{◌≡◌, refl, ap, ◌∙◌}
 use native.Mathlib.Nat.{add-zero}
 use native.Mathlib.Omega.{arith}
-use lib.ListN.{length, drop}
+use lib.ListN.{length}
 use lib.Seq.{sets, length-sets, drop-length}
 use Rattle.words.specs.Words.{bytes, all_bytes}
 use Rattle.words.proofs.Turns.{write_word}

@@ -1,13 +1,9 @@
 -- `words::put_words` meets its contract. The invariant: the bytes of the words that are left, stored, make the answer. Assumes nothing.
-use borrow.Author.Rules.{rules}
 use Prim.Native.Nat.{◌+◌, ◌-◌, ◌*◌, ◌≤◌}
-use mathlib.Core.Path.{◌≡◌, refl, ap, ◌∙◌}
-use native.Mathlib.Nat.{add-zero}
-use native.Mathlib.Omega.{arith}
+use mathlib.Core.Path.{◌≡◌}
 use lib.ListN.{length, drop}
-use lib.Seq.{sets, length-sets, drop-length}
-use Rattle.words.specs.Words.{bytes, all_bytes}
-use Rattle.words.proofs.Turns.{write_word}
+use lib.Seq.{sets}
+use Rattle.words.specs.Words.{all_bytes}
 use Rattle.words.proofs.put_words.Given as goal
 
 abbrev pub invariant-loop-i : goal.invariant-loop-i

@@ -1,5 +1,4 @@
 -- `event_fits` meets its contract: flag by flag.
-use borrow.Author.Rules.{rules}
 use Rattle.arguments.specs.CongestionEvent.{event_fits}
 use Rattle.arguments.proofs.congestion_event.event_fits.Goals as goal
 

@@ -1,5 +1,4 @@
 -- `event_from` meets its contract: field by field.
-use borrow.Author.Rules.{rules}
 use Rattle.arguments.specs.CongestionEvent.{event_from_word}
 use Rattle.arguments.proofs.congestion_event.event_from.Goals as goal
 

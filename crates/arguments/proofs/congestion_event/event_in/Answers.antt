@@ -1,6 +1,5 @@
 -- `event_in` meets its contract: word by word.
 use mathlib.Core.Path.{refl}
-use borrow.Author.Rules.{rules}
 use Rattle.arguments.specs.CongestionEvent.{words_from}
 use Rattle.arguments.proofs.congestion_event.event_in.Goals as goal
 

@@ -1,5 +1,4 @@
 -- `event_words` meets its contract: word by word.
-use borrow.Author.Rules.{rules}
 use Rattle.arguments.specs.CongestionEvent.{event_words}
 use Rattle.arguments.proofs.congestion_event.event_words.Goals as goal
 

@@ -1,5 +1,4 @@
 -- `params_from` meets its contract: field by field.
-use borrow.Author.Rules.{rules}
 use Rattle.arguments.specs.Params.{params_from}
 use Rattle.arguments.proofs.params.params_from.Goals as goal
 

@@ -1,5 +1,4 @@
 -- `acked_fits` meets its contract: a place is tested without a sum.
-use borrow.Author.Rules.{rules}
 use Prim.Native.Nat.{◌<◌}
 use native.Mathlib.Omega.{arith}
 use lib.ListN.{get_or}

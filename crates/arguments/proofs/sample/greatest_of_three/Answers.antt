@@ -1,5 +1,4 @@
 -- `greatest_of_three` meets its contract: by the count.
-use borrow.Author.Rules.{rules}
 use Prim.Native.Nat.{ℕ, max}
 use mathlib.Core.Path.{ap, ◌∙◌}
 use Rattle.units.specs.declared.maybe.MaybeNumber.TheVariants as Number

@@ -1,5 +1,4 @@
 -- `sample_fits` meets its contract: test by test.
-use borrow.Author.Rules.{rules}
 use mathlib.Core.Path.{refl}
 use Rattle.arguments.specs.Sample.{sample_fits}
 use Rattle.arguments.proofs.Alike.{own}

@@ -1,5 +1,4 @@
 -- `sample_from` meets its contract: field by field.
-use borrow.Author.Rules.{rules}
 use mathlib.Core.Path.{refl}
 use Rattle.arguments.specs.Sample.{sample_from}
 use Rattle.arguments.proofs.Alike.{own}

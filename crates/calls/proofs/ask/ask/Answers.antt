@@ -1,5 +1,4 @@
 -- `ask` meets its contract: that of its part, with the reply's row. Assumes nothing.
-use borrow.Author.Rules.{rules}
 use mathlib.Core.Path.{◌∙◌}
 use Rattle.calls.proofs.ask.ask.Goals as goal
 

@@ -1,5 +1,4 @@
 -- `ask_one`: arm by arm. Assumes nothing.
-use borrow.Author.Rules.{rules}
 use borrow.Author.Tests.{ne_eqb}
 use Rattle.calls.specs.Ask.{ask_of}
 use Rattle.calls.proofs.ask.ask_one.Goals as goal

@@ -6,7 +6,6 @@ use Rattle.units.specs.declared.time.Moment.{Moment}
 use Rattle.units.specs.Reply.{number}
 use Rattle.state.specs.Answers.{zero_bandwidth, zero_length, zero_moment}
 use Rattle.calls.proofs.Same.{settled_same, read_as}
-use borrow.Author.Rules.{rules}
 use borrow.Author.Tests.{ne_eqb}
 use Rattle.calls.specs.Ask.{read_of}
 use Rattle.calls.proofs.ask.read.Goals as goal

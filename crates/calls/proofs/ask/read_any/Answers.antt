@@ -1,5 +1,4 @@
 -- `read_any`: by the number. Assumes nothing.
-use borrow.Author.Rules.{rules}
 use borrow.Author.Tests.{lt-ltb, le-ltb}
 use Rattle.calls.proofs.ask.read_any.Goals as goal
 

@@ -5,7 +5,6 @@ use Rattle.units.specs.Reply.{number}
 use Rattle.state.specs.Answers.{zero_gain}
 use Rattle.words.specs.Word.{flag_word, float_word}
 use Rattle.calls.proofs.Same.{settled_same, read_as, zero_gain_lem}
-use borrow.Author.Rules.{rules}
 use borrow.Author.Tests.{ne_eqb}
 use Rattle.calls.specs.Ask.{read_more}
 use Rattle.calls.proofs.ask.read_more.Goals as goal

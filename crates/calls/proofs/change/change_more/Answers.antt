@@ -1,7 +1,6 @@
 -- `change_more`: arm by arm. Assumes nothing.
 use mathlib.Core.Path.{◌∙◌}
 use Rattle.calls.proofs.Same.{settled_same}
-use borrow.Author.Rules.{rules}
 use borrow.Author.Tests.{ne_eqb}
 use Rattle.calls.specs.Change.{change_more}
 use Rattle.calls.proofs.change.change_more.Goals as goal

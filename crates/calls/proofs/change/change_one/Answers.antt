@@ -1,5 +1,4 @@
 -- `change_one`: arm by arm. Assumes nothing.
-use borrow.Author.Rules.{rules}
 use borrow.Author.Tests.{ne_eqb}
 use Rattle.calls.specs.Change.{change_of}
 use Rattle.calls.proofs.change.change_one.Goals as goal

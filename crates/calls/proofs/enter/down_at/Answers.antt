@@ -1,5 +1,4 @@
 -- `down_at`: by the two flags. Assumes nothing.
-use borrow.Author.Rules.{rules}
 use Rattle.calls.proofs.enter.down_at.Goals as goal
 
 pub returns : goal.returns

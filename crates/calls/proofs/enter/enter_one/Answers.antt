@@ -2,7 +2,6 @@
 use mathlib.Core.Path.{ap, ◌∙◌}
 use Rattle.units.specs.Reply.{number}
 use Rattle.calls.proofs.Same.{settled_same}
-use borrow.Author.Rules.{rules}
 use borrow.Author.Tests.{ne_eqb}
 use Rattle.calls.specs.Enter.{enter_of}
 use Rattle.calls.proofs.enter.enter_one.Goals as goal

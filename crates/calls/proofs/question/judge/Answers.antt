@@ -1,5 +1,4 @@
 -- `judge` meets its contract: that of its part, with the reply's row. Assumes nothing.
-use borrow.Author.Rules.{rules}
 use mathlib.Core.Path.{◌∙◌}
 use Rattle.calls.proofs.question.judge.Goals as goal
 

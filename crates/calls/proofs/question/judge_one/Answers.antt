@@ -2,7 +2,6 @@
 use mathlib.Core.Path.{ap, ◌∙◌}
 use Rattle.units.specs.Reply.{number}
 use Rattle.calls.proofs.Same.{settled_same}
-use borrow.Author.Rules.{rules}
 use borrow.Author.Tests.{ne_eqb}
 use Rattle.calls.specs.Question.{judge_of}
 use Rattle.calls.proofs.question.judge_one.Goals as goal

@@ -1,6 +1,4 @@
 -- `unknown`: the argument is bad. Assumes nothing.
-use borrow.Author.Rules.{rules}
-use Rattle.state.specs.NetworkModel.{given_number}
 use Rattle.calls.proofs.unknown.unknown.Goals as goal
 
 pub returns : goal.returns

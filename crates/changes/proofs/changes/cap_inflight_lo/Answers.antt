@@ -1,5 +1,4 @@
 -- `cap_inflight_lo` meets its contract: what its calls ensure, put together.
-use borrow.Author.Rules.{rules}
 use Rattle.state.proofs.FirstFault.{asked}
 use mathlib.Core.Path.{ap, ◌∙◌}
 use Rattle.units.specs.Reply.{number, fault}

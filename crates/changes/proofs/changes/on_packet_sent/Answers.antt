@@ -1,5 +1,4 @@
 -- `on_packet_sent` meets its contract: the reply of one part, and what the other leaves, given the test.
-use borrow.Author.Rules.{rules}
 use Rattle.changes.proofs.changes.on_packet_sent.Goals as goal
 
 pub sent_reply-reply-requires : goal.sent_reply-reply-requires

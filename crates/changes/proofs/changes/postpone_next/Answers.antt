@@ -1,5 +1,4 @@
 -- `postpone_next` meets its contract: part by part.
-use borrow.Author.Rules.{rules}
 use mathlib.Core.Path.{ap, ◌∙◌}
 use Rattle.filters.specs.MinRttFilter.{min_force}
 use Rattle.changes.specs.Changes.{postpone_next}

@@ -1,5 +1,4 @@
 -- `postpone_reply` meets its contract.
-use borrow.Author.Rules.{rules}
 use Rattle.units.specs.declared.time.Moment.{Moment}
 use Rattle.state.specs.Faults.{first, postpone_faults}
 use Rattle.state.proofs.FirstFault.{asked}

@@ -1,5 +1,4 @@
 -- `postponed` meets its contract.
-use borrow.Author.Rules.{rules}
 use Rattle.changes.specs.Changes.{postponed}
 use Rattle.changes.proofs.changes.postponed.Goals as goal
 

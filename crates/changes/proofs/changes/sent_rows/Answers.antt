@@ -1,5 +1,4 @@
 -- `sent_rows` meets its contract: row by row.
-use borrow.Author.Rules.{rules}
 use Rattle.changes.proofs.changes.sent_rows.Goals as goal
 
 pub returns : goal.returns

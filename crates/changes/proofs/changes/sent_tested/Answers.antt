@@ -1,5 +1,4 @@
 -- `sent_tested` meets its contract: part by part where it is done, and nothing where it is not.
-use borrow.Author.Rules.{rules}
 use mathlib.Core.Bool.{Bool, true, false}
 use Rattle.filters.specs.declared.round_trip_counter.RoundTripCounter.{RoundTripCounter}
 use Rattle.state.specs.declared.parts.Round.{Round}

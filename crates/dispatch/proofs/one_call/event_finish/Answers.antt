@@ -1,5 +1,4 @@
 -- `dispatch::event_finish` meets its contract: what its calls ensure, of the words that are read. Assumes nothing.
-use borrow.Author.Rules.{rules}
 use Prim.Native.Nat.{ℕ}
 use mathlib.Core.List.{List, ◌∷◌}
 use lib.Seq.{sets}
@@ -8,10 +7,6 @@ use mathlib.Core.Path.{ap, ap₂, ◌∙◌}
 use Rattle.dispatch.specs.OneCall.{call_at, call_word}
 use Rattle.state.specs.Faults.{first, replied}
 use Rattle.places.specs.Places.{faults_of}
-use mathlib.Core.Logic.{⊎_elim}
-use mathlib.Core.Path.{◌≡◌}
-use borrow.Author.Tests.{ne_eqb}
-use Rattle.dispatch.proofs.OneCall.{plain_word, blamed_word}
 use Rattle.dispatch.proofs.one_call.event_finish.Goals as goal
 
 pub finish_tested-finished-requires : goal.finish_tested-finished-requires

@@ -1,5 +1,4 @@
 -- `dispatch::event_left` meets its contract: by the reply. Assumes nothing.
-use borrow.Author.Rules.{rules}
 use Rattle.state.proofs.Settling.{done, refused}
 use mathlib.Core.Bool.{true, false}
 use mathlib.Core.Path.{refl, sym, ◌∙◌}

@@ -3,7 +3,6 @@ use borrow.Author.Rules.{rules}
 use Prim.Native.Nat.{ℕ}
 use mathlib.Core.List.{List, ◌∷◌}
 use mathlib.Core.Path.{ap, ap₂, ◌∙◌}
-use lib.ListN.{length}
 use lib.Seq.{sets}
 use Rattle.words.specs.Words.{all_bytes}
 use Rattle.words.proofs.Laws.{length_words_at}
@@ -12,10 +11,6 @@ use Rattle.dispatch.proofs.OneCall.{left_by_lem}
 use Rattle.dispatch.specs.OneCall.{call_at, call_word}
 use Rattle.state.specs.Faults.{first, replied}
 use Rattle.places.specs.Places.{faults_of}
-use mathlib.Core.Logic.{⊎_elim}
-use mathlib.Core.Path.{◌≡◌}
-use borrow.Author.Tests.{ne_eqb}
-use Rattle.dispatch.proofs.OneCall.{plain_word, blamed_word}
 use Rattle.dispatch.proofs.one_call.event_start.Goals as goal
 
 pub start_tested-happened-requires : goal.start_tested-happened-requires

@@ -1,5 +1,4 @@
 -- `dispatch::fault_at` meets its contract: of the words that are read. Assumes nothing.
-use borrow.Author.Rules.{rules}
 use Prim.Native.Nat.{ℕ}
 use mathlib.Core.List.{List, ◌++◌}
 use mathlib.Core.Path.{ap, ◌∙◌}

@@ -1,6 +1,5 @@
 -- `dispatch::other` meets its contract: what its calls ensure, of the words that are read. Assumes nothing.
-use borrow.Author.Rules.{rules}
-use mathlib.Core.Path.{◌≡◌, ap, ◌∙◌}
+use mathlib.Core.Path.{ap, ◌∙◌}
 use lib.ListN.{length}
 use lib.Seq.{sets}
 use Rattle.words.specs.Words.{all_bytes}
@@ -9,11 +8,6 @@ use Rattle.dispatch.proofs.OneCall.{length_other}
 use Prim.Native.Nat.{ℕ}
 use mathlib.Core.List.{◌∷◌}
 use Rattle.dispatch.specs.OneCall.{call_at, call_word, answer_words}
-use Rattle.state.specs.Faults.{first, replied}
-use Rattle.places.specs.Places.{faults_of}
-use mathlib.Core.Logic.{⊎_elim}
-use borrow.Author.Tests.{ne_eqb}
-use Rattle.dispatch.proofs.OneCall.{plain_word, blamed_word}
 use Rattle.dispatch.proofs.one_call.other.Goals as goal
 
 pub put_answer-requires : goal.put_answer-requires

@@ -1,5 +1,4 @@
 -- `dispatch::put_answer` meets its contract: two stores side by side are one. Assumes nothing.
-use borrow.Author.Rules.{rules}
 use Prim.Native.Nat.{ℕ, ◌+◌}
 use mathlib.Core.List.{List, [], ◌∷◌}
 use mathlib.Core.Path.{sym, ap, ◌∙◌}

@@ -1,5 +1,4 @@
 -- `dispatch::reply_word` meets its contract: by the row. Assumes nothing.
-use borrow.Author.Rules.{rules}
 use mathlib.Core.Path.{◌∙◌}
 use borrow.Author.Tests.{ne_eqb}
 use Rattle.dispatch.proofs.OneCall.{plain_word, blamed_word}

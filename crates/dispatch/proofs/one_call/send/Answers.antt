@@ -1,5 +1,4 @@
 -- `dispatch::send` meets its contract: what its calls ensure, of the four words that are read. Assumes nothing.
-use borrow.Author.Rules.{rules}
 use Prim.Native.Nat.{ℕ}
 use mathlib.Core.List.{List, ◌∷◌}
 use native.Mathlib.Omega.{arith}
@@ -7,7 +6,6 @@ use lib.Seq.{sets}
 use Rattle.words.specs.Words.{all_bytes}
 use Rattle.words.proofs.Laws.{get_d_words_at}
 use mathlib.Core.Path.{sym, ap, ap₂, ◌∙◌}
-use mathlib.Core.Logic.{⊎_elim}
 use mathlib.Core.Path.{◌≡◌}
 use borrow.Author.Tests.{ne_eqb}
 use Rattle.dispatch.proofs.OneCall.{plain_word, blamed_word}

@@ -1,6 +1,5 @@
 -- `asked`: part by part. Assumes nothing.
-use borrow.Author.Rules.{rules}
-use mathlib.Core.Path.{refl, ap, ◌∙◌}
+use mathlib.Core.Path.{refl}
 use Rattle.dispatch.specs.Outcome.{ask_outcome}
 use Rattle.dispatch.proofs.Parts.{outcome_as}
 use Rattle.dispatch.proofs.outcome.asked.Goals as goal

@@ -1,6 +1,5 @@
 -- `carry_out`: by the number. Assumes nothing.
 use mathlib.Core.Path.{sym, ◌∙◌}
-use borrow.Author.Rules.{rules}
 use borrow.Author.Tests.{eq-eqb, ne_eqb, le-leb, lt-leb}
 use Rattle.dispatch.specs.Inner.{other_outcome}
 use Rattle.dispatch.proofs.outcome.carry_out.Goals as goal

@@ -1,6 +1,5 @@
 -- `changed`: part by part. Assumes nothing.
-use borrow.Author.Rules.{rules}
-use mathlib.Core.Path.{refl, ap, ◌∙◌}
+use mathlib.Core.Path.{refl}
 use Rattle.dispatch.specs.Outcome.{change_outcome}
 use Rattle.dispatch.proofs.Parts.{outcome_as}
 use Rattle.dispatch.proofs.outcome.changed.Goals as goal

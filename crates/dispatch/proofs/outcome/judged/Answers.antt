@@ -1,5 +1,4 @@
 -- `judged`: part by part. Assumes nothing.
-use borrow.Author.Rules.{rules}
 use mathlib.Core.Path.{refl, ap, ◌∙◌}
 use Rattle.words.specs.Word.{flag_word}
 use Rattle.dispatch.specs.Outcome.{judge_outcome}

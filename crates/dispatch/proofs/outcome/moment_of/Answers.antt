@@ -1,5 +1,4 @@
 -- `moment_of`: by the reply. Assumes nothing.
-use borrow.Author.Rules.{rules}
 use Rattle.state.proofs.Settling.{done, refused}
 use Rattle.dispatch.proofs.outcome.moment_of.Goals as goal
 

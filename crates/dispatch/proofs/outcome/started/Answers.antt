@@ -1,5 +1,4 @@
 -- `started`: part by part. Assumes nothing.
-use borrow.Author.Rules.{rules}
 use mathlib.Core.Path.{refl, ap, ◌∙◌}
 use Rattle.state.proofs.Settling.{settled_as}
 use Rattle.state.specs.Cycle.{fresh_cycle}

@@ -1,5 +1,4 @@
 -- `adapt_lower_bounds` meets its contract: part by part where the bounds are cut, and as they were elsewhere.
-use borrow.Author.Rules.{rules}
 use mathlib.Core.Path.{ap, ap₂, ◌∙◌}
 use Prim.Native.Nat.{ℕ, max}
 use lib.Ieee.{of_bits}

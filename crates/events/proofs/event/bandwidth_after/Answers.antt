@@ -1,5 +1,4 @@
 -- `bandwidth_after` meets its contract: by the two cases.
-use borrow.Author.Rules.{rules}
 use Rattle.events.proofs.event.bandwidth_after.Goals as goal
 
 pub returns-then-changed : goal.returns-then-changed

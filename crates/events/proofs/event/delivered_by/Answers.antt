@@ -1,5 +1,4 @@
 -- `delivered_by` meets its contract: by the test.
-use borrow.Author.Rules.{rules}
 use mathlib.Core.Path.{◌∙◌}
 use Rattle.events.specs.Event.{delivered_by}
 use Rattle.state.proofs.Laws.{arm_true, arm_false}

@@ -1,6 +1,5 @@
 -- `event_after` meets its contract: part by part.
-use borrow.Author.Rules.{rules}
-use mathlib.Core.Path.{refl, ap, ap₂, ◌∙◌}
+use mathlib.Core.Path.{ap, ap₂, ◌∙◌}
 use mathlib.Core.Bool.{Bool}
 use Prim.Native.Nat.{ℕ, ◌-◌}
 use Rattle.units.specs.declared.maybe.MaybeBandwidth.{MaybeBandwidth}

@@ -1,5 +1,4 @@
 -- `event_reply` meets its contract: by its rows and its faults.
-use borrow.Author.Rules.{rules}
 use mathlib.Core.Path.{ap}
 use Rattle.state.specs.declared.refusals.Rows.{Rows}
 use Rattle.state.specs.Refusals.{first_of}

@@ -1,5 +1,4 @@
 -- `event_rows` meets its contract: row by row.
-use borrow.Author.Rules.{rules}
 use Rattle.events.proofs.event.event_rows.Goals as goal
 
 pub returns : goal.returns

@@ -1,5 +1,4 @@
 -- `finish_reply` meets its contract.
-use borrow.Author.Rules.{rules}
 use Rattle.state.proofs.FirstFault.{asked}
 use Rattle.events.specs.Event.{finish_number}
 use Rattle.events.proofs.event.finish_reply.Goals as goal

@@ -1,5 +1,4 @@
 -- `finish_row` meets its contract.
-use borrow.Author.Rules.{rules}
 use mathlib.Core.Path.{◌∙◌}
 use Rattle.events.specs.Event.{finish_number}
 use Rattle.events.proofs.event.finish_row.Goals as goal

@@ -1,5 +1,4 @@
 -- `is_unsent` meets its contract: by the two cases.
-use borrow.Author.Rules.{rules}
 use Rattle.events.specs.Event.{is_unsent}
 use Rattle.events.proofs.NeverSent.{one_unsent}
 use Rattle.events.proofs.event.is_unsent.Goals as goal

@@ -1,5 +1,4 @@
 -- `latest_after` meets its contract: by whether the round ended.
-use borrow.Author.Rules.{rules}
 use Rattle.events.specs.Event.{latest_after}
 use Rattle.events.proofs.event.latest_after.Goals as goal
 

@@ -1,6 +1,5 @@
 -- `latest_next` meets its contract.
-use borrow.Author.Rules.{rules}
-use mathlib.Core.Path.{refl, ap, ap₂, ◌∙◌}
+use mathlib.Core.Path.{ap, ◌∙◌}
 use Rattle.state.specs.declared.parts.Latest.{Latest}
 use Rattle.events.specs.Event.{latest_after}
 use Rattle.events.proofs.event.latest_next.Goals as goal

@@ -1,5 +1,4 @@
 -- `latest_raised` meets its contract.
-use borrow.Author.Rules.{rules}
 use Rattle.events.specs.Event.{latest_raised}
 use Rattle.events.proofs.event.latest_raised.Goals as goal
 

@@ -1,5 +1,4 @@
 -- `maxbw_after` meets its contract: by the cases of the sample.
-use borrow.Author.Rules.{rules}
 use Rattle.events.proofs.event.maxbw_after.Goals as goal
 
 pub returns-then-changed-limited : goal.returns-then-changed-limited

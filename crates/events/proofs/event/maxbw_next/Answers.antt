@@ -1,6 +1,5 @@
 -- `maxbw_next` meets its contract.
-use borrow.Author.Rules.{rules}
-use mathlib.Core.Path.{refl, ap, ap₂, ◌∙◌}
+use mathlib.Core.Path.{ap, ◌∙◌}
 use mathlib.Core.Bool.{Bool}
 use Rattle.events.specs.Event.{maxbw_next, maxbw_after}
 use Rattle.events.proofs.event.maxbw_next.Goals as goal

@@ -1,5 +1,4 @@
 -- `minrtt_after` meets its contract: by the two cases.
-use borrow.Author.Rules.{rules}
 use Rattle.events.proofs.event.minrtt_after.Goals as goal
 
 pub returns : goal.returns

@@ -1,5 +1,4 @@
 -- `on_congestion_event_finish` meets its contract: the reply of one part, and what the other leaves, given the test.
-use borrow.Author.Rules.{rules}
 use Rattle.events.proofs.event.on_congestion_event_finish.Goals as goal
 
 pub finish_reply-reply-requires : goal.finish_reply-reply-requires

@@ -1,5 +1,4 @@
 -- `on_congestion_event_start` meets its contract: that of its part, given the test, and of the list the greatest number.
-use borrow.Author.Rules.{rules}
 use mathlib.Core.Bool.{true}
 use mathlib.Core.Path.{ap, ap₂, ◌∙◌}
 use Prim.Native.Nat.{ℕ}

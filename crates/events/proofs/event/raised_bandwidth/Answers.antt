@@ -1,5 +1,4 @@
 -- `raised_bandwidth` meets its contract: by the two cases.
-use borrow.Author.Rules.{rules}
 use Rattle.events.proofs.event.raised_bandwidth.Goals as goal
 
 pub returns : goal.returns

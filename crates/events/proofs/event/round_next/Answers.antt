@@ -1,6 +1,5 @@
 -- `round_next` meets its contract.
-use borrow.Author.Rules.{rules}
-use mathlib.Core.Path.{refl, ap, ap₂, ◌∙◌}
+use mathlib.Core.Path.{ap, ◌∙◌}
 use Prim.Native.Nat.{ℕ}
 use Rattle.events.specs.Event.{round_next, round_after}
 use Rattle.events.proofs.event.round_next.Goals as goal

@@ -1,5 +1,4 @@
 -- `rtt_after` meets its contract: by the two cases.
-use borrow.Author.Rules.{rules}
 use Rattle.events.proofs.event.rtt_after.Goals as goal
 
 pub returns : goal.returns

@@ -1,5 +1,4 @@
 -- `greatest_of` meets its contract: of no numbers there is none, and of others it is the first or one of the rest.
-use borrow.Author.Rules.{rules}
 use mathlib.Core.Path.{ap, ◌∙◌}
 use Rattle.units.specs.declared.maybe.MaybeNumber.TheVariants as Number
 use Rattle.filters.proofs.Greatest.{none, some}

@@ -1,5 +1,4 @@
 -- `is_past` follows the end's case.
-use borrow.Author.Rules.{rules}
 use Rattle.filters.proofs.round_trip_counter.is_past.Goals as goal
 
 pub returns : goal.returns

@@ -1,10 +1,7 @@
 -- `most_of_few` is a fold. The invariant: the fold of what is left, from the greatest so far, is the fold of all.
 use borrow.Author.Rules.{rules}
-use Prim.Native.Nat.{◌-◌, ◌≤◌}
-use mathlib.Core.Path.{◌≡◌, refl, sym, ◌∙◌}
+use mathlib.Core.Path.{refl, sym, ◌∙◌}
 use native.Mathlib.Omega.{arith}
-use lib.ListN.{length, drop}
-use Rattle.filters.specs.RoundTripCounter.{most_of}
 use Rattle.filters.proofs.Greatest.{turn, over}
 use Rattle.filters.proofs.round_trip_counter.most_of_few.Goals as goal
 

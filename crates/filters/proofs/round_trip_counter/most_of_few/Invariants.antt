@@ -1,11 +1,8 @@
 -- `most_of_few` is a fold. The invariant: the fold of what is left, from the greatest so far, is the fold of all.
-use borrow.Author.Rules.{rules}
 use Prim.Native.Nat.{◌-◌, ◌≤◌}
-use mathlib.Core.Path.{◌≡◌, refl, sym, ◌∙◌}
-use native.Mathlib.Omega.{arith}
+use mathlib.Core.Path.{◌≡◌}
 use lib.ListN.{length, drop}
 use Rattle.filters.specs.RoundTripCounter.{most_of}
-use Rattle.filters.proofs.Greatest.{turn, over}
 use Rattle.filters.proofs.round_trip_counter.most_of_few.Given as goal
 
 abbrev pub invariant-loop-i : goal.invariant-loop-i

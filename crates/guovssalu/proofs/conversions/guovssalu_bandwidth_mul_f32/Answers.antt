@@ -1,5 +1,4 @@
 -- `guovssalu_bandwidth_mul_f32` meets its contract: what its two calls ensure, one put into the other. Assumes nothing.
-use borrow.Author.Rules.{rules}
 use Rattle.guovssalu.proofs.conversions.guovssalu_bandwidth_mul_f32.Goals as goal
 
 pub returns : goal.returns

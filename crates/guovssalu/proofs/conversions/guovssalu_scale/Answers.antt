@@ -1,5 +1,4 @@
 -- `guovssalu_scale` meets its contract: what its two calls ensure, one put into the other. Assumes nothing.
-use borrow.Author.Rules.{rules}
 use mathlib.Core.Path.{ap, ◌∙◌}
 use Rattle.numbers.specs.Scaling.{scaled}
 use Rattle.guovssalu.proofs.conversions.guovssalu_scale.Goals as goal

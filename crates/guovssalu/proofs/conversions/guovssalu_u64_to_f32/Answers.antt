@@ -1,5 +1,4 @@
 -- `guovssalu_u64_to_f32` meets its contract: what its two calls ensure, one put into the other. Assumes nothing.
-use borrow.Author.Rules.{rules}
 use mathlib.Core.Path.{ap, ◌∙◌}
 use lib.Ieee.{binary32, to_bits}
 use Rattle.guovssalu.proofs.conversions.guovssalu_u64_to_f32.Goals as goal

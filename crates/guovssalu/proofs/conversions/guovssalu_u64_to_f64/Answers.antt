@@ -1,5 +1,4 @@
 -- `guovssalu_u64_to_f64` meets its contract: what its two calls ensure, one put into the other. Assumes nothing.
-use borrow.Author.Rules.{rules}
 use mathlib.Core.Path.{ap, ◌∙◌}
 use lib.Ieee.{binary64, to_bits}
 use Rattle.guovssalu.proofs.conversions.guovssalu_u64_to_f64.Goals as goal

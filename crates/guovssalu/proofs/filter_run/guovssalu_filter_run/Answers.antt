@@ -1,5 +1,4 @@
 -- `guovssalu_filter_run` meets its contract: it stops at a refusal, or writes the answer. Assumes nothing.
-use borrow.Author.Rules.{rules}
 use mathlib.Core.Bool.{not}
 use mathlib.Core.Path.{ap}
 use Rattle.filters.specs.WindowedFilter.{windowed_new}

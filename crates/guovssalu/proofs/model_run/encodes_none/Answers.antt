@@ -1,8 +1,6 @@
 -- `guovssalu::encodes_none` meets its contract: by its one test. Assumes nothing.
-use borrow.Author.Rules.{rules}
 use borrow.Author.Tests.{eq-eqb, ne_eqb}
 use mathlib.Core.Bool.{not}
-use mathlib.Core.List.{List}
 use mathlib.Core.Path.{ap, ◌∙◌}
 use Rattle.layout.specs.StateWords.{is_state}
 use Rattle.guovssalu.specs.ModelRun.{encodes_none}

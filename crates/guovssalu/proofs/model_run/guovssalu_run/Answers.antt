@@ -1,5 +1,4 @@
 -- `guovssalu_run` meets its contract: that of the run with lists, of none. Assumes nothing.
-use borrow.Author.Rules.{rules}
 use mathlib.Core.Path.{refl}
 use Rattle.guovssalu.proofs.model_run.guovssalu_run.Goals as goal
 

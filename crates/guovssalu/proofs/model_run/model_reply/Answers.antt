@@ -1,5 +1,4 @@
 -- `guovssalu::model_reply` meets its contract: what the tests ensure, put into the rows. Assumes nothing.
-use borrow.Author.Rules.{rules}
 use mathlib.Core.Path.{◌∙◌}
 use Rattle.guovssalu.specs.ModelRun.{model_row, length_faults}
 use Rattle.state.proofs.FirstFault.{asked, or_short_lem}

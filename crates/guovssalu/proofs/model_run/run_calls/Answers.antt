@@ -1,14 +1,11 @@
 -- `guovssalu::run_calls` meets its contract. The invariant: the answers to the calls that are left, stored, make the answer, those calls leave the state that is to be left, and it is known whether the model is within its bounds. Assumes nothing.
 use borrow.Author.Rules.{rules}
-use Prim.Native.Nat.{ℕ, ◌-◌, ◌*◌, ◌/◌, ◌^◌, ◌≤◌, ◌<◌}
-use mathlib.Core.List.{List}
-use mathlib.Core.Logic.{⊎_elim}
+use Prim.Native.Nat.{◌*◌, ◌/◌}
 use mathlib.Core.Path.{◌≡◌, refl, sym, ap, ◌∙◌}
 use native.Mathlib.Nat.{sub-zero, sub_self}
 use native.Mathlib.Omega.{arith}
 use lib.ListN.{length}
-use lib.Seq.{sets, length-sets}
-use Rattle.state.specs.NetworkModel.{model_ok}
+use lib.Seq.{length-sets}
 use Rattle.words.specs.Words.{all_bytes}
 use Rattle.guovssalu.specs.ModelRun.{outcome_at, answers_to, left_by}
 use Rattle.dispatch.specs.OneCall.{call_at, answer_words}

@@ -1,18 +1,11 @@
 -- `guovssalu::run_calls` meets its contract. The invariant: the answers to the calls that are left, stored, make the answer, those calls leave the state that is to be left, and it is known whether the model is within its bounds. Assumes nothing.
-use borrow.Author.Rules.{rules}
-use Prim.Native.Nat.{ℕ, ◌-◌, ◌*◌, ◌/◌, ◌^◌, ◌≤◌, ◌<◌}
-use mathlib.Core.List.{List}
-use mathlib.Core.Logic.{⊎_elim}
-use mathlib.Core.Path.{◌≡◌, refl, sym, ap, ◌∙◌}
-use native.Mathlib.Nat.{sub-zero, sub_self}
-use native.Mathlib.Omega.{arith}
+use Prim.Native.Nat.{◌-◌, ◌*◌, ◌^◌, ◌≤◌, ◌<◌}
+use mathlib.Core.Path.{◌≡◌}
 use lib.ListN.{length}
-use lib.Seq.{sets, length-sets}
+use lib.Seq.{sets}
 use Rattle.state.specs.NetworkModel.{model_ok}
 use Rattle.words.specs.Words.{all_bytes}
-use Rattle.guovssalu.specs.ModelRun.{outcome_at, answers_to, left_by}
-use Rattle.dispatch.specs.OneCall.{call_at, answer_words}
-use Rattle.guovssalu.proofs.ModelRun.{Carried, by_send, by_start, by_end, by_other, left_later, write_answer}
+use Rattle.guovssalu.specs.ModelRun.{answers_to, left_by}
 use Rattle.guovssalu.proofs.model_run.run_calls.Given as goal
 
 abbrev pub invariant-loop-i : goal.invariant-loop-i

@@ -1,11 +1,10 @@
 -- `guovssalu_rtt_run` meets its contract: it stops at a refusal, or writes the answers, then the estimator. Assumes nothing.
 use Prim.Native.Nat.{ℕ}
 use mathlib.Core.List.{List}
-use mathlib.Core.Path.{sym, ap, ◌∙◌}
+use mathlib.Core.Path.{ap, ◌∙◌}
 use native.Mathlib.Omega.{arith}
 use lib.ListN.{length}
 use lib.Seq.{sets}
-use borrow.Author.Rules.{rules}
 use mathlib.Core.Bool.{not}
 use Rattle.rtt.specs.declared.rtt.RttStats.{RttStats}
 use Rattle.trips.specs.Trips.{stats_words, calls_in, answers_to, left_by}

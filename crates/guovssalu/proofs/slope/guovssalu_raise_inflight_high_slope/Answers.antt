@@ -1,5 +1,4 @@
 -- `guovssalu_raise_inflight_high_slope` meets its contract: it stops at a refusal, or writes the answer. Assumes nothing.
-use borrow.Author.Rules.{rules}
 use mathlib.Core.Bool.{not}
 use mathlib.Core.List.{List}
 use mathlib.Core.Path.{◌≡◌, ap, ◌∙◌}

@@ -1,5 +1,4 @@
 -- `guovssalu::slope_reply` meets its contract: what the two tests ensure, put into the rows. Assumes nothing.
-use borrow.Author.Rules.{rules}
 use mathlib.Core.Path.{◌∙◌}
 use Rattle.guovssalu.specs.Slope.{slope_row, window_faults}
 use Rattle.state.proofs.FirstFault.{asked, alone, or_short_lem}

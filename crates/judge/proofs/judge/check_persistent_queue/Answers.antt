@@ -1,6 +1,5 @@
 -- `check_persistent_queue` meets its contract: by whether the call is refused.
-use borrow.Author.Rules.{rules}
-use mathlib.Core.Path.{◌≡◌, refl, sym, ap, ap₂, ◌∙◌, subst}
+use mathlib.Core.Path.{refl, sym, ap, ◌∙◌}
 use mathlib.Core.Bool.{Bool}
 use Rattle.state.specs.NetworkModel.{with_growth}
 use Rattle.judge.specs.Judge.{queue_next, queue_after}

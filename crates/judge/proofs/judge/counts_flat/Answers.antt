@@ -1,5 +1,5 @@
 -- `counts_flat` meets its contract.
-use mathlib.Core.Path.{refl, sym, ap, ap₂, ◌∙◌}
+use mathlib.Core.Path.{refl}
 use Rattle.judge.specs.Judge.{counts_flat}
 use Rattle.judge.proofs.judge.counts_flat.Goals as goal
 

@@ -1,6 +1,5 @@
 -- `decide` meets its contract: by whether the call is done.
-use borrow.Author.Rules.{rules}
-use mathlib.Core.Path.{refl, sym, ap, ap₂, ◌∙◌}
+use mathlib.Core.Path.{refl}
 use Rattle.state.proofs.Settling.{done, refused}
 use Rattle.judge.proofs.judge.decide.Goals as goal
 

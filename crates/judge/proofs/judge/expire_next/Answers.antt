@@ -1,6 +1,5 @@
 -- `expire_next` meets its contract: part by part.
-use borrow.Author.Rules.{rules}
-use mathlib.Core.Path.{refl, sym, ap, ap₂, ◌∙◌}
+use mathlib.Core.Path.{ap}
 use Rattle.state.specs.NetworkModel.{with_minrtt}
 use Rattle.judge.specs.Judge.{expire_next}
 use Rattle.judge.proofs.judge.expire_next.Goals as goal

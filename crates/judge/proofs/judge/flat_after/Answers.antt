@@ -1,6 +1,6 @@
 -- `flat_after` meets its contract: by whether the round counts.
 use borrow.Author.Rules.{rules}
-use mathlib.Core.Path.{refl, sym, ap, ap₂, ◌∙◌}
+use mathlib.Core.Path.{sym, ◌∙◌}
 use native.Mathlib.Omega.{arith}
 use Rattle.judge.specs.Judge.{flat_after}
 use Rattle.state.proofs.Laws.{not_most, arm_true, arm_false}

@@ -1,6 +1,5 @@
 -- `growth_after` meets its contract: by whether it has grown.
-use borrow.Author.Rules.{rules}
-use mathlib.Core.Path.{refl, sym, ap, ap₂, ◌∙◌}
+use mathlib.Core.Path.{sym, ◌∙◌}
 use Rattle.judge.specs.Judge.{growth_after}
 use Rattle.state.proofs.Laws.{arm_true, arm_false}
 use Rattle.judge.proofs.judge.growth_after.Goals as goal

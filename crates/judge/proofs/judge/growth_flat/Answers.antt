@@ -1,5 +1,4 @@
 -- `growth_flat` meets its contract: part by part.
-use borrow.Author.Rules.{rules}
 use Rattle.judge.specs.Judge.{growth_flat}
 use Rattle.judge.proofs.judge.growth_flat.Goals as goal
 

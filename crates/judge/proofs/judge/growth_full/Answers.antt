@@ -1,5 +1,4 @@
 -- `growth_full` meets its contract.
-use borrow.Author.Rules.{rules}
 use Rattle.judge.specs.Judge.{growth_full}
 use Rattle.judge.proofs.judge.growth_full.Goals as goal
 

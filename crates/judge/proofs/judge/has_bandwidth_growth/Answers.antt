@@ -1,8 +1,7 @@
 -- `has_bandwidth_growth` meets its contract: by whether the call is refused.
-use borrow.Author.Rules.{rules}
 use Rattle.state.proofs.FirstFault.{asked}
-use mathlib.Core.Path.{◌≡◌, refl, sym, ap, ap₂, ◌∙◌, subst}
-use mathlib.Core.Bool.{Bool, true, false}
+use mathlib.Core.Path.{◌≡◌, refl, sym, ap, ◌∙◌, subst}
+use mathlib.Core.Bool.{true, false}
 use Prim.Native.Nat.{◌-◌, ◌^◌}
 use lib.Dec.{eqb}
 use Rattle.units.specs.declared.bandwidth.Bandwidth.{Bandwidth}

@@ -1,5 +1,4 @@
 -- `has_grown` meets its contract.
-use borrow.Author.Rules.{rules}
 use Rattle.judge.specs.Judge.{has_grown}
 use Rattle.judge.proofs.judge.has_grown.Goals as goal
 

@@ -1,5 +1,4 @@
 -- `is_due` meets its contract.
-use borrow.Author.Rules.{rules}
 use Rattle.judge.specs.Judge.{is_due}
 use Rattle.judge.proofs.judge.is_due.Goals as goal
 

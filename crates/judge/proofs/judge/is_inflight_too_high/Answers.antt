@@ -1,6 +1,5 @@
 -- `is_inflight_too_high` meets its contract: what its calls ensure, put together.
-use borrow.Author.Rules.{rules}
-use mathlib.Core.Path.{refl, sym, ap, ap₂, ◌∙◌}
+use mathlib.Core.Path.{ap, ◌∙◌}
 use Rattle.units.specs.Reply.{number, fault}
 use Rattle.state.proofs.Settling.{settled_as}
 use Rattle.judge.proofs.judge.is_inflight_too_high.Goals as goal

@@ -1,5 +1,4 @@
 -- `is_too_high` meets its contract.
-use borrow.Author.Rules.{rules}
 use Rattle.judge.specs.Judge.{is_too_high}
 use Rattle.judge.proofs.judge.is_too_high.Goals as goal
 

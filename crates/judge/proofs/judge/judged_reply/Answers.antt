@@ -1,5 +1,4 @@
 -- `judged_reply` meets its contract.
-use borrow.Author.Rules.{rules}
 use Rattle.state.proofs.FirstFault.{asked, fine}
 use Rattle.judge.specs.Judge.{judged_number}
 use Rattle.judge.proofs.judge.judged_reply.Goals as goal

@@ -1,6 +1,5 @@
 -- `maybe_expire_min_rtt` meets its contract: what its calls ensure, put together.
-use borrow.Author.Rules.{rules}
-use mathlib.Core.Path.{◌≡◌, refl, sym, ap, ap₂, ◌∙◌, subst}
+use mathlib.Core.Path.{ap, ap₂, ◌∙◌}
 use mathlib.Core.Bool.{◌&&◌}
 use Rattle.units.specs.Reply.{number, fault}
 use Rattle.state.proofs.Settling.{settled_as}

@@ -1,6 +1,5 @@
 -- `minrtt_expired` meets its contract: by the two cases.
-use borrow.Author.Rules.{rules}
-use mathlib.Core.Path.{◌≡◌, refl, sym, ap, ap₂, ◌∙◌, subst}
+use mathlib.Core.Path.{sym, ◌∙◌}
 use Rattle.state.proofs.Laws.{arm_true, arm_false}
 use Rattle.judge.proofs.judge.minrtt_expired.Goals as goal
 

@@ -1,5 +1,4 @@
 -- `queue_after` meets its contract: by whether the round queues.
-use mathlib.Core.Path.{◌≡◌, refl, sym, ap, ap₂, ◌∙◌, subst}
 use borrow.Author.Rules.{rules}
 use native.Mathlib.Omega.{arith}
 use Rattle.judge.specs.Judge.{queue_after}

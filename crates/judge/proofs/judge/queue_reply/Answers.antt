@@ -1,5 +1,4 @@
 -- `queue_reply` meets its contract.
-use borrow.Author.Rules.{rules}
 use Rattle.state.proofs.FirstFault.{asked}
 use Rattle.judge.specs.Judge.{queue_number}
 use Rattle.judge.proofs.judge.queue_reply.Goals as goal

@@ -1,5 +1,4 @@
 -- `cycle_from` meets its contract: field by field.
-use borrow.Author.Rules.{rules}
 use Rattle.layout.specs.Cycle.{cycle_from}
 use Rattle.layout.proofs.cycle.cycle_from.Goals as goal
 

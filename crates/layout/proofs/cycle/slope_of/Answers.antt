@@ -1,5 +1,4 @@
 -- `slope_of` meets its contract: field by field.
-use borrow.Author.Rules.{rules}
 use Rattle.layout.proofs.cycle.slope_of.Goals as goal
 
 pub returns : goal.returns

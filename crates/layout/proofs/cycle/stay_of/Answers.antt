@@ -1,5 +1,4 @@
 -- `stay_of` meets its contract: field by field.
-use borrow.Author.Rules.{rules}
 use Rattle.layout.proofs.cycle.stay_of.Goals as goal
 
 pub returns : goal.returns

@@ -1,5 +1,4 @@
 -- `wait_of` meets its contract: field by field.
-use borrow.Author.Rules.{rules}
 use Rattle.layout.proofs.cycle.wait_of.Goals as goal
 
 pub returns : goal.returns

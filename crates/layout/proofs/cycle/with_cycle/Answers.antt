@@ -1,5 +1,4 @@
 -- `with_cycle` meets its contract: part by part.
-use borrow.Author.Rules.{rules}
 use Rattle.layout.specs.Cycle.{cycle_words}
 use Rattle.layout.proofs.cycle.with_cycle.Goals as goal
 

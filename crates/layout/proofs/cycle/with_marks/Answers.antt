@@ -1,5 +1,4 @@
 -- `with_marks` meets its contract: word by word.
-use borrow.Author.Rules.{rules}
 use Rattle.layout.proofs.cycle.with_marks.Goals as goal
 
 pub returns : goal.returns

@@ -1,5 +1,4 @@
 -- `with_slope` meets its contract: word by word.
-use borrow.Author.Rules.{rules}
 use Rattle.layout.proofs.cycle.with_slope.Goals as goal
 
 pub returns : goal.returns

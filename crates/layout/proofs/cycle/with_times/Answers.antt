@@ -1,5 +1,4 @@
 -- `with_times` meets its contract: word by word.
-use borrow.Author.Rules.{rules}
 use Rattle.layout.proofs.cycle.with_times.Goals as goal
 
 pub returns : goal.returns

@@ -1,5 +1,4 @@
 -- `layout::cycle_fits` meets its contract: test by test. Assumes nothing.
-use borrow.Author.Rules.{rules}
 use Rattle.layout.specs.Form.{cycle_fits}
 use Rattle.layout.proofs.form.cycle_fits.Goals as goal
 

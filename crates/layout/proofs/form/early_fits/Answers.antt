@@ -1,5 +1,4 @@
 -- `layout::early_fits` meets its contract: test by test. Assumes nothing.
-use borrow.Author.Rules.{rules}
 use Rattle.layout.specs.Form.{early_fits}
 use Rattle.layout.proofs.form.early_fits.Goals as goal
 

@@ -1,5 +1,4 @@
 -- `layout::is_state` meets its contract: the tests of all words are those of the words that can fail. Assumes nothing.
-use borrow.Author.Rules.{rules}
 use mathlib.Core.Path.{sym}
 use Rattle.layout.proofs.Fits.{form}
 use Rattle.layout.proofs.form.is_state.Goals as goal

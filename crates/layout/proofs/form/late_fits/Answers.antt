@@ -1,5 +1,4 @@
 -- `layout::late_fits` meets its contract: test by test. Assumes nothing.
-use borrow.Author.Rules.{rules}
 use Rattle.layout.specs.Form.{late_fits}
 use Rattle.layout.proofs.form.late_fits.Goals as goal
 

@@ -1,5 +1,4 @@
 -- `gains_of` meets its contract: field by field.
-use borrow.Author.Rules.{rules}
 use Rattle.layout.proofs.network_model.gains_of.Goals as goal
 
 pub returns : goal.returns

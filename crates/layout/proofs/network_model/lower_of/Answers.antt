@@ -1,5 +1,4 @@
 -- `lower_of` meets its contract: field by field.
-use borrow.Author.Rules.{rules}
 use Rattle.layout.proofs.network_model.lower_of.Goals as goal
 
 pub returns : goal.returns

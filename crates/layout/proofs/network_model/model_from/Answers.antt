@@ -1,5 +1,4 @@
 -- `model_from` meets its contract: field by field.
-use borrow.Author.Rules.{rules}
 use Rattle.layout.specs.NetworkModel.{model_from}
 use Rattle.layout.proofs.network_model.model_from.Goals as goal
 

@@ -1,5 +1,4 @@
 -- `rates_of` meets its contract: field by field.
-use borrow.Author.Rules.{rules}
 use Rattle.layout.proofs.network_model.rates_of.Goals as goal
 
 pub returns : goal.returns

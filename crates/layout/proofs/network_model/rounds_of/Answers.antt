@@ -1,5 +1,4 @@
 -- `rounds_of` meets its contract: field by field.
-use borrow.Author.Rules.{rules}
 use Rattle.layout.proofs.network_model.rounds_of.Goals as goal
 
 pub returns : goal.returns

@@ -1,5 +1,4 @@
 -- `with_bounds` meets its contract: word by word.
-use borrow.Author.Rules.{rules}
 use Rattle.layout.proofs.network_model.with_bounds.Goals as goal
 
 pub returns : goal.returns

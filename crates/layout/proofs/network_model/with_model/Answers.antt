@@ -1,5 +1,4 @@
 -- `with_model` meets its contract: part by part.
-use borrow.Author.Rules.{rules}
 use Rattle.layout.specs.NetworkModel.{model_words}
 use Rattle.layout.proofs.network_model.with_model.Goals as goal
 

@@ -1,5 +1,4 @@
 -- `with_rounds` meets its contract: word by word.
-use borrow.Author.Rules.{rules}
 use Rattle.layout.proofs.network_model.with_rounds.Goals as goal
 
 pub returns : goal.returns

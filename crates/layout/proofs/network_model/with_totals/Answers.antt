@@ -1,5 +1,4 @@
 -- `with_totals` meets its contract: word by word.
-use borrow.Author.Rules.{rules}
 use Rattle.layout.proofs.network_model.with_totals.Goals as goal
 
 pub returns : goal.returns

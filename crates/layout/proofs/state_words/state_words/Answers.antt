@@ -1,5 +1,4 @@
 -- `state_words` meets its contract: the model's words, then the cycle's.
-use borrow.Author.Rules.{rules}
 use Rattle.layout.specs.NetworkModel.{model_words}
 use Rattle.layout.specs.Cycle.{cycle_words}
 use Rattle.layout.proofs.state_words.state_words.Goals as goal

@@ -1,7 +1,6 @@
 -- `put_sorted` meets its contract: by whether the line is kept.
 use Rattle.mending.proofs.Lines.{put_kept, put_listed}
 use native.Mathlib.Omega.{arith}
-use borrow.Author.Rules.{rules}
 use Rattle.mending.proofs.sift.put_sorted.Goals as goal
 
 pub put_text-end-requires : goal.put_text-end-requires

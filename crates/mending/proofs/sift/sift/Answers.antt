@@ -1,10 +1,7 @@
 -- `sift` meets its contract: what is left to sift gives the same as all (proofs/Sifting.antt).
-use Rattle.mending.proofs.Sifting.{Done, done_none, sift_full, sift_no_places, sift_over, done_next}
+use Rattle.mending.proofs.Sifting.{done_none, sift_full, sift_no_places, sift_over, done_next}
 use Rattle.mending.proofs.Lines.{kept_few, kept_text_few, list_text_few}
-use lib.ListN.{length}
-use Prim.Native.Nat.{◌-◌, ◌≤◌}
-use mathlib.Core.Path.{◌≡◌, refl}
-use borrow.Author.Rules.{rules}
+use mathlib.Core.Path.{refl}
 use native.Mathlib.Omega.{arith}
 use Rattle.mending.proofs.sift.sift.Goals as goal
 

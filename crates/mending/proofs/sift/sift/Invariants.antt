@@ -1,11 +1,8 @@
 -- `sift` meets its contract: what is left to sift gives the same as all (proofs/Sifting.antt).
-use Rattle.mending.proofs.Sifting.{Done, done_none, sift_full, sift_no_places, sift_over, done_next}
-use Rattle.mending.proofs.Lines.{kept_few, kept_text_few, list_text_few}
+use Rattle.mending.proofs.Sifting.{Done}
 use lib.ListN.{length}
 use Prim.Native.Nat.{◌-◌, ◌≤◌}
-use mathlib.Core.Path.{◌≡◌, refl}
-use borrow.Author.Rules.{rules}
-use native.Mathlib.Omega.{arith}
+use mathlib.Core.Path.{◌≡◌}
 use Rattle.mending.proofs.sift.sift.Given as goal
 
 abbrev pub invariant-loop-kept : goal.invariant-loop-kept

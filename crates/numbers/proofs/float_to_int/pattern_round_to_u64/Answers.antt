@@ -1,5 +1,5 @@
 -- `numbers::pattern_round_to_u64` meets its contract: each range of patterns is a law of `proofs/Away.antt`. Assumes nothing.
-use Rattle.std.proofs.Common.{◌≡◌, ℕ, ◌/◌, ◌<◌, ◌≤◌, true, ◌&&◌, ltb, leb, sym, refl, inl, inr, arith, rules}
+use Rattle.std.proofs.Common.{◌≡◌, ℕ, ◌/◌, ◌<◌, ◌≤◌, true, ◌&&◌, ltb, leb, sym, refl, inl, inr, arith}
 use lib.Ieee.{binary64, top}
 use lib.Ieee.Bits.{of_bits-fits}
 use Rattle.numbers.proofs.Fields.{in_range, beyond, outside, nothing_above, below_top, plain_float, digits_lt}

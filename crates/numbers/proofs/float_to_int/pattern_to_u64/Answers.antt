@@ -1,5 +1,5 @@
 -- `numbers::pattern_to_u64` meets its contract: each range of patterns is a law of `proofs/Fields.antt`. Assumes nothing.
-use Rattle.std.proofs.Common.{◌≡◌, ℕ, ◌/◌, ◌<◌, ◌≤◌, true, ◌&&◌, ltb, leb, sym, refl, inl, inr, arith, rules}
+use Rattle.std.proofs.Common.{◌≡◌, ℕ, ◌/◌, ◌<◌, ◌≤◌, true, ◌&&◌, ltb, leb, sym, refl, inl, inr, arith}
 use lib.Ieee.{binary32, top}
 use Rattle.numbers.proofs.Fields.{in_range, beyond, outside, cut_nothing, nothing_above, below_top, plain_float, digits_lt, cut_small, cut_large, cut_once}
 use Rattle.numbers.proofs.float_to_int.pattern_to_u64.Goals as goal

@@ -1,6 +1,6 @@
 -- `numbers::round_shift` meets its contract: twice the remainder, which is n without its upper digits, and the whole part's last digit tell whether `closest` is the next number
 -- up. Assumes nothing.
-use Rattle.std.proofs.Common.{◌≡◌, ◌+◌, ◌-◌, ◌*◌, ◌/◌, ◌%◌, ◌^◌, ◌≤◌, ◌<◌, ℕ, sym, mod-lt, mul-le-mul_left, div-add-mod', arith, pow_pos, pow_mono, rules}
+use Rattle.std.proofs.Common.{◌≡◌, ◌+◌, ◌-◌, ◌*◌, ◌/◌, ◌%◌, ◌^◌, ◌≤◌, ◌<◌, ℕ, sym, mod-lt, mul-le-mul_left, div-add-mod', arith, pow_pos, pow_mono}
 use lib.Bits.{bit_and, and_mask}
 use Rattle.numbers.proofs.Closest.{closest_up, closest_down, one_shifted}
 use Rattle.numbers.proofs.int_to_float.round_shift.Goals as goal

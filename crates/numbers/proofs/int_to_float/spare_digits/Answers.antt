@@ -1,5 +1,5 @@
 -- `numbers::spare_digits` meets its contract, by the count of n's leading zeros (`proofs/Count.antt`). Assumes nothing.
-use Rattle.std.proofs.Common.{◌≡◌, ◌-◌, arith, rules}
+use Rattle.std.proofs.Common.{◌≡◌, ◌-◌, arith}
 use lib.Count.{count_leading_zeros, leading_le}
 use mir.Facts.{Fits-below, Fits-lt-pow}
 use Rattle.numbers.proofs.Count.{spare_of}

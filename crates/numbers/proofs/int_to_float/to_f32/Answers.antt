@@ -1,5 +1,5 @@
 -- `numbers::to_f32` meets its contract: what the float holds is cast as it is; one of at most 48 digits by its halves; otherwise the laws of `proofs/Spare.antt`. Assumes nothing.
-use Rattle.std.proofs.Common.{◌≡◌, ℕ, ◌+◌, ◌-◌, ◌*◌, ◌/◌, ◌%◌, ◌^◌, ◌≤◌, refl, mul-div_cancel, arith, pow_pos, pow_mono, pow-add, rules}
+use Rattle.std.proofs.Common.{◌≡◌, ℕ, ◌+◌, ◌-◌, ◌*◌, ◌/◌, ◌%◌, ◌^◌, ◌≤◌, refl, mul-div_cancel, arith, pow_pos, pow_mono, pow-add}
 use lib.Ieee.{binary32}
 use Rattle.numbers.specs.Inner.{Spare}
 use Rattle.numbers.proofs.Closest.{one_shifted}

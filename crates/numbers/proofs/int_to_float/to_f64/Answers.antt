@@ -1,5 +1,4 @@
 -- `numbers::to_f64` meets its contract: what the float holds is cast as it is, and the kit's function rounds the rest. Assumes nothing.
-use Rattle.std.proofs.Common.{rules}
 use lib.Ieee.{binary64}
 use Rattle.numbers.proofs.Spare.{whole_in_float}
 use Rattle.numbers.proofs.int_to_float.to_f64.Goals as goal

@@ -1,5 +1,5 @@
 -- `numbers::scale` meets its contract: what its two calls ensure, one put into the other. Assumes nothing.
-use Rattle.std.proofs.Common.{ap, ◌∙◌, rules}
+use Rattle.std.proofs.Common.{ap, ◌∙◌}
 use lib.Ieee.{Float, binary32, mul}
 use Rattle.numbers.specs.FloatToInt.{float_to_int}
 use Rattle.numbers.specs.Scaling.{scaled}

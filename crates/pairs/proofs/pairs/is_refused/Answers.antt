@@ -1,6 +1,4 @@
 -- `pairs::is_refused` meets its contract: no time falls, or the updates tell. Assumes nothing.
-use borrow.Author.Rules.{rules}
-use borrow.Author.Tests.{not-true}
 use mathlib.Core.Path.{sym, ◌∙◌}
 use Rattle.pairs.specs.Pairs.{pairs}
 use Rattle.pairs.proofs.Times.{never_refused}

@@ -1,15 +1,8 @@
 -- `pairs::meets_refusal` meets its contract. The invariant: the pairs that are left decide whether one is refused. Assumes nothing.
-use borrow.Author.Rules.{rules}
-use borrow.Author.Tests.{not-true, not-false}
-use Prim.Native.Nat.{ℕ, ◌-◌, ◌*◌, ◌/◌, ◌≤◌}
-use mathlib.Core.Path.{◌≡◌, sym, ap, ◌∙◌}
-use native.Mathlib.Nat.{sub-zero, sub_self}
-use native.Mathlib.Omega.{arith}
-use lib.Dec.{eqb}
-use lib.ListN.{length}
+use Prim.Native.Nat.{◌-◌, ◌*◌, ◌≤◌}
+use mathlib.Core.Path.{◌≡◌}
 use Rattle.filters.specs.WindowedFilter.{windowed_new}
-use Rattle.pairs.specs.Pairs.{after_pair, refuses}
-use Rattle.pairs.proofs.Run.{refused_now, refused_later}
+use Rattle.pairs.specs.Pairs.{refuses}
 use Rattle.pairs.proofs.pairs.meets_refusal.Given as goal
 
 abbrev pub invariant-loop-i : goal.invariant-loop-i

@@ -1,5 +1,4 @@
 -- `pairs::pair_at` meets its contract: the two words that are read. Assumes nothing.
-use borrow.Author.Rules.{rules}
 use Rattle.pairs.proofs.pairs.pair_at.Goals as goal
 
 pub returns : goal.returns

@@ -1,5 +1,4 @@
 -- `guovssalu::run_reply` meets its contract: what the first pass ensures, put into the rows. Assumes nothing.
-use borrow.Author.Rules.{rules}
 use mathlib.Core.Path.{◌∙◌}
 use Rattle.pairs.specs.Pairs.{run_row, pairs_faults}
 use Rattle.state.proofs.FirstFault.{asked, alone, or_short_lem}

@@ -1,5 +1,5 @@
 -- `guovssalu::times_fall` meets its contract. The invariant: whether a time falls is decided by the pairs that are left. Assumes nothing.
-use Prim.Native.Nat.{◌-◌, ◌*◌, ◌/◌, ◌≤◌}
+use Prim.Native.Nat.{◌/◌}
 use mathlib.Core.Path.{◌≡◌}
 use native.Mathlib.Nat.{sub-zero, sub_self}
 use native.Mathlib.Omega.{arith}

@@ -1,11 +1,7 @@
 -- `guovssalu::times_fall` meets its contract. The invariant: whether a time falls is decided by the pairs that are left. Assumes nothing.
-use Prim.Native.Nat.{◌-◌, ◌*◌, ◌/◌, ◌≤◌}
+use Prim.Native.Nat.{◌-◌, ◌*◌, ◌≤◌}
 use mathlib.Core.Path.{◌≡◌}
-use native.Mathlib.Nat.{sub-zero, sub_self}
-use native.Mathlib.Omega.{arith}
-use lib.ListN.{length}
 use Rattle.pairs.specs.Inner.{times_fall}
-use Rattle.pairs.proofs.Run.{falls_now, falls_later}
 use Rattle.pairs.proofs.pairs.times_fall.Given as goal
 
 abbrev pub invariant-loop-i : goal.invariant-loop-i

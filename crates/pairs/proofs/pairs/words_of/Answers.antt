@@ -1,5 +1,4 @@
 -- `pairs::words_of` meets its contract: what `Reason::number` ensures. Assumes nothing.
-use borrow.Author.Rules.{rules}
 use Rattle.pairs.specs.Inner.{stepped_words}
 use Rattle.pairs.proofs.pairs.words_of.Goals as goal
 

@@ -1,18 +1,15 @@
 -- `pairs::write_run` meets its contract. The invariant: no pair that is left is refused, and what is written for them makes the answer.
 -- Assumes nothing.
 use borrow.Author.Rules.{rules}
-use Prim.Native.Nat.{◌-◌, ◌*◌, ◌/◌, ◌≤◌}
-use mathlib.Core.Bool.{false}
+use Prim.Native.Nat.{◌*◌, ◌/◌}
 use mathlib.Core.Path.{◌≡◌, refl, ap, ◌∙◌}
 use native.Mathlib.Nat.{sub-zero, sub_self}
 use native.Mathlib.Omega.{arith}
 use lib.ListN.{length}
-use lib.Seq.{sets}
-use Rattle.filters.specs.WindowedFilter.{windowed_new}
 use Rattle.words.specs.Words.{all_bytes}
-use Rattle.pairs.specs.Pairs.{refuses, run_words}
+use Rattle.pairs.specs.Pairs.{run_words}
 use Rattle.pairs.specs.Inner.{stepped_words}
-use Rattle.pairs.proofs.Run.{filter, stepped_words_lem, taken_later, written}
+use Rattle.pairs.proofs.Run.{stepped_words_lem, taken_later, written}
 use Rattle.pairs.proofs.pairs.write_run.Goals as goal
 
 pub loop-i-init : goal.loop-i-init

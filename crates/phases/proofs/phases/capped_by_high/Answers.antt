@@ -1,5 +1,4 @@
 -- `capped_by_high` meets its contract.
-use borrow.Author.Rules.{rules}
 use Rattle.phases.proofs.phases.capped_by_high.Goals as goal
 
 pub returns : goal.returns

@@ -1,5 +1,4 @@
 -- `cruise_cycle` meets its contract.
-use borrow.Author.Rules.{rules}
 use mathlib.Core.Path.{◌∙◌}
 use Rattle.phases.specs.Phases.{cruise_cycle}
 use Rattle.phases.proofs.phases.cruise_cycle.Goals as goal

@@ -1,5 +1,4 @@
 -- `cruise_model` meets its contract.
-use borrow.Author.Rules.{rules}
 use mathlib.Core.Path.{◌∙◌}
 use Rattle.phases.specs.Phases.{cruise_model}
 use Rattle.phases.proofs.phases.cruise_model.Goals as goal

@@ -1,5 +1,4 @@
 -- `cycle_in` meets its contract.
-use borrow.Author.Rules.{rules}
 use Rattle.phases.specs.Phases.{cycle_in}
 use Rattle.phases.proofs.phases.cycle_in.Goals as goal
 

@@ -1,5 +1,4 @@
 -- `down_cycle` meets its contract: part by part; the sum fits, as the base is within its bound.
-use borrow.Author.Rules.{rules}
 use borrow.Author.Tests.{leb-true}
 use native.Mathlib.Omega.{arith}
 use Prim.Native.Nat.{◌^◌}

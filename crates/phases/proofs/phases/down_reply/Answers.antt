@@ -1,5 +1,4 @@
 -- `down_reply` meets its contract.
-use borrow.Author.Rules.{rules}
 use Rattle.state.proofs.FirstFault.{asked}
 use Rattle.phases.proofs.phases.down_reply.Goals as goal
 

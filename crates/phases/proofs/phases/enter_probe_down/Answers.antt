@@ -1,5 +1,4 @@
 -- `enter_probe_down` meets its contract: by whether the call is done.
-use borrow.Author.Rules.{rules}
 use mathlib.Core.Path.{refl, sym, ◌∙◌}
 use borrow.Author.Tests.{eqb-true}
 use Rattle.state.proofs.Settling.{done_as, refused_as}

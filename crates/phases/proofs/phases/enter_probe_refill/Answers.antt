@@ -1,5 +1,4 @@
 -- `enter_probe_refill` meets its contract: what its calls ensure, put together.
-use borrow.Author.Rules.{rules}
 use Rattle.state.proofs.FirstFault.{asked}
 use mathlib.Core.Path.{refl, ap, ◌∙◌}
 use Rattle.units.specs.Reply.{number, fault}

@@ -1,5 +1,4 @@
 -- `enter_probe_up` meets its contract: what its calls ensure, put together.
-use borrow.Author.Rules.{rules}
 use mathlib.Core.Path.{ap, ◌∙◌}
 use Rattle.units.specs.Reply.{number, fault}
 use Rattle.state.proofs.Settling.{settled_as}

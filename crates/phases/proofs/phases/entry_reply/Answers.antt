@@ -1,5 +1,4 @@
 -- `entry_reply` meets its contract.
-use borrow.Author.Rules.{rules}
 use Rattle.state.proofs.FirstFault.{asked}
 use mathlib.Core.Path.{refl}
 use Rattle.phases.specs.Phases.{entry_number}

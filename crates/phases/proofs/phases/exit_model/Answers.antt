@@ -1,5 +1,4 @@
 -- `exit_model` meets its contract: by whether the filter has advanced.
-use borrow.Author.Rules.{rules}
 use Rattle.phases.specs.Phases.{exit_model}
 use Rattle.phases.proofs.phases.exit_model.Goals as goal
 

@@ -1,5 +1,4 @@
 -- `exit_probe_down` meets its contract: what its calls ensure, put together.
-use borrow.Author.Rules.{rules}
 use mathlib.Core.Path.{ap, ◌∙◌}
 use Rattle.units.specs.Reply.{number}
 use Rattle.state.proofs.Settling.{settled_as}

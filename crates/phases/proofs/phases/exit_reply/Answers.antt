@@ -1,5 +1,4 @@
 -- `exit_reply` meets its contract.
-use borrow.Author.Rules.{rules}
 use mathlib.Core.Path.{◌∙◌}
 use Rattle.phases.specs.Phases.{exit_number}
 use Rattle.phases.proofs.phases.exit_reply.Goals as goal

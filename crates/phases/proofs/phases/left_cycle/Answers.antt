@@ -1,5 +1,4 @@
 -- `left_cycle` meets its contract: by whether the phase is Down.
-use borrow.Author.Rules.{rules}
 use Rattle.phases.specs.Phases.{left_cycle}
 use Rattle.phases.proofs.phases.left_cycle.Goals as goal
 

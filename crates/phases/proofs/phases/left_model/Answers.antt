@@ -1,5 +1,4 @@
 -- `left_model` meets its contract: by whether the phase is Down.
-use borrow.Author.Rules.{rules}
 use Rattle.phases.specs.Phases.{left_model}
 use Rattle.phases.proofs.phases.left_model.Goals as goal
 

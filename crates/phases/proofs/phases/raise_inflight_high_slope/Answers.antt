@@ -1,5 +1,4 @@
 -- `raise_inflight_high_slope` meets its contract: by whether the call is done.
-use borrow.Author.Rules.{rules}
 use Rattle.state.proofs.Settling.{done_as, refused_as}
 use mathlib.Core.Path.{refl}
 use Rattle.phases.proofs.phases.raise_inflight_high_slope.Goals as goal

@@ -1,5 +1,4 @@
 -- `refill_cycle` meets its contract.
-use borrow.Author.Rules.{rules}
 use mathlib.Core.Path.{◌∙◌}
 use Rattle.phases.specs.Phases.{refill_cycle}
 use Rattle.phases.proofs.phases.refill_cycle.Goals as goal

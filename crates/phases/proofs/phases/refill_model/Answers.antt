@@ -1,5 +1,4 @@
 -- `refill_model` meets its contract.
-use borrow.Author.Rules.{rules}
 use mathlib.Core.Path.{◌∙◌}
 use Rattle.phases.specs.Phases.{refill_model}
 use Rattle.phases.proofs.phases.refill_model.Goals as goal

@@ -1,5 +1,4 @@
 -- `restarted_at` meets its contract.
-use borrow.Author.Rules.{rules}
 use mathlib.Core.Path.{◌∙◌}
 use Rattle.phases.specs.Phases.{restarted_at}
 use Rattle.phases.proofs.phases.restarted_at.Goals as goal

@@ -1,5 +1,4 @@
 -- `slope_cycle` meets its contract.
-use borrow.Author.Rules.{rules}
 use Rattle.phases.specs.Phases.{slope_cycle}
 use Rattle.phases.proofs.phases.slope_cycle.Goals as goal
 

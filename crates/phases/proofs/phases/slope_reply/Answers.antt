@@ -1,5 +1,4 @@
 -- `slope_reply` meets its contract.
-use borrow.Author.Rules.{rules}
 use Rattle.state.proofs.FirstFault.{asked}
 use Rattle.phases.specs.Phases.{slope_number}
 use Rattle.phases.proofs.phases.slope_reply.Goals as goal

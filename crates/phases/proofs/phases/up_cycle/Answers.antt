@@ -1,5 +1,4 @@
 -- `up_cycle` meets its contract.
-use borrow.Author.Rules.{rules}
 use mathlib.Core.Path.{◌∙◌}
 use Rattle.phases.specs.Phases.{up_cycle}
 use Rattle.phases.proofs.phases.up_cycle.Goals as goal

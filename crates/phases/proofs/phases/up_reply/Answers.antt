@@ -1,5 +1,4 @@
 -- `up_reply` meets its contract.
-use borrow.Author.Rules.{rules}
 use Rattle.state.proofs.FirstFault.{asked}
 use Rattle.phases.proofs.phases.up_reply.Goals as goal
 

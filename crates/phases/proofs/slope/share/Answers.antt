@@ -1,5 +1,4 @@
 -- `share` meets its contract: a number below 2^64 over 2^64 or more is 0.
-use borrow.Author.Rules.{rules}
 use mathlib.Core.Path.{sym}
 use lib.Pow.{pow_pos, pow_mono}
 use mir.Facts.{Fits-lt-pow}

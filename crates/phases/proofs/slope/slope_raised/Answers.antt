@@ -1,5 +1,4 @@
 -- `slope_raised` meets its contract: part by part.
-use borrow.Author.Rules.{rules}
 use Rattle.phases.specs.Slope.{slope_raised}
 use Rattle.phases.proofs.slope.slope_raised.Goals as goal
 

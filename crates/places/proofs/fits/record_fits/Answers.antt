@@ -1,5 +1,4 @@
 -- `record_fits` meets its contract: field by field. Assumes nothing.
-use borrow.Author.Rules.{rules}
 use Rattle.places.specs.Places.{record_fits}
 use Rattle.places.proofs.fits.record_fits.Goals as goal
 

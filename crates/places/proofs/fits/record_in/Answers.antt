@@ -1,5 +1,4 @@
 -- `record_in` meets its contract: the record, with its moment as it stands. Assumes nothing.
-use borrow.Author.Rules.{rules}
 use Rattle.places.specs.Places.{record_in}
 use Rattle.places.proofs.fits.record_in.Goals as goal
 

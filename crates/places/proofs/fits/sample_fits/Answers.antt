@@ -1,5 +1,4 @@
 -- `sample_fits` meets its contract: field by field. Assumes nothing.
-use borrow.Author.Rules.{rules}
 use Rattle.places.specs.Places.{sample_fits_in}
 use Rattle.places.proofs.fits.sample_fits.Goals as goal
 

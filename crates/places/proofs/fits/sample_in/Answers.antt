@@ -1,5 +1,4 @@
 -- `sample_in` meets its contract: the sampler's answer, with the extra acked bytes as they stand. Assumes nothing.
-use borrow.Author.Rules.{rules}
 use mathlib.Core.Path.{refl}
 use Rattle.arguments.proofs.Alike.{own}
 use Rattle.places.specs.Places.{sample_in}

@@ -1,7 +1,5 @@
 -- `entry_fault`: arm by arm. Assumes nothing.
-use borrow.Author.Rules.{rules}
 use borrow.Author.Tests.{ne_eqb}
-use mathlib.Core.Path.{refl}
 use Rattle.state.specs.Faults.{first}
 use Rattle.places.specs.Places.{entry_faults}
 use Rattle.places.proofs.places.entry_fault.Goals as goal

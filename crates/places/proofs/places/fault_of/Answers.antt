@@ -1,5 +1,4 @@
 -- `fault_of` meets its contract: by the call's number. Assumes nothing.
-use borrow.Author.Rules.{rules}
 use mathlib.Core.Path.{ap, ◌∙◌}
 use borrow.Author.Tests.{ne_eqb}
 use Rattle.state.specs.Faults.{first}

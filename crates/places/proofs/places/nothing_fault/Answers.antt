@@ -1,5 +1,4 @@
 -- `nothing_fault` meets its contract: by its test. Assumes nothing.
-use borrow.Author.Rules.{rules}
 use Rattle.state.specs.Faults.{first}
 use Rattle.places.proofs.places.nothing_fault.Goals as goal
 

@@ -1,5 +1,4 @@
 -- `number_fault`: arm by arm. Assumes nothing.
-use borrow.Author.Rules.{rules}
 use mathlib.Core.Bool.{Bool}
 use mathlib.Core.Path.{ap₂, ◌∙◌}
 use lib.Ieee.{Float}

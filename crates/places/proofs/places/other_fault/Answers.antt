@@ -1,5 +1,4 @@
 -- `other_fault` meets its contract: by the call's number. Assumes nothing.
-use borrow.Author.Rules.{rules}
 use mathlib.Core.Path.{sym, ◌∙◌}
 use borrow.Author.Tests.{le-leb, lt-leb}
 use Rattle.places.specs.Places.{other_faults}

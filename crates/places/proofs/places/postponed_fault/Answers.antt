@@ -1,5 +1,4 @@
 -- `postponed_fault` meets its contract. Assumes nothing.
-use borrow.Author.Rules.{rules}
 use mathlib.Core.Path.{ap, ◌∙◌}
 use Rattle.units.specs.declared.time.Moment.{Moment}
 use Rattle.state.specs.Faults.{first, postpone_faults}

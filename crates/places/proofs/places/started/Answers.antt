@@ -1,5 +1,4 @@
 -- `started` meets its contract: what its calls ensure, put together. Assumes nothing.
-use borrow.Author.Rules.{rules}
 use Rattle.places.proofs.places.started.Goals as goal
 
 pub returns : goal.returns

@@ -1,5 +1,4 @@
 -- `bandwidth_estimate` meets its contract: what its calls ensure, put together.
-use borrow.Author.Rules.{rules}
 use mathlib.Core.Path.{ap, ◌∙◌}
 use Rattle.units.specs.Reply.{number}
 use Rattle.reads.specs.Reads.{estimate_of}

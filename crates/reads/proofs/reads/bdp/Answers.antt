@@ -1,7 +1,6 @@
 -- `bdp` meets its contract: what its calls ensure, put together.
-use borrow.Author.Rules.{rules}
 use Rattle.state.proofs.FirstFault.{asked}
-use mathlib.Core.Path.{refl, ap, ◌∙◌, ap₂}
+use mathlib.Core.Path.{ap, ◌∙◌, ap₂}
 use mathlib.Core.Bool.{◌&&◌}
 use Rattle.units.specs.Reply.{number, fault}
 use Rattle.state.specs.NetworkModel.{given_number}

@@ -1,6 +1,5 @@
 -- `bdp0` meets its contract: what its calls ensure, put together.
-use borrow.Author.Rules.{rules}
-use mathlib.Core.Path.{refl, ap, ◌∙◌}
+use mathlib.Core.Path.{ap, ◌∙◌}
 use Rattle.units.specs.Reply.{number}
 use Rattle.units.specs.declared.bandwidth.Bandwidth.{Bandwidth}
 use Rattle.state.specs.NetworkModel.{bdp_of, one}

@@ -1,7 +1,6 @@
 -- `bdp1` meets its contract: what its calls ensure, put together.
-use borrow.Author.Rules.{rules}
 use Rattle.state.proofs.FirstFault.{asked}
-use mathlib.Core.Path.{refl, ap, ◌∙◌}
+use mathlib.Core.Path.{ap, ◌∙◌}
 use Rattle.units.specs.Reply.{number, fault}
 use Rattle.state.specs.NetworkModel.{given_number}
 use Rattle.state.proofs.Settling.{settled_as}

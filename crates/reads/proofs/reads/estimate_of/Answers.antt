@@ -1,5 +1,4 @@
 -- `estimate_of` meets its contract: by the two cases.
-use borrow.Author.Rules.{rules}
 use Rattle.reads.proofs.reads.estimate_of.Goals as goal
 
 pub returns : goal.returns

@@ -1,5 +1,4 @@
 -- `inflight_hi_with_headroom` meets its contract: what its calls ensure, put together.
-use borrow.Author.Rules.{rules}
 use mathlib.Core.Path.{ap, ◌∙◌}
 use Rattle.units.specs.Reply.{number}
 use Prim.Native.Nat.{ℕ, ◌-◌}

@@ -1,6 +1,5 @@
 -- `max_bandwidth` meets its contract: what is stored, if the stored numbers are within bounds.
-use borrow.Author.Rules.{rules}
-use mathlib.Core.Path.{refl, ap, ◌∙◌}
+use mathlib.Core.Path.{ap, ◌∙◌}
 use Rattle.units.specs.Reply.{number}
 use Rattle.state.proofs.Settling.{settled_as}
 use Rattle.reads.proofs.reads.max_bandwidth.Goals as goal

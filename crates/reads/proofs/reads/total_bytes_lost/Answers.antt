@@ -1,5 +1,4 @@
 -- `total_bytes_lost` meets its contract: what is stored, if the stored numbers are within bounds.
-use borrow.Author.Rules.{rules}
 use mathlib.Core.Path.{refl, ap, ◌∙◌}
 use Rattle.units.specs.Reply.{number}
 use Rattle.state.proofs.Settling.{settled_as}

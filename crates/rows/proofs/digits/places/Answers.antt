@@ -3,7 +3,6 @@ use Rattle.rows.proofs.Decimals.{places_here, places_next, ten_fits, ten_more}
 use Rattle.rows.specs.Digits.{places_of, places_from}
 use native.Mathlib.Omega.{arith}
 use mathlib.Core.Path.{◌≡◌, refl, ◌∙◌, sym}
-use Prim.Native.Nat.{◌≤◌, ◌-◌, ◌^◌}
 use Rattle.rows.proofs.digits.places.Goals as goal
 
 pub loop-k-init : goal.loop-k-init

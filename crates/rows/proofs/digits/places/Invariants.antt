@@ -1,8 +1,6 @@
 -- `places` meets its contract.
-use Rattle.rows.proofs.Decimals.{places_here, places_next, ten_fits, ten_more}
 use Rattle.rows.specs.Digits.{places_of, places_from}
-use native.Mathlib.Omega.{arith}
-use mathlib.Core.Path.{◌≡◌, refl, ◌∙◌, sym}
+use mathlib.Core.Path.{◌≡◌}
 use Prim.Native.Nat.{◌≤◌, ◌-◌, ◌^◌}
 use Rattle.rows.proofs.digits.places.Given as goal
 

@@ -5,7 +5,6 @@ use lib.Seq.{sets}
 use Prim.Native.Nat.{ℕ}
 use mathlib.Core.Path.{◌∙◌, ap}
 use native.Mathlib.Omega.{arith}
-use borrow.Author.Rules.{rules}
 use Rattle.rows.proofs.digits.put_decimal.Goals as goal
 
 pub spell-requires : goal.spell-requires

@@ -1,12 +1,9 @@
 -- `spell` meets its contract.
 use Rattle.rows.proofs.Decimals.{spell_next}
 use Rattle.rows.specs.Digits.{digits_of}
-use lib.Seq.{sets}
-use lib.ListN.{length, length-set}
-use borrow.Author.Rules.{rules}
+use lib.ListN.{length-set}
 use native.Mathlib.Omega.{arith}
 use mathlib.Core.Path.{◌≡◌, refl}
-use Prim.Native.Nat.{◌≤◌, ◌-◌}
 use Rattle.rows.proofs.digits.spell.Goals as goal
 
 pub loop-i-init : goal.loop-i-init

@@ -1,12 +1,9 @@
 -- `spell` meets its contract.
-use Rattle.rows.proofs.Decimals.{spell_next}
 use Rattle.rows.specs.Digits.{digits_of}
 use lib.Seq.{sets}
-use lib.ListN.{length, length-set}
-use borrow.Author.Rules.{rules}
-use native.Mathlib.Omega.{arith}
-use mathlib.Core.Path.{◌≡◌, refl}
-use Prim.Native.Nat.{◌≤◌, ◌-◌}
+use lib.ListN.{length}
+use mathlib.Core.Path.{◌≡◌}
+use Prim.Native.Nat.{◌≤◌}
 use Rattle.rows.proofs.digits.spell.Given as goal
 
 abbrev pub invariant-loop-i : goal.invariant-loop-i

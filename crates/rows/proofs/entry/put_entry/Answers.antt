@@ -2,7 +2,6 @@
 use Rattle.rows.specs.Entry.{entry_text}
 use Rattle.rows.proofs.Decimals.{decimal_few, put_put}
 use native.Mathlib.Omega.{arith}
-use borrow.Author.Rules.{rules}
 use Rattle.rows.proofs.entry.put_entry.Goals as goal
 
 pub put_byte-b-requires : goal.put_byte-b-requires

@@ -1,10 +1,8 @@
 -- `put_text` meets its contract: what is left of the text gives the same as all (proofs/Decimals.antt).
 use Rattle.rows.proofs.Decimals.{text_next, text_put}
 use native.Mathlib.Nat.{add-zero}
-use Prim.Native.Nat.{◌+◌, ◌-◌, ◌≤◌}
-use mathlib.Core.Path.{◌≡◌, refl}
-use lib.Seq.{sets}
-use lib.ListN.{length, drop, length-set}
+use mathlib.Core.Path.{refl}
+use lib.ListN.{length-set}
 use native.Mathlib.Omega.{arith}
 use Rattle.rows.proofs.entry.put_text.Goals as goal
 

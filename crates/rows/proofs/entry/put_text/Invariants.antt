@@ -1,11 +1,8 @@
 -- `put_text` meets its contract: what is left of the text gives the same as all (proofs/Decimals.antt).
-use Rattle.rows.proofs.Decimals.{text_next, text_put}
-use native.Mathlib.Nat.{add-zero}
 use Prim.Native.Nat.{◌+◌, ◌-◌, ◌≤◌}
-use mathlib.Core.Path.{◌≡◌, refl}
+use mathlib.Core.Path.{◌≡◌}
 use lib.Seq.{sets}
-use lib.ListN.{length, drop, length-set}
-use native.Mathlib.Omega.{arith}
+use lib.ListN.{length, drop}
 use Rattle.rows.proofs.entry.put_text.Given as goal
 
 abbrev pub invariant-loop-i : goal.invariant-loop-i

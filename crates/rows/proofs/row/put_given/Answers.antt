@@ -1,7 +1,6 @@
 -- `put_given` meets its contract.
 use Rattle.rows.proofs.Rows.{nothing_put}
 use Rattle.rows.specs.Row.{given_text}
-use borrow.Author.Rules.{rules}
 use Rattle.rows.proofs.row.put_given.Goals as goal
 
 pub returns-in-Unset : goal.returns-in-Unset

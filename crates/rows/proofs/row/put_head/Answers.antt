@@ -3,7 +3,6 @@ use Rattle.rows.proofs.Rows.{refusal_few}
 use Rattle.rows.proofs.Decimals.{decimal_few, put_put}
 use Rattle.rows.specs.Row.{head_text}
 use native.Mathlib.Omega.{arith}
-use borrow.Author.Rules.{rules}
 use Rattle.rows.proofs.row.put_head.Goals as goal
 
 pub put_byte-b-requires : goal.put_byte-b-requires

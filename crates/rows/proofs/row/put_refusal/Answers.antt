@@ -3,7 +3,6 @@ use Rattle.rows.proofs.Decimals.{decimal_few, put_put}
 use Rattle.rows.specs.Row.{refusal_text}
 use borrow.Author.Tests.{eq-eqb, ne_eqb}
 use native.Mathlib.Omega.{arith}
-use borrow.Author.Rules.{rules}
 use Rattle.rows.proofs.row.put_refusal.Goals as goal
 
 pub returns-then-part-eq0 : goal.returns-then-part-eq0

@@ -3,7 +3,6 @@ use Rattle.rows.proofs.Rows.{head_few, state_few}
 use Rattle.rows.proofs.Decimals.{put_put}
 use Rattle.rows.specs.Row.{row_text}
 use native.Mathlib.Omega.{arith}
-use borrow.Author.Rules.{rules}
 use Rattle.rows.proofs.row.put_row.Goals as goal
 
 pub put_state-b-requires : goal.put_state-b-requires

@@ -2,9 +2,7 @@
 use Rattle.rows.proofs.Rows.{given_few}
 use Rattle.rows.proofs.Decimals.{decimal_few, put_put}
 use Rattle.rows.specs.Row.{state_text}
-use borrow.Author.Tests.{not-true, not-false}
 use native.Mathlib.Omega.{arith}
-use borrow.Author.Rules.{rules}
 use Rattle.rows.proofs.row.put_state.Goals as goal
 
 pub returns-then-not-shown : goal.returns-then-not-shown

@@ -1,6 +1,5 @@
 -- `delay_fault` meets its contract: argument by argument. Assumes nothing.
 use mathlib.Core.Path.{◌∙◌}
-use borrow.Author.Rules.{rules}
 use Rattle.rtt.specs.Rtt.{delay_faults}
 use Rattle.rtt.proofs.rtt.delay_fault.Goals as goal
 

@@ -1,5 +1,4 @@
 -- `delay_taken` meets its contract: by the flag. Assumes nothing.
-use borrow.Author.Rules.{rules}
 use Rattle.rtt.specs.Rtt.{delay_taken}
 use Rattle.rtt.proofs.rtt.delay_taken.Goals as goal
 

@@ -1,6 +1,5 @@
 -- `new_fault` meets its contract: argument by argument. Assumes nothing.
 use mathlib.Core.Path.{◌∙◌}
-use borrow.Author.Rules.{rules}
 use Rattle.rtt.specs.Rtt.{new_faults}
 use Rattle.rtt.proofs.rtt.new_fault.Goals as goal
 

@@ -1,5 +1,4 @@
 -- `new_reply` meets its contract: what the tests ensure, put into the rows. Assumes nothing.
-use borrow.Author.Rules.{rules}
 use Rattle.state.proofs.FirstFault.{asked}
 use Rattle.rtt.specs.Rtt.{new_number}
 use Rattle.rtt.proofs.rtt.new_reply.Goals as goal

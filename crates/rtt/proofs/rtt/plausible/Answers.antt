@@ -1,5 +1,4 @@
 -- `plausible` meets its contract: by whether the minimum is left. Assumes nothing.
-use borrow.Author.Rules.{rules}
 use borrow.Author.Tests.{le-leb, lt-leb}
 use Rattle.rtt.specs.Rtt.{plausible}
 use Rattle.rtt.proofs.rtt.plausible.Goals as goal

@@ -1,5 +1,4 @@
 -- `smoothed_after` meets its contract: by computing. Assumes nothing.
-use borrow.Author.Rules.{rules}
 use mathlib.Core.Path.{refl}
 use Rattle.rtt.proofs.rtt.smoothed_after.Goals as goal
 

@@ -1,6 +1,5 @@
 -- `update_fault` meets its contract: argument by argument. Assumes nothing.
 use mathlib.Core.Path.{◌∙◌}
-use borrow.Author.Rules.{rules}
 use Rattle.rtt.specs.Rtt.{update_faults}
 use Rattle.rtt.proofs.rtt.update_fault.Goals as goal
 

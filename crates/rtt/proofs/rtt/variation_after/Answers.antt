@@ -1,5 +1,4 @@
 -- `variation_after` meets its contract: by the distance. Assumes nothing.
-use borrow.Author.Rules.{rules}
 use Rattle.rtt.proofs.rtt.variation_after.Goals as goal
 
 pub returns : goal.returns

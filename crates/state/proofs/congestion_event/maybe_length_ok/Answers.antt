@@ -1,5 +1,4 @@
 -- `maybe_length_ok` meets its contract: by the two cases.
-use borrow.Author.Rules.{rules}
 use Rattle.state.proofs.congestion_event.maybe_length_ok.Goals as goal
 
 pub returns : goal.returns

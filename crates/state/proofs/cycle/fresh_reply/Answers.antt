@@ -1,5 +1,4 @@
 -- `fresh_reply` meets its contract.
-use borrow.Author.Rules.{rules}
 use Rattle.state.proofs.FirstFault.{asked}
 use Rattle.state.specs.Cycle.{fresh_number}
 use Rattle.state.proofs.cycle.fresh_reply.Goals as goal

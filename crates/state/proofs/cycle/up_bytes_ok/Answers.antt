@@ -1,5 +1,4 @@
 -- `up_bytes_ok` meets its contract: by the two cases.
-use borrow.Author.Rules.{rules}
 use Rattle.state.proofs.cycle.up_bytes_ok.Goals as goal
 
 pub returns : goal.returns

@@ -1,5 +1,4 @@
 -- `wait_ok` meets its contract: by the two cases.
-use borrow.Author.Rules.{rules}
 use Rattle.state.proofs.cycle.wait_ok.Goals as goal
 
 pub returns : goal.returns

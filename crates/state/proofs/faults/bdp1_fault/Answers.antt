@@ -1,5 +1,4 @@
 -- `bdp1_fault` meets its contract: argument by argument. Assumes nothing.
-use borrow.Author.Rules.{rules}
 use mathlib.Core.Path.{◌∙◌}
 use Rattle.state.specs.Faults.{bdp1_faults}
 use Rattle.state.proofs.faults.bdp1_fault.Goals as goal

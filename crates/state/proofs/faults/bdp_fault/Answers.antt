@@ -1,5 +1,4 @@
 -- `bdp_fault` meets its contract: argument by argument. Assumes nothing.
-use borrow.Author.Rules.{rules}
 use mathlib.Core.Path.{◌∙◌}
 use Rattle.state.specs.Faults.{bdp_faults}
 use Rattle.state.proofs.faults.bdp_fault.Goals as goal

@@ -1,5 +1,4 @@
 -- `down_fault` meets its contract: argument by argument. Assumes nothing.
-use borrow.Author.Rules.{rules}
 use mathlib.Core.Path.{◌∙◌}
 use Rattle.state.specs.Faults.{down_faults}
 use Rattle.state.proofs.faults.down_fault.Goals as goal

@@ -1,10 +1,7 @@
 -- `first_of` meets its contract. The invariant: the first fault is among those that are left. Assumes nothing.
 use borrow.Author.Rules.{rules}
-use Prim.Native.Nat.{◌-◌, ◌≤◌}
-use mathlib.Core.Path.{◌≡◌, refl, sym, ◌∙◌}
+use mathlib.Core.Path.{refl, sym, ◌∙◌}
 use native.Mathlib.Omega.{arith}
-use lib.ListN.{length, drop}
-use Rattle.state.specs.Faults.{first}
 use Rattle.state.proofs.FirstFault.{passed, found, none_left}
 use Rattle.state.proofs.faults.first_of.Goals as goal
 

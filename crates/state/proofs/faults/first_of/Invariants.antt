@@ -1,11 +1,8 @@
 -- `first_of` meets its contract. The invariant: the first fault is among those that are left. Assumes nothing.
-use borrow.Author.Rules.{rules}
 use Prim.Native.Nat.{◌-◌, ◌≤◌}
-use mathlib.Core.Path.{◌≡◌, refl, sym, ◌∙◌}
-use native.Mathlib.Omega.{arith}
+use mathlib.Core.Path.{◌≡◌}
 use lib.ListN.{length, drop}
 use Rattle.state.specs.Faults.{first}
-use Rattle.state.proofs.FirstFault.{passed, found, none_left}
 use Rattle.state.proofs.faults.first_of.Given as goal
 
 abbrev pub invariant-loop-i : goal.invariant-loop-i

@@ -1,5 +1,4 @@
 -- `gain_fault` meets its contract: argument by argument. Assumes nothing.
-use borrow.Author.Rules.{rules}
 use mathlib.Core.Path.{◌∙◌}
 use Rattle.state.specs.Faults.{gain_faults}
 use Rattle.state.proofs.faults.gain_fault.Goals as goal

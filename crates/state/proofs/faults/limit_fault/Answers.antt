@@ -1,5 +1,4 @@
 -- `limit_fault` meets its contract: argument by argument. Assumes nothing.
-use borrow.Author.Rules.{rules}
 use mathlib.Core.Path.{◌∙◌}
 use Rattle.state.specs.Faults.{limit_faults}
 use Rattle.state.proofs.faults.limit_fault.Goals as goal

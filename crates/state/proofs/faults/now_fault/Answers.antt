@@ -1,5 +1,4 @@
 -- `now_fault` meets its contract: argument by argument. Assumes nothing.
-use borrow.Author.Rules.{rules}
 use mathlib.Core.Path.{◌∙◌}
 use Rattle.state.specs.Faults.{now_faults}
 use Rattle.state.proofs.faults.now_fault.Goals as goal

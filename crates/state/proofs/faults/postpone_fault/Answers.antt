@@ -1,5 +1,4 @@
 -- `postpone_fault` meets its contract: argument by argument. Assumes nothing.
-use borrow.Author.Rules.{rules}
 use mathlib.Core.Path.{◌∙◌}
 use Rattle.state.specs.Faults.{postpone_faults}
 use Rattle.state.proofs.faults.postpone_fault.Goals as goal

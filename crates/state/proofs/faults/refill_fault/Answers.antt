@@ -1,5 +1,4 @@
 -- `refill_fault` meets its contract: argument by argument. Assumes nothing.
-use borrow.Author.Rules.{rules}
 use mathlib.Core.Path.{◌∙◌}
 use Rattle.state.specs.Faults.{refill_faults}
 use Rattle.state.proofs.faults.refill_fault.Goals as goal

@@ -1,5 +1,4 @@
 -- `sent_fault` meets its contract: argument by argument. Assumes nothing.
-use borrow.Author.Rules.{rules}
 use mathlib.Core.Path.{◌∙◌}
 use Rattle.state.specs.Faults.{sent_faults}
 use Rattle.state.proofs.faults.sent_fault.Goals as goal

@@ -1,5 +1,4 @@
 -- `slope_fault` meets its contract: argument by argument. Assumes nothing.
-use borrow.Author.Rules.{rules}
 use mathlib.Core.Path.{◌∙◌}
 use Rattle.state.specs.Faults.{slope_faults}
 use Rattle.state.proofs.faults.slope_fault.Goals as goal

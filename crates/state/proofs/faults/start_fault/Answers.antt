@@ -1,5 +1,4 @@
 -- `start_fault` meets its contract: argument by argument. Assumes nothing.
-use borrow.Author.Rules.{rules}
 use mathlib.Core.Path.{◌∙◌}
 use Rattle.state.specs.Faults.{start_faults}
 use Rattle.state.proofs.faults.start_fault.Goals as goal

@@ -1,5 +1,4 @@
 -- `started_fault` meets its contract: argument by argument. Assumes nothing.
-use borrow.Author.Rules.{rules}
 use mathlib.Core.Path.{◌∙◌}
 use Rattle.state.specs.Faults.{started_faults}
 use Rattle.state.proofs.faults.started_fault.Goals as goal

@@ -1,5 +1,4 @@
 -- `unless` meets its contract: by its test. Assumes nothing.
-use borrow.Author.Rules.{rules}
 use Rattle.state.proofs.faults.unless.Goals as goal
 
 pub returns-then-test : goal.returns-then-test

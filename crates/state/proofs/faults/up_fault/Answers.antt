@@ -1,5 +1,4 @@
 -- `up_fault` meets its contract: argument by argument. Assumes nothing.
-use borrow.Author.Rules.{rules}
 use mathlib.Core.Path.{◌∙◌}
 use Rattle.state.specs.Faults.{up_faults}
 use Rattle.state.proofs.faults.up_fault.Goals as goal

@@ -1,5 +1,4 @@
 -- `maxbw_ok` meets its contract: test by test.
-use borrow.Author.Rules.{rules}
 use Rattle.state.proofs.network_model.maxbw_ok.Goals as goal
 
 pub returns : goal.returns

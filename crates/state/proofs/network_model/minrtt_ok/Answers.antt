@@ -1,5 +1,4 @@
 -- `minrtt_ok` meets its contract: test by test.
-use borrow.Author.Rules.{rules}
 use Rattle.state.proofs.network_model.minrtt_ok.Goals as goal
 
 pub returns : goal.returns

@@ -1,5 +1,4 @@
 -- `start_reply` meets its contract.
-use borrow.Author.Rules.{rules}
 use Rattle.state.proofs.FirstFault.{asked}
 use Rattle.state.specs.NetworkModel.{start_number}
 use Rattle.state.proofs.network_model.start_reply.Goals as goal

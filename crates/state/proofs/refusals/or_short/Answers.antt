@@ -1,5 +1,4 @@
 -- `or_short_lem` meets its contract: by its one test. Assumes nothing.
-use borrow.Author.Rules.{rules}
 use mathlib.Core.Path.{refl, sym}
 use lib.Dec.{eqb}
 use borrow.Author.Tests.{eqb-true}

@@ -1,11 +1,7 @@
 -- `fault` meets its contract.
-use Rattle.text.proofs.Splits.{fault_here, fault_next, fault_none}
 use Rattle.text.specs.Fields.{fault_from}
-use borrow.Author.Tests.{not-true, not-false}
-use borrow.Author.Rules.{rules}
-use native.Mathlib.Omega.{arith}
 use lib.ListN.{length, drop}
-use mathlib.Core.Path.{◌≡◌, refl, ◌∙◌, sym}
+use mathlib.Core.Path.{◌≡◌}
 use Prim.Native.Nat.{◌≤◌, ◌-◌, ◌+◌}
 use Rattle.text.proofs.fields.fault.Given as goal
 

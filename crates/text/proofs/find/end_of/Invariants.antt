@@ -1,9 +1,7 @@
 -- `end_of` meets its contract: what is left to scan gives the same as all.
-use Rattle.text.proofs.Numbers.{before_here, before_more, before_end}
 use Rattle.text.specs.Inner.{before}
-use native.Mathlib.Omega.{arith}
 use lib.ListN.{length, drop}
-use mathlib.Core.Path.{◌≡◌, refl, ap}
+use mathlib.Core.Path.{◌≡◌}
 use Prim.Native.Nat.{◌-◌, ◌+◌}
 use Rattle.text.proofs.find.end_of.Given as goal
 

@@ -5,7 +5,6 @@ use lib.Seq.{length-take-le}
 use mathlib.Core.Path.{◌∙◌, sym}
 use native.Mathlib.Omega.{arith}
 use native.Mathlib.Nat.{zero-add}
-use borrow.Author.Rules.{rules}
 use Rattle.text.proofs.line.body.Goals as goal
 
 pub returns-then-end-s : goal.returns-then-end-s

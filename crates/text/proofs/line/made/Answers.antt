@@ -2,7 +2,6 @@
 use Rattle.text.proofs.Lines.{made_event}
 use Rattle.text.specs.Line.{made_of}
 use borrow.Author.Tests.{eq-eqb, ne_eqb}
-use borrow.Author.Rules.{rules}
 use Rattle.text.proofs.line.made.Goals as goal
 
 pub returns-then-kind-eq1 : goal.returns-then-kind-eq1

@@ -3,7 +3,6 @@ use Rattle.text.proofs.Lines.{line_long, line_short, line_no_cr, line_no_lf, lin
 use lib.Seq.{length-take-le}
 use mathlib.Core.Path.{◌∙◌, sym}
 use native.Mathlib.Omega.{arith}
-use borrow.Author.Rules.{rules}
 use Rattle.text.proofs.line.parse.Goals as goal
 
 pub returns-then-n-gt4096 : goal.returns-then-n-gt4096

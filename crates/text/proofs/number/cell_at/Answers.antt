@@ -1,7 +1,5 @@
 -- `cell_at` meets its contract.
-use borrow.Author.Tests.{not-true, not-false}
 use Rattle.text.proofs.Numbers.{at_none, at_bad, at_within, at_zero, at_one, at_other}
-use borrow.Author.Rules.{rules}
 use Rattle.text.proofs.number.cell_at.Goals as goal
 
 pub returns-then-end-at : goal.returns-then-end-at

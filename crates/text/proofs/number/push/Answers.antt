@@ -2,7 +2,6 @@
 use native.Mathlib.Omega.{arith}
 use borrow.Author.Tests.{not-true, not-false}
 use Rattle.text.proofs.Numbers.{push_none, push_low, push_high, push_over, push_fits}
-use borrow.Author.Rules.{rules}
 use Rattle.text.proofs.number.push.Goals as goal
 
 pub returns-then-not-n : goal.returns-then-not-n

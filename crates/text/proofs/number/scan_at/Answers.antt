@@ -1,11 +1,7 @@
 -- `scan_at` meets its contract.
-use Prim.Native.Nat.{◌≤◌, ◌+◌, ◌-◌}
-use mathlib.Core.Path.{◌≡◌, refl}
-use lib.ListN.{length, drop}
-use borrow.Author.Rules.{rules}
+use mathlib.Core.Path.{refl}
 use native.Mathlib.Omega.{arith}
-use Rattle.text.specs.Inner.{upto, pushed_all}
-use Rattle.text.proofs.Numbers.{some, scan_comma, scan_end, scan_number, scan_stop}
+use Rattle.text.proofs.Numbers.{scan_comma, scan_end, scan_number, scan_stop}
 use Rattle.text.proofs.number.scan_at.Goals as goal
 
 pub loop-i-init : goal.loop-i-init

@@ -1,11 +1,9 @@
 -- `scan_at` meets its contract.
 use Prim.Native.Nat.{◌≤◌, ◌+◌, ◌-◌}
-use mathlib.Core.Path.{◌≡◌, refl}
+use mathlib.Core.Path.{◌≡◌}
 use lib.ListN.{length, drop}
-use borrow.Author.Rules.{rules}
-use native.Mathlib.Omega.{arith}
 use Rattle.text.specs.Inner.{upto, pushed_all}
-use Rattle.text.proofs.Numbers.{some, scan_comma, scan_end, scan_number, scan_stop}
+use Rattle.text.proofs.Numbers.{some}
 use Rattle.text.proofs.number.scan_at.Given as goal
 
 abbrev pub invariant-loop-i : goal.invariant-loop-i

@@ -2,7 +2,6 @@
 use Rattle.text.specs.Text.{bytes}
 use Rattle.text.specs.Word.{kind_of}
 use mathlib.Core.Path.{◌∙◌, sym}
-use borrow.Author.Rules.{rules}
 use Rattle.text.proofs.word.kind.Goals as goal
 
 pub returns-then-same_text : goal.returns-then-same_text

@@ -1,10 +1,7 @@
 -- `same_text` meets its contract.
 use Rattle.text.proofs.Words.{same_length, same_differ, same_next, same_all}
-use Rattle.text.specs.Word.{same}
 use native.Mathlib.Omega.{arith}
-use lib.ListN.{length, drop}
-use mathlib.Core.Path.{◌≡◌, refl}
-use Prim.Native.Nat.{◌≤◌, ◌-◌}
+use mathlib.Core.Path.{refl}
 use Rattle.text.proofs.word.same_text.Goals as goal
 
 pub returns-then-a-b : goal.returns-then-a-b

@@ -1,9 +1,7 @@
 -- `same_text` meets its contract.
-use Rattle.text.proofs.Words.{same_length, same_differ, same_next, same_all}
 use Rattle.text.specs.Word.{same}
-use native.Mathlib.Omega.{arith}
 use lib.ListN.{length, drop}
-use mathlib.Core.Path.{◌≡◌, refl}
+use mathlib.Core.Path.{◌≡◌}
 use Prim.Native.Nat.{◌≤◌, ◌-◌}
 use Rattle.text.proofs.word.same_text.Given as goal
 

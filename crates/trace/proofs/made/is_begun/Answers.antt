@@ -5,7 +5,6 @@ use Rattle.state.specs.declared.params.Params.{Params}
 use lib.Dec.{eqb}
 use mathlib.Core.Path.{ap, ◌∙◌}
 use Prim.Native.Nat.{ℕ}
-use borrow.Author.Rules.{rules}
 use Rattle.trace.proofs.made.is_begun.Goals as goal
 
 pub returns : goal.returns

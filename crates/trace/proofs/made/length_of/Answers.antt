@@ -1,5 +1,4 @@
 -- `length_of` meets its contract: by the two cases.
-use borrow.Author.Rules.{rules}
 use Rattle.trace.proofs.made.length_of.Goals as goal
 
 pub returns-in-Unset : goal.returns-in-Unset

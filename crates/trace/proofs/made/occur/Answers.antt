@@ -1,7 +1,5 @@
 -- `occur` meets its contract: by whether the event is refused; its finish is not.
-use borrow.Author.Tests.{not-true, not-false}
 use Rattle.trace.proofs.Occur.{occur_is, occur_blames, refused_model, refused_ended, done_model, done_ended}
-use borrow.Author.Rules.{rules}
 use Rattle.trace.proofs.made.occur.Goals as goal
 
 pub returns-then-not-is_done : goal.returns-then-not-is_done

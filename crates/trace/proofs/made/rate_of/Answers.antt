@@ -1,5 +1,4 @@
 -- `rate_of` meets its contract: by the two cases.
-use borrow.Author.Rules.{rules}
 use Rattle.trace.proofs.made.rate_of.Goals as goal
 
 pub returns-in-Unset : goal.returns-in-Unset

@@ -1,6 +1,5 @@
 -- `record_of` meets its contract: field by field.
 use Rattle.trace.specs.Made.{record_of}
-use borrow.Author.Rules.{rules}
 use Rattle.trace.proofs.made.record_of.Goals as goal
 
 pub returns : goal.returns

@@ -1,6 +1,5 @@
 -- `sample_of` meets its contract: field by field.
 use Rattle.trace.specs.Made.{sample_of}
-use borrow.Author.Rules.{rules}
 use Rattle.trace.proofs.made.sample_of.Goals as goal
 
 pub returns : goal.returns

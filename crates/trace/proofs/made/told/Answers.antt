@@ -2,7 +2,6 @@
 use mathlib.Core.Path.{sym, ap}
 use Rattle.trace.specs.Made.{acked_by}
 use Rattle.trace.proofs.Occur.{told_by}
-use borrow.Author.Rules.{rules}
 use Rattle.trace.proofs.made.told.Goals as goal
 
 pub returns-in-Unset : goal.returns-in-Unset

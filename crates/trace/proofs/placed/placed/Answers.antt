@@ -1,6 +1,5 @@
 -- `placed` meets its contract: by whether a start was accepted, and by the line's kind.
 use Rattle.trace.specs.Placed.{early, placed_at}
-use borrow.Author.Rules.{rules}
 use Rattle.trace.proofs.placed.placed.Goals as goal
 
 pub returns-then-started : goal.returns-then-started

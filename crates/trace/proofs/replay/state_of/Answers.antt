@@ -1,6 +1,5 @@
 -- `state_of` meets its contract: field by field.
 use Rattle.trace.specs.Replay.{state_of}
-use borrow.Author.Rules.{rules}
 use Rattle.trace.proofs.replay.state_of.Goals as goal
 
 pub returns : goal.returns

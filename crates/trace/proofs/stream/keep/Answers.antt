@@ -1,10 +1,8 @@
 -- `keep` meets its contract: byte by byte, from the front.
 use Rattle.trace.proofs.Moves.{move_front, move_back, kept_length, kept_is, moved}
 use native.Mathlib.Omega.{arith}
-use borrow.Author.Rules.{rules}
-use lib.ListN.{length, drop, take, length-set, length-drop}
+use lib.ListN.{length-set, length-drop}
 use mathlib.Core.Path.{◌≡◌, refl, ◌∙◌, sym}
-use Prim.Native.Nat.{◌≤◌, ◌-◌, min}
 use Rattle.trace.proofs.stream.keep.Goals as goal
 
 pub loop-i-init : goal.loop-i-init

@@ -1,9 +1,6 @@
 -- `keep` meets its contract: byte by byte, from the front.
-use Rattle.trace.proofs.Moves.{move_front, move_back, kept_length, kept_is, moved}
-use native.Mathlib.Omega.{arith}
-use borrow.Author.Rules.{rules}
-use lib.ListN.{length, drop, take, length-set, length-drop}
-use mathlib.Core.Path.{◌≡◌, refl, ◌∙◌, sym}
+use lib.ListN.{length, drop, take}
+use mathlib.Core.Path.{◌≡◌}
 use Prim.Native.Nat.{◌≤◌, ◌-◌, min}
 use Rattle.trace.proofs.stream.keep.Given as goal
 

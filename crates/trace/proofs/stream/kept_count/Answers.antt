@@ -1,6 +1,5 @@
 -- `kept_count` meets its contract: by whether there is anything to keep.
 use native.Mathlib.Omega.{arith}
-use borrow.Author.Rules.{rules}
 use Rattle.trace.proofs.stream.kept_count.Goals as goal
 
 pub returns : goal.returns

@@ -1,7 +1,5 @@
 -- `run` meets its contract: what is left to answer gives the same as all (proofs/Streams.antt).
-use Rattle.trace.proofs.Streams.{Done, done_none, run_past, run_small, run_full, run_over, end_lt, done_next}
-use native.Mathlib.Omega.{arith}
-use borrow.Author.Rules.{rules}
+use Rattle.trace.proofs.Streams.{Done}
 use lib.ListN.{length}
 use mathlib.Core.Path.{◌≡◌}
 use Prim.Native.Nat.{◌-◌, ◌+◌}

@@ -1,6 +1,5 @@
 -- `grow` meets its contract: by the two cases.
 use Rattle.trace.specs.Tally.{grown}
-use borrow.Author.Rules.{rules}
 use Rattle.trace.proofs.tally.grow.Goals as goal
 
 pub returns-then-grows : goal.returns-then-grows

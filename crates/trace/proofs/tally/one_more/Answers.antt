@@ -1,7 +1,6 @@
 -- `one_more_lem` meets its contract: by the two cases.
 use borrow.Author.Tests.{eq-eqb, ne_eqb}
 use Rattle.trace.specs.Tally.{one_more}
-use borrow.Author.Rules.{rules}
 use Rattle.trace.proofs.tally.one_more.Goals as goal
 
 pub returns-then-n-eq18446744073709551615 : goal.returns-then-n-eq18446744073709551615

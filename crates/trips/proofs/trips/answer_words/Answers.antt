@@ -1,5 +1,4 @@
 -- `answer_words` meets its contract: by whether the call is refused. Assumes nothing.
-use borrow.Author.Rules.{rules}
 use borrow.Author.Tests.{eq-eqb, ne_eqb}
 use Rattle.state.specs.Answers.{settled}
 use Rattle.trips.specs.Trips.{shown}

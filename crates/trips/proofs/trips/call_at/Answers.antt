@@ -6,7 +6,6 @@ use mathlib.Core.Path.{◌∙◌, ap}
 use native.Mathlib.Omega.{arith}
 use lib.ListN.{length}
 use lib.Seq.{sets}
-use borrow.Author.Rules.{rules}
 use Rattle.words.specs.Words.{all_bytes}
 use Rattle.trips.proofs.Run.{length_settled, made}
 use Rattle.trips.proofs.trips.call_at.Goals as goal

@@ -1,6 +1,5 @@
 -- `call_fault` meets its contract: by the call's number. Assumes nothing.
 use mathlib.Core.Path.{◌∙◌}
-use borrow.Author.Rules.{rules}
 use borrow.Author.Tests.{eq-eqb, ne_eqb}
 use Rattle.state.specs.Faults.{first}
 use Rattle.trips.specs.Trips.{call_faults}

@@ -1,6 +1,4 @@
 -- `call_taken` meets its contract: by the call's number. Assumes nothing.
-use mathlib.Core.Path.{◌∙◌}
-use borrow.Author.Rules.{rules}
 use Rattle.trips.specs.Trips.{call_row, call_left}
 use Rattle.trips.proofs.trips.call_taken.Goals as goal
 

@@ -1,5 +1,4 @@
 -- `encodes_none` meets its contract: by the length, then by the flag. Assumes nothing.
-use borrow.Author.Rules.{rules}
 use borrow.Author.Tests.{eq-eqb, ne_eqb}
 use Rattle.trips.specs.Trips.{encodes_none}
 use Rattle.trips.proofs.trips.encodes_none.Goals as goal

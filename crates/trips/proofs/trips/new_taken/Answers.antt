@@ -1,6 +1,5 @@
 -- `new_taken` meets its contract: what its calls ensure, put together. Assumes nothing.
 use mathlib.Core.Path.{◌∙◌}
-use borrow.Author.Rules.{rules}
 use Rattle.trips.proofs.trips.new_taken.Goals as goal
 
 pub returns : goal.returns

@@ -1,7 +1,6 @@
 -- `other_taken` meets its contract: by the call's number. Assumes nothing.
 use mathlib.Core.Path.{◌∙◌}
 use mathlib.Core.Path.{refl}
-use borrow.Author.Rules.{rules}
 use borrow.Author.Tests.{eq-eqb, ne_eqb}
 use Rattle.trips.specs.Trips.{call_row, call_left}
 use Rattle.trips.proofs.trips.other_taken.Goals as goal

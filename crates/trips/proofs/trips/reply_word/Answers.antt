@@ -1,11 +1,8 @@
 -- `reply_word` meets its contract: by whether an argument is at fault. Assumes nothing.
-use Prim.Native.Nat.{ℕ}
-use mathlib.Core.Path.{◌∙◌, ap}
+use mathlib.Core.Path.{◌∙◌}
 use native.Mathlib.Omega.{arith}
-use borrow.Author.Rules.{rules}
-use borrow.Author.Tests.{eq-eqb, ne_eqb}
+use borrow.Author.Tests.{ne_eqb}
 use Rattle.state.specs.Faults.{named}
-use Rattle.units.specs.Reply.{reply_word}
 use Rattle.trips.proofs.trips.reply_word.Goals as goal
 
 pub returns-then-row-eq2 : goal.returns-then-row-eq2

@@ -1,10 +1,10 @@
 -- `run_calls` meets its contract: the invariant: the answers to the calls that are left, stored, make the answer, and those calls leave the estimator that is to be left. Assumes nothing.
-use Prim.Native.Nat.{◌-◌, ◌*◌, ◌/◌, ◌^◌, ◌≤◌, ◌<◌}
-use mathlib.Core.Path.{◌≡◌, refl, sym, ap, ◌∙◌}
+use Prim.Native.Nat.{◌*◌, ◌/◌}
+use mathlib.Core.Path.{◌≡◌, refl, ap, ◌∙◌}
 use native.Mathlib.Nat.{sub-zero, sub_self}
 use native.Mathlib.Omega.{arith}
 use lib.ListN.{length}
-use lib.Seq.{sets, length-sets}
+use lib.Seq.{length-sets}
 use Rattle.words.specs.Words.{all_bytes}
 use Rattle.trips.specs.Trips.{answer_at, answers_to, left_by}
 use Rattle.trips.proofs.Run.{left_later, write_answer}

@@ -1,13 +1,10 @@
 -- `run_calls` meets its contract: the invariant: the answers to the calls that are left, stored, make the answer, and those calls leave the estimator that is to be left. Assumes nothing.
-use Prim.Native.Nat.{◌-◌, ◌*◌, ◌/◌, ◌^◌, ◌≤◌, ◌<◌}
-use mathlib.Core.Path.{◌≡◌, refl, sym, ap, ◌∙◌}
-use native.Mathlib.Nat.{sub-zero, sub_self}
-use native.Mathlib.Omega.{arith}
+use Prim.Native.Nat.{◌-◌, ◌*◌, ◌^◌, ◌≤◌, ◌<◌}
+use mathlib.Core.Path.{◌≡◌}
 use lib.ListN.{length}
-use lib.Seq.{sets, length-sets}
+use lib.Seq.{sets}
 use Rattle.words.specs.Words.{all_bytes}
-use Rattle.trips.specs.Trips.{answer_at, answers_to, left_by}
-use Rattle.trips.proofs.Run.{left_later, write_answer}
+use Rattle.trips.specs.Trips.{answers_to, left_by}
 use Rattle.trips.proofs.trips.run_calls.Given as goal
 
 abbrev pub invariant-loop-i : goal.invariant-loop-i

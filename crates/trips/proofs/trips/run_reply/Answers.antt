@@ -1,6 +1,5 @@
 -- `run_reply` meets its contract: what the tests ensure, put into the rows. Assumes nothing.
 use mathlib.Core.Path.{◌∙◌}
-use borrow.Author.Rules.{rules}
 use Rattle.state.proofs.FirstFault.{asked, or_short_lem}
 use Rattle.trips.specs.Trips.{rtt_row, rtt_faults}
 use Rattle.trips.proofs.trips.run_reply.Goals as goal

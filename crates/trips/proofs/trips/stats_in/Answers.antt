@@ -1,5 +1,4 @@
 -- `stats_in` meets its contract: word by word. Assumes nothing.
-use borrow.Author.Rules.{rules}
 use Rattle.words.specs.Words.{words_at}
 use Rattle.trips.specs.Trips.{stats_from}
 use Rattle.trips.proofs.trips.stats_in.Goals as goal

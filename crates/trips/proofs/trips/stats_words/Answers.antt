@@ -1,5 +1,4 @@
 -- `stats_words` meets its contract: word by word. Assumes nothing.
-use borrow.Author.Rules.{rules}
 use Rattle.trips.specs.Trips.{stats_words}
 use Rattle.trips.proofs.trips.stats_words.Goals as goal
 

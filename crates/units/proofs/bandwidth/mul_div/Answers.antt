@@ -1,5 +1,5 @@
 -- `mul_div` divides the product by parts: the two partial products fit, and a law says what they make.
-use Rattle.std.proofs.Common.{sym, arith, rules}
+use Rattle.std.proofs.Common.{sym, arith}
 use Rattle.units.specs.Bandwidth.{nanos_per_byte}
 use Rattle.units.proofs.bandwidth.Division.{by_parts, parts_fit}
 use Rattle.units.proofs.bandwidth.mul_div.Goals as goal

@@ -1,5 +1,4 @@
 -- `fault_word` meets its contract: its fault as a wider number. Assumes nothing.
-use Rattle.std.proofs.Common.{rules}
 use Rattle.units.proofs.reply.fault_word.Goals as goal
 
 pub returns : goal.returns

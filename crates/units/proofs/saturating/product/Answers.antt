@@ -1,5 +1,5 @@
 -- `saturating::product` saturates: the quotient of its test bounds the product.
-use Rattle.std.proofs.Common.{div-lt_iff_lt-mul, mul-zero, le-div_iff_mul-le, arith, rules}
+use Rattle.std.proofs.Common.{div-lt_iff_lt-mul, mul-zero, le-div_iff_mul-le, arith}
 use Rattle.units.proofs.saturating.product.Goals as goal
 
 pub returns-then-b-eq0 : goal.returns-then-b-eq0

@@ -1,5 +1,4 @@
 -- `length_maybe` meets its contract: by the two cases.
-use borrow.Author.Rules.{rules}
 use Rattle.words.proofs.maybe.length_maybe.Goals as goal
 
 pub returns-in-Unset : goal.returns-in-Unset

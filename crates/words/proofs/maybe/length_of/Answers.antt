@@ -1,5 +1,4 @@
 -- `length_of` meets its contract: by whether the words are 0 and 0.
-use borrow.Author.Rules.{rules}
 use mathlib.Core.Path.{sym, ◌∙◌}
 use Rattle.words.proofs.maybe.length_of.Goals as goal
 

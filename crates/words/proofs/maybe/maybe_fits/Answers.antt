@@ -1,5 +1,4 @@
 -- `maybe_fits` meets its contract: by what its call ensures. Assumes nothing.
-use borrow.Author.Rules.{rules}
 use Rattle.words.proofs.maybe.maybe_fits.Goals as goal
 
 pub returns : goal.returns

@@ -1,6 +1,5 @@
 -- `float_of` meets its contract: by whether there are bits above the 32nd.
 use lib.Ieee.{div, of_bits}
-use borrow.Author.Rules.{rules}
 use borrow.Author.Tests.{lt-ltb, le-ltb}
 use Rattle.words.proofs.word.float_of.Goals as goal
 

@@ -1,5 +1,4 @@
 -- `MaxBandwidthFilter::get` answers the larger slot: what `Bandwidth::max` promises.
-use borrow.Author.Rules.{rules}
 use Rattle.filters.specs.MaxBandwidthFilter.{max_get}
 use Rattle.filters.proofs.max_bandwidth_filter.MaxBandwidthFilter.get.Goals as goal
 

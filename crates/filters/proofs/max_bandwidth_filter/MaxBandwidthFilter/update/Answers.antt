@@ -1,5 +1,4 @@
 -- `MaxBandwidthFilter::update` raises slot 1: by what `Bandwidth::max` promises.
-use borrow.Author.Rules.{rules}
 use Rattle.filters.specs.MaxBandwidthFilter.{max_update}
 use Rattle.filters.proofs.max_bandwidth_filter.MaxBandwidthFilter.update.Goals as goal
 

@@ -1,6 +1,5 @@
 -- `MinRttFilter::update` keeps or replaces the round trip: by the test.
 use borrow.Author.Tests.{lt-ltb, le-ltb}
-use borrow.Author.Rules.{rules}
 use Rattle.filters.specs.MinRttFilter.{min_update}
 use Rattle.filters.proofs.min_rtt_filter.MinRttFilter.update.Goals as goal
 

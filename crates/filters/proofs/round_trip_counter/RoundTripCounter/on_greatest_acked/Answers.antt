@@ -1,7 +1,6 @@
 -- `RoundTripCounter::on_greatest_acked` counts, refuses or leaves the counter: by what `is_passed_by` promises and the test of the count.
 use mathlib.Core.Path.{sym, ◌∙◌}
-use borrow.Author.Tests.{eq-eqb, ne_eqb, not-true, not-false}
-use borrow.Author.Rules.{rules}
+use borrow.Author.Tests.{eq-eqb, ne_eqb}
 use Rattle.filters.specs.RoundTripCounter.{rounds_full, rounds_number, rounds_acked, rounds_ended}
 use Rattle.filters.proofs.round_trip_counter.RoundTripCounter.on_greatest_acked.Goals as goal
 

@@ -1,6 +1,5 @@
 -- `RoundTripCounter::on_packets_acked` does what the greatest of the numbers does.
 use mathlib.Core.Path.{◌∙◌}
-use borrow.Author.Rules.{rules}
 use Rattle.filters.proofs.Greatest.{alone, number_same, acked_same, ended_same}
 use Rattle.filters.proofs.round_trip_counter.RoundTripCounter.on_packets_acked.Goals as goal
 

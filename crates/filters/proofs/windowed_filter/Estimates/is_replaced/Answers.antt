@@ -1,5 +1,4 @@
 -- `Estimates::is_replaced` is either test: by what `is_older` promises.
-use borrow.Author.Rules.{rules}
 use Rattle.filters.specs.WindowedFilter.{is_replaced}
 use Rattle.filters.proofs.windowed_filter.Estimates.is_replaced.Goals as goal
 

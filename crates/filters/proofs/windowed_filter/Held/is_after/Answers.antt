@@ -1,5 +1,4 @@
 -- `Held::is_after` follows the filter's case.
-use borrow.Author.Rules.{rules}
 use Rattle.filters.proofs.windowed_filter.Held.is_after.Goals as goal
 
 pub returns : goal.returns

@@ -1,5 +1,4 @@
 -- `Held::updated` follows step 1: by the filter's case, and what the callees promise.
-use borrow.Author.Rules.{rules}
 use Rattle.filters.proofs.windowed_filter.Held.updated.Goals as goal
 
 pub returns-in_default : goal.returns-in_default

@@ -2,7 +2,6 @@
 use native.Mathlib.Nat.{le_of_lt, sub-eq-zero_of_le}
 use borrow.Author.Tests.{le-ltb}
 use native.Mathlib.Omega.{arith}
-use borrow.Author.Rules.{rules}
 use Rattle.filters.proofs.windowed_filter.Sample.is_older.Goals as goal
 
 pub returns-then-time-self : goal.returns-then-time-self

@@ -1,5 +1,4 @@
 -- `Sample::lingers` is both tests: by what `is_older` promises.
-use borrow.Author.Rules.{rules}
 use Rattle.filters.specs.WindowedFilter.{lingers}
 use Rattle.filters.proofs.windowed_filter.Sample.lingers.Goals as goal
 

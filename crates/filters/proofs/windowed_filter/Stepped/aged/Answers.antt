@@ -1,5 +1,4 @@
 -- `Stepped::aged` takes step 3 or the steps after it: by what the callees promise.
-use borrow.Author.Rules.{rules}
 use Rattle.filters.specs.Reason.{aged_reason}
 use Rattle.filters.specs.WindowedFilter.{aged}
 use Rattle.filters.proofs.windowed_filter.Stepped.aged.Goals as goal

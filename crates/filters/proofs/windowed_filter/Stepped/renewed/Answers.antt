@@ -1,5 +1,4 @@
 -- `Stepped::renewed` takes step 4 or step 5: by what `lingers` promises of the tests.
-use borrow.Author.Rules.{rules}
 use mathlib.Core.Path.{refl}
 use Rattle.filters.specs.Reason.{renewed_reason}
 use Rattle.filters.specs.WindowedFilter.{renewed}

@@ -1,5 +1,4 @@
 -- `Stepped::shifted` follows step 3: by what `is_older` promises of the test.
-use borrow.Author.Rules.{rules}
 use mathlib.Core.Path.{refl}
 use Rattle.filters.specs.Reason.{shifted_reason}
 use Rattle.filters.specs.WindowedFilter.{shifted}

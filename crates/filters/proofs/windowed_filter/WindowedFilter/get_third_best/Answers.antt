@@ -1,5 +1,4 @@
 -- `WindowedFilter::get_third_best` follows the filter's case.
-use borrow.Author.Rules.{rules}
 use Rattle.filters.proofs.windowed_filter.WindowedFilter.get_third_best.Goals as goal
 
 pub returns-in-Set : goal.returns-in-Set

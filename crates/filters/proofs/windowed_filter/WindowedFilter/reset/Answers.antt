@@ -1,5 +1,4 @@
 -- `WindowedFilter::reset` fills the filter: by what `Estimates::all` promises.
-use borrow.Author.Rules.{rules}
 use Rattle.filters.specs.WindowedFilter.{windowed_reset}
 use Rattle.filters.proofs.windowed_filter.WindowedFilter.reset.Goals as goal
 

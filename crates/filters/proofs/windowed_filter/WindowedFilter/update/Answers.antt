@@ -1,5 +1,4 @@
 -- `WindowedFilter::update` refuses or takes the five steps: by what `is_after` promises of the test.
-use borrow.Author.Rules.{rules}
 use mathlib.Core.Path.{refl}
 use Rattle.filters.specs.Reason.{windowed_reason}
 use Rattle.filters.specs.WindowedFilter.{windowed_number, windowed_update}

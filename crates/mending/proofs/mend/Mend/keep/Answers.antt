@@ -1,6 +1,5 @@
 -- `Mend::keep` meets its contract.
 use Rattle.mending.specs.Sorted.{keeps}
-use borrow.Author.Rules.{rules}
 use Rattle.mending.proofs.mend.Mend.keep.Goals as goal
 
 pub returns : goal.returns

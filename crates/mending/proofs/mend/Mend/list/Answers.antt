@@ -1,6 +1,5 @@
 -- `Mend::list` meets its contract.
 use Rattle.mending.specs.Sorted.{lists}
-use borrow.Author.Rules.{rules}
 use Rattle.mending.proofs.mend.Mend.list.Goals as goal
 
 pub returns : goal.returns

@@ -1,9 +1,7 @@
 -- `Mend::sort` meets its contract: by the line where it stands.
 use Rattle.mending.proofs.Lines.{sort_is}
 use Rattle.mending.specs.Sorted.{keeps, sorted_here}
-use Rattle.mending.specs.declared.mend.Sorted.{Sorted}
 use mathlib.Core.Path.{sym, ap, ◌∙◌}
-use borrow.Author.Rules.{rules}
 use Rattle.mending.proofs.mend.Mend.sort.Goals as goal
 
 pub returns-in-Refused : goal.returns-in-Refused

@@ -1,7 +1,6 @@
 -- `Mend::take` meets its contract.
 use Rattle.mending.specs.Sorted.{sorted_as, sorted}
 use mathlib.Core.Path.{ap, ◌∙◌}
-use borrow.Author.Rules.{rules}
 use Rattle.mending.proofs.mend.Mend.take.Goals as goal
 
 pub returns : goal.returns

@@ -1,7 +1,6 @@
 -- `adjusted` meets its contract: what its calls ensure, put together. Assumes nothing.
 use mathlib.Core.Path.{◌∙◌}
-use borrow.Author.Rules.{rules}
-use Rattle.rtt.specs.Rtt.{adjusted, delay_taken}
+use Rattle.rtt.specs.Rtt.{adjusted}
 use Rattle.rtt.proofs.Lengths.{lesser_most, taken_most}
 use Rattle.rtt.proofs.rtt.RttStats.adjusted.Goals as goal
 

@@ -1,6 +1,5 @@
 -- `given` meets its contract: what the tests ensure, put into the rows. Assumes nothing.
 use mathlib.Core.Path.{refl}
-use borrow.Author.Rules.{rules}
 use Rattle.state.proofs.FirstFault.{asked}
 use Rattle.rtt.specs.Rtt.{given_number}
 use Rattle.rtt.proofs.rtt.RttStats.given.Goals as goal

@@ -1,5 +1,4 @@
 -- `later_sample` meets its contract: field by field. Assumes nothing.
-use borrow.Author.Rules.{rules}
 use Rattle.rtt.specs.Rtt.{later_sample}
 use Rattle.rtt.proofs.rtt.RttStats.later_sample.Goals as goal
 

@@ -1,6 +1,5 @@
 -- `latest_rtt` meets its contract: what is stored, if the stored numbers are within bounds. Assumes nothing.
 use mathlib.Core.Path.{refl, ap, ◌∙◌}
-use borrow.Author.Rules.{rules}
 use Rattle.state.proofs.Settling.{settled_as}
 use Rattle.units.specs.Reply.{number}
 use Rattle.rtt.proofs.rtt.RttStats.latest_rtt.Goals as goal

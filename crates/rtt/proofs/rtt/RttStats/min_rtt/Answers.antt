@@ -1,6 +1,5 @@
 -- `min_rtt` meets its contract: by whether it is refused. Assumes nothing.
 use mathlib.Core.Path.{refl}
-use borrow.Author.Rules.{rules}
 use Rattle.state.proofs.Settling.{done_as, refused_as}
 use Rattle.rtt.proofs.rtt.RttStats.min_rtt.Goals as goal
 

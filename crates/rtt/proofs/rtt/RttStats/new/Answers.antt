@@ -1,5 +1,4 @@
 -- `new` meets its contract: by whether it is refused. Assumes nothing.
-use borrow.Author.Rules.{rules}
 use Rattle.state.proofs.Settling.{done_as, refused_as}
 use Rattle.rtt.specs.Rtt.{new_left}
 use Rattle.rtt.proofs.rtt.RttStats.new.Goals as goal

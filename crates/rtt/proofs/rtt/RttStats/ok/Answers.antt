@@ -1,5 +1,4 @@
 -- `ok` meets its contract: test by test. Assumes nothing.
-use borrow.Author.Rules.{rules}
 use Rattle.rtt.specs.Rtt.{stats_tests}
 use Rattle.rtt.proofs.rtt.RttStats.ok.Goals as goal
 

@@ -1,6 +1,5 @@
 -- `rttvar` meets its contract: what is stored, if the stored numbers are within bounds. Assumes nothing.
 use mathlib.Core.Path.{refl, ap, ◌∙◌}
-use borrow.Author.Rules.{rules}
 use Rattle.state.proofs.Settling.{settled_as}
 use Rattle.units.specs.Reply.{number}
 use Rattle.rtt.proofs.rtt.RttStats.rttvar.Goals as goal

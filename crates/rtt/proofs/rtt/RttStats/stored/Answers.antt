@@ -1,6 +1,5 @@
 -- `stored` meets its contract: what the test ensures, put into the rows. Assumes nothing.
 use mathlib.Core.Path.{◌∙◌}
-use borrow.Author.Rules.{rules}
 use Rattle.rtt.specs.Rtt.{stored_number}
 use Rattle.rtt.proofs.rtt.RttStats.stored.Goals as goal
 

@@ -1,6 +1,5 @@
 -- `update_max_ack_delay` meets its contract: by whether it is refused. Assumes nothing.
 use mathlib.Core.Path.{refl, ap}
-use borrow.Author.Rules.{rules}
 use Rattle.state.proofs.FirstFault.{asked}
 use Rattle.state.proofs.Settling.{done_as, refused_as}
 use Rattle.rtt.specs.Rtt.{given_number, delay_number, delay_left}

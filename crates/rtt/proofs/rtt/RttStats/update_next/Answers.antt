@@ -1,7 +1,6 @@
 -- `update_next` meets its contract: by whether there was a sample before. Assumes nothing.
-use mathlib.Core.Path.{◌∙◌, ap}
+use mathlib.Core.Path.{◌∙◌}
 use native.Mathlib.Nat.{le_trans}
-use borrow.Author.Rules.{rules}
 use borrow.Author.Tests.{leb-true}
 use Rattle.rtt.specs.Rtt.{update_next}
 use Rattle.rtt.proofs.Exact.{lengths, adjusted_most}

@@ -1,8 +1,6 @@
 -- `update_reply` meets its contract: what its calls ensure, put together. Assumes nothing.
-use mathlib.Core.Path.{ap}
-use borrow.Author.Rules.{rules}
 use Rattle.state.proofs.FirstFault.{asked}
-use Rattle.rtt.specs.Rtt.{given_number, update_number}
+use Rattle.rtt.specs.Rtt.{update_number}
 use Rattle.rtt.proofs.rtt.RttStats.update_reply.Goals as goal
 
 pub returns : goal.returns

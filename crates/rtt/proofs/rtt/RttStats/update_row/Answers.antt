@@ -1,6 +1,5 @@
 -- `update_row` meets its contract: what the tests ensure, put into the rows. Assumes nothing.
 use mathlib.Core.Path.{◌∙◌}
-use borrow.Author.Rules.{rules}
 use Rattle.rtt.specs.Rtt.{given_number, update_number}
 use Rattle.rtt.proofs.rtt.RttStats.update_row.Goals as goal
 

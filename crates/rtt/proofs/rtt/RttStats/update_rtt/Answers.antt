@@ -1,5 +1,4 @@
 -- `update_rtt` meets its contract: what its calls ensure, put together. Assumes nothing.
-use borrow.Author.Rules.{rules}
 use Rattle.rtt.proofs.rtt.RttStats.update_rtt.Goals as goal
 
 pub returns : goal.returns

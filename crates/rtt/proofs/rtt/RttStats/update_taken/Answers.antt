@@ -1,10 +1,9 @@
 -- `update_taken` meets its contract: by whether it is refused. Assumes nothing.
 use mathlib.Core.Path.{◌∙◌}
 use mathlib.Core.Path.{sym}
-use borrow.Author.Rules.{rules}
 use borrow.Author.Tests.{eq-eqb, ne_eqb}
 use Rattle.state.specs.Answers.{settled}
-use Rattle.rtt.specs.Rtt.{update_left, update_next}
+use Rattle.rtt.specs.Rtt.{update_left}
 use Rattle.rtt.proofs.Exact.{update_fine}
 use Rattle.rtt.proofs.rtt.RttStats.update_taken.Goals as goal
 

@@ -1,5 +1,4 @@
 -- `Flag::of` meets its contract: by whether the call is done.
-use borrow.Author.Rules.{rules}
 use mathlib.Core.Path.{refl}
 use Rattle.state.proofs.Settling.{done, refused}
 use Rattle.state.proofs.answers.Flag.of.Goals as goal

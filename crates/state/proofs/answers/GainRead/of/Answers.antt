@@ -1,5 +1,4 @@
 -- `GainRead::of` meets its contract: by whether the call is done.
-use borrow.Author.Rules.{rules}
 use mathlib.Core.Path.{refl}
 use Rattle.state.proofs.Settling.{done, refused}
 use Rattle.state.proofs.answers.GainRead.of.Goals as goal

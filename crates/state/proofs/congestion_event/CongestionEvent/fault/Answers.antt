@@ -1,5 +1,4 @@
 -- `CongestionEvent::fault` meets its contract: field by field. Assumes nothing.
-use borrow.Author.Rules.{rules}
 use mathlib.Core.Path.{◌∙◌}
 use Rattle.state.specs.Faults.{record_faults}
 use Rattle.state.proofs.congestion_event.CongestionEvent.fault.Goals as goal

@@ -1,5 +1,4 @@
 -- `CongestionEvent::ok` meets its contract: test by test.
-use borrow.Author.Rules.{rules}
 use Rattle.state.specs.CongestionEvent.{event_tests}
 use Rattle.state.proofs.congestion_event.CongestionEvent.ok.Goals as goal
 

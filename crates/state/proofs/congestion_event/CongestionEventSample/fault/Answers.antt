@@ -1,5 +1,4 @@
 -- `CongestionEventSample::fault` meets its contract: field by field. Assumes nothing.
-use borrow.Author.Rules.{rules}
 use mathlib.Core.Path.{◌∙◌}
 use Rattle.state.specs.Faults.{sample_faults}
 use Rattle.state.proofs.congestion_event.CongestionEventSample.fault.Goals as goal

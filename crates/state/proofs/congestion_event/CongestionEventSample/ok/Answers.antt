@@ -1,5 +1,4 @@
 -- `CongestionEventSample::ok` meets its contract: test by test.
-use borrow.Author.Rules.{rules}
 use Rattle.state.specs.CongestionEvent.{sample_tests}
 use Rattle.state.proofs.congestion_event.CongestionEventSample.ok.Goals as goal
 

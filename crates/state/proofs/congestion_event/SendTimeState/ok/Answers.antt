@@ -1,5 +1,4 @@
 -- `SendTimeState::ok` meets its contract: test by test.
-use borrow.Author.Rules.{rules}
 use Rattle.state.proofs.congestion_event.SendTimeState.ok.Goals as goal
 
 pub returns : goal.returns

@@ -1,5 +1,4 @@
 -- `Cycle::fresh` meets its contract.
-use borrow.Author.Rules.{rules}
 use Rattle.state.specs.Cycle.{cycle_new}
 use Rattle.state.proofs.cycle.Cycle.fresh.Goals as goal
 

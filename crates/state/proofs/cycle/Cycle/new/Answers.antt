@@ -1,5 +1,4 @@
 -- `Cycle::new` meets its contract: by whether the start is done.
-use borrow.Author.Rules.{rules}
 use Rattle.state.proofs.Settling.{done_as, refused_as}
 use Rattle.state.specs.Cycle.{fresh_cycle}
 use Rattle.state.proofs.cycle.Cycle.new.Goals as goal

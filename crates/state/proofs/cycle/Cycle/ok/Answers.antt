@@ -1,5 +1,4 @@
 -- `Cycle::ok` meets its contract: test by test.
-use borrow.Author.Rules.{rules}
 use Rattle.state.specs.Cycle.{cycle_tests}
 use Rattle.state.proofs.cycle.Cycle.ok.Goals as goal
 

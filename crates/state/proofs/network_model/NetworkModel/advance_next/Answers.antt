@@ -1,5 +1,4 @@
 -- `NetworkModel::advance_next` meets its contract: part by part.
-use borrow.Author.Rules.{rules}
 use mathlib.Core.Path.{ap}
 use Rattle.state.specs.NetworkModel.{advance_next, with_maxbw}
 use Rattle.state.proofs.network_model.NetworkModel.advance_next.Goals as goal

@@ -1,5 +1,4 @@
 -- `NetworkModel::bdp_of` meets its contract.
-use borrow.Author.Rules.{rules}
 use mathlib.Core.Path.{ap, ◌∙◌}
 use Rattle.units.specs.declared.bandwidth.Bandwidth.{Bandwidth}
 use Rattle.units.specs.Bandwidth.{bytes_per_period}

@@ -1,5 +1,4 @@
 -- `NetworkModel::cap_next` meets its contract: part by part.
-use borrow.Author.Rules.{rules}
 use mathlib.Core.Path.{ap}
 use Rattle.state.specs.NetworkModel.{cap_next, with_lower}
 use Rattle.state.proofs.network_model.NetworkModel.cap_next.Goals as goal

@@ -1,5 +1,4 @@
 -- `NetworkModel::given` meets its contract.
-use borrow.Author.Rules.{rules}
 use Rattle.state.specs.NetworkModel.{given_number}
 use mathlib.Core.Path.{refl}
 use Rattle.state.proofs.FirstFault.{asked}

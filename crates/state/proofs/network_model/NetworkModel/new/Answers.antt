@@ -1,5 +1,4 @@
 -- `NetworkModel::new` meets its contract: by whether the start is done.
-use borrow.Author.Rules.{rules}
 use Rattle.state.proofs.Settling.{done_as, refused_as}
 use Rattle.state.specs.NetworkModel.{start_model}
 use Rattle.state.proofs.network_model.NetworkModel.new.Goals as goal

@@ -1,5 +1,4 @@
 -- `NetworkModel::ok` meets its contract: test by test.
-use borrow.Author.Rules.{rules}
 use Rattle.state.specs.NetworkModel.{model_tests}
 use Rattle.state.proofs.network_model.NetworkModel.ok.Goals as goal
 

@@ -1,5 +1,4 @@
 -- `NetworkModel::restart_next` meets its contract: part by part.
-use borrow.Author.Rules.{rules}
 use mathlib.Core.Path.{ap₂}
 use Rattle.filters.specs.declared.round_trip_counter.RoundTripCounter.{RoundTripCounter}
 use Rattle.state.specs.declared.parts.Round.{Round}

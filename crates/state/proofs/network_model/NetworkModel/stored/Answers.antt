@@ -1,5 +1,4 @@
 -- `NetworkModel::stored` meets its contract.
-use borrow.Author.Rules.{rules}
 use Rattle.state.specs.NetworkModel.{stored_number}
 use mathlib.Core.Path.{◌∙◌}
 use Rattle.state.proofs.network_model.NetworkModel.stored.Goals as goal

@@ -1,5 +1,4 @@
 -- `NetworkModel::stored_with` meets its contract.
-use borrow.Author.Rules.{rules}
 use mathlib.Core.Path.{◌∙◌}
 use Rattle.state.specs.NetworkModel.{headroom_number}
 use Rattle.state.proofs.network_model.NetworkModel.stored_with.Goals as goal

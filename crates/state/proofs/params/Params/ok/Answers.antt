@@ -1,5 +1,4 @@
 -- `Params::ok` meets its contract: test by test.
-use borrow.Author.Rules.{rules}
 use Rattle.state.specs.Params.{params_ok}
 use Rattle.state.proofs.params.Params.ok.Goals as goal
 

@@ -1,5 +1,4 @@
 -- `Gains::ok` meets its contract: test by test.
-use borrow.Author.Rules.{rules}
 use Rattle.state.proofs.parts.Gains.ok.Goals as goal
 
 pub returns : goal.returns

@@ -1,5 +1,4 @@
 -- `Lower::capped` meets its contract: an unset number is told first.
-use borrow.Author.Rules.{rules}
 use borrow.Author.Tests.{eq-eqb, ne_eqb}
 use Rattle.state.specs.Parts.{lower_capped}
 use Rattle.state.proofs.parts.Lower.capped.Goals as goal

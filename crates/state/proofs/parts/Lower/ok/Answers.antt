@@ -1,5 +1,4 @@
 -- `Lower::ok` meets its contract: test by test.
-use borrow.Author.Rules.{rules}
 use Rattle.state.proofs.parts.Lower.ok.Goals as goal
 
 pub returns : goal.returns

@@ -1,5 +1,4 @@
 -- `Rates::ok` meets its contract: test by test.
-use borrow.Author.Rules.{rules}
 use Rattle.state.proofs.parts.Rates.ok.Goals as goal
 
 pub returns : goal.returns

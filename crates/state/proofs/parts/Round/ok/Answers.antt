@@ -1,5 +1,4 @@
 -- `Round::ok` meets its contract: test by test.
-use borrow.Author.Rules.{rules}
 use Rattle.state.specs.Parts.{round_ok}
 use Rattle.state.proofs.parts.Round.ok.Goals as goal
 

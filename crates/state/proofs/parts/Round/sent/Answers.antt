@@ -1,5 +1,4 @@
 -- `Round::sent` meets its contract.
-use borrow.Author.Rules.{rules}
 use Rattle.state.specs.Parts.{round_sent}
 use Rattle.state.proofs.parts.Round.sent.Goals as goal
 

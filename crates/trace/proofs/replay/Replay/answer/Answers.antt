@@ -1,6 +1,5 @@
 -- `Replay::answer` meets its contract: the row, and the tally with it.
 use Rattle.trace.specs.Replay.{answered, row_of}
-use borrow.Author.Rules.{rules}
 use Rattle.trace.proofs.replay.Replay.answer.Goals as goal
 
 pub returns : goal.returns

@@ -1,6 +1,5 @@
 -- `Replay::count` meets its contract: one line more.
 use Rattle.trace.specs.Replay.{counted}
-use borrow.Author.Rules.{rules}
 use Rattle.trace.proofs.replay.Replay.count.Goals as goal
 
 pub returns : goal.returns

@@ -1,7 +1,5 @@
 -- `Replay::event` meets its contract: by whether a start was accepted.
-use borrow.Author.Tests.{not-true, not-false}
 use Rattle.trace.proofs.Steps.{event_early, event_is}
-use borrow.Author.Rules.{rules}
 use Rattle.trace.proofs.replay.Replay.event.Goals as goal
 
 pub returns-then-not-begun : goal.returns-then-not-begun

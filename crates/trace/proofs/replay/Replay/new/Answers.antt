@@ -6,7 +6,6 @@ use Rattle.state.specs.Answers.{zero_length, zero_moment}
 use Rattle.state.specs.NetworkModel.{start_model}
 use Rattle.trace.specs.Tally.{no_tally}
 use Rattle.trace.specs.Replay.{begin}
-use borrow.Author.Rules.{rules}
 use Rattle.trace.proofs.replay.Replay.new.Goals as goal
 
 pub returns : goal.returns

@@ -1,6 +1,5 @@
 -- `Replay::read` meets its contract: by the line's kind.
 use Rattle.trace.proofs.Steps.{read_refused, read_start, read_sent, read_event}
-use borrow.Author.Rules.{rules}
 use Rattle.trace.proofs.replay.Replay.read.Goals as goal
 
 pub returns-in-Refused : goal.returns-in-Refused

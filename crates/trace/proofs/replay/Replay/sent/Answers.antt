@@ -1,7 +1,6 @@
 -- `Replay::sent` meets its contract: by whether a start was accepted.
 use borrow.Author.Tests.{not-true, not-false}
 use Rattle.trace.proofs.Steps.{sent_early, sent_is}
-use borrow.Author.Rules.{rules}
 use Rattle.trace.proofs.replay.Replay.sent.Goals as goal
 
 pub returns-then-not-self : goal.returns-then-not-self

@@ -1,6 +1,5 @@
 -- `Replay::start` meets its contract: by the laws of proofs/Steps.antt.
 use Rattle.trace.proofs.Steps.{start_is}
-use borrow.Author.Rules.{rules}
 use Rattle.trace.proofs.replay.Replay.start.Goals as goal
 
 pub returns : goal.returns

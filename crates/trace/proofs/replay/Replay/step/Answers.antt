@@ -1,7 +1,6 @@
 -- `Replay::step` meets its contract: the line is read, then answered.
 use mathlib.Core.Path.{ap, ◌∙◌}
 use Rattle.trace.specs.Replay.{read_line, stepped}
-use borrow.Author.Rules.{rules}
 use Rattle.trace.proofs.replay.Replay.step.Goals as goal
 
 pub returns : goal.returns

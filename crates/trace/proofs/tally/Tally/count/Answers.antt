@@ -1,6 +1,5 @@
 -- `Tally::count` meets its contract: field by field.
 use Rattle.trace.specs.Tally.{tallied}
-use borrow.Author.Rules.{rules}
 use Rattle.trace.proofs.tally.Tally.count.Goals as goal
 
 pub returns : goal.returns

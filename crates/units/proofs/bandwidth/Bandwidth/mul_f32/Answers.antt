@@ -1,6 +1,4 @@
 -- `Bandwidth::mul_f32` meets its contract: what its two calls ensure, one put into the other.
-use Rattle.std.proofs.Common.{ap, ◌∙◌, rules}
-use lib.Ieee.{Float}
 use Rattle.units.specs.Bandwidth.{times_f32}
 use Rattle.units.proofs.bandwidth.Bandwidth.mul_f32.Goals as goal
 

@@ -1,5 +1,5 @@
 -- `Bandwidth::to_bytes_per_period` is exact: a product of 64 digits is divided as it is; otherwise whole multiples of the divisor come out of both numbers, and what is left fits.
-use Rattle.std.proofs.Common.{◌-◌, ◌*◌, ◌^◌, arith, rules, eq-eqb, ne_eqb}
+use Rattle.std.proofs.Common.{◌-◌, ◌*◌, ◌^◌, arith, eq-eqb, ne_eqb}
 use Rattle.units.specs.Bandwidth.{nanos_per_byte, bytes_per_period}
 use Rattle.units.proofs.bandwidth.Division.{rest_fits, fits_64, not_most, no_limit, saturated}
 use Rattle.units.proofs.bandwidth.Bandwidth.to_bytes_per_period.Goals as goal
@@ -22,16 +22,16 @@ returns-else-nanos-eq0 c = simp (eq-eqb _ _ c.if-bits.true, ne_eqb _ _ c.if-nano
 
 pub overflow_mul-part : goal.overflow_mul-part
 overflow_mul-part c = omega (
-      arith,
-      rest_fits nanos_per_byte c.args.period.0 c.args.self.0 (omega arith),
-    )
+  arith,
+  rest_fits nanos_per_byte c.args.period.0 c.args.self.0 (omega arith),
+)
 
 pub overflow_add-part : goal.overflow_add-part
 overflow_add-part c = omega (
-      arith,
-      c.mul_div.ensures,
-      rest_fits nanos_per_byte c.args.period.0 c.args.self.0 (omega arith),
-    )
+  arith,
+  c.mul_div.ensures,
+  rest_fits nanos_per_byte c.args.period.0 c.args.self.0 (omega arith),
+)
 
 pub returns : goal.returns
 unfolding bytes_per_period

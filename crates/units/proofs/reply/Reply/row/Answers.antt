@@ -1,5 +1,5 @@
 -- `Reply::row` meets its contract: by what `rank` promises, and its one test. Assumes nothing.
-use Rattle.std.proofs.Common.{sym, rules, eq-eqb, ne_eqb}
+use Rattle.std.proofs.Common.{sym, eq-eqb, ne_eqb}
 use Rattle.units.proofs.reply.Reply.row.Goals as goal
 
 pub returns-then-rank-eq8 : goal.returns-then-rank-eq8

@@ -1,5 +1,4 @@
 -- `Reply::word` meets its contract: reply by reply. Assumes nothing.
-use Rattle.std.proofs.Common.{rules}
 use Rattle.units.proofs.reply.Reply.word.Goals as goal
 
 pub returns-in-Done : goal.returns-in-Done

@@ -1,5 +1,4 @@
 -- `Moment::plus` saturates: by what `saturating::sum` promises.
-use Rattle.std.proofs.Common.{rules}
 use Rattle.units.proofs.time.Moment.plus.Goals as goal
 
 pub returns : goal.returns
