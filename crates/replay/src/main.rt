@@ -4,14 +4,15 @@
 
 mod summary;
 
-ghost use Rattle.std.specs.Prelude.{◌≤◌, true, ◌≡◌, length};
+ghost use Rattle.std.specs.Prelude.{◌≤◌, ◌≡◌, OnOk, length};
 ghost use Rattle.trace.specs.Output.{last_replay};
 ghost use Rattle.trace.specs.Pieces.{AnswersAll};
 
 use console::input::{Header, read_header, read_piece};
-use console::said::{progress, say};
-use libc::STDOUT_FILENO;
+use console::said::{fail, progress, say};
 use rows::row::put_row;
+use std::io;
+use std::io::{ErrorKind, Read};
 use summary::summary;
 use trace::Replay;
 use trace::stream::{keep, run};
@@ -22,13 +23,12 @@ use trace::stream::{keep, run};
 struct Answered {
     replay: Replay,
     at: usize,
-    fine: bool,
+    written: io::Result<()>,
 }
 
 // Answers the lines of s, run after run, until one answers none.
-fn answer(replay: Replay, s: &[u8], out: &mut [u8]) -> Answered
-    ensures { result.fine ≡ true →
-        AnswersAll s.now (length out.old) replay result.replay result.at }
+fn answer(rt: &impl Print, replay: Replay, s: &[u8], out: &mut [u8]) -> Answered
+    ensures { OnOk result.written (AnswersAll s.now (length out.old) replay result.replay result.at) }
 {
     let mut cur = replay;
     let mut at: usize = 0;
@@ -40,14 +40,14 @@ fn answer(replay: Replay, s: &[u8], out: &mut [u8]) -> Answered
             return Answered {
                 replay: cur,
                 at,
-                fine: true,
+                written: Ok(()),
             };
         }
-        if !io::write_all(STDOUT_FILENO, &out[..written]) {
+        if let Err(e) = rt.write_all(&out[..written]) {
             return Answered {
                 replay: cur,
                 at,
-                fine: false,
+                written: Err(e),
             };
         }
         cur = ran.replay;
@@ -56,137 +56,172 @@ fn answer(replay: Replay, s: &[u8], out: &mut [u8]) -> Answered
     Answered {
         replay: cur,
         at,
-        fine: true,
+        written: Ok(()),
     }
 }
 
 // The bytes after the last line feed are one more line.
-fn last(replay: Replay, s: &[u8], out: &mut [u8]) -> Answered
-    ensures { result.fine ≡ true → result.replay ≡ last_replay replay s.now }
+fn last(rt: &impl Print, replay: Replay, s: &[u8], out: &mut [u8]) -> Answered
+    ensures { OnOk result.written (result.replay ≡ last_replay replay s.now) }
 {
     if s.len() == 0 {
         return Answered {
             replay,
             at: 0,
-            fine: true,
+            written: Ok(()),
         };
     }
     if out.len() < 148 {
         return Answered {
             replay,
             at: 0,
-            fine: false,
+            written: Err(io::Error::from(ErrorKind::WriteZero)),
         };
     }
     let stepped = replay.step(s);
     let row = stepped.row;
     let after = stepped.replay;
     let n = put_row(out, 0, row);
-    let fine = io::write_all(STDOUT_FILENO, &out[..n]);
+    let written = rt.write_all(&out[..n]);
     Answered {
         replay: after,
         at: 0,
-        fine,
+        written,
     }
 }
 
-// The replay after a piece, how many bytes are held for the next, and how it goes on: 0 with the next piece, 1 the input has
-// ended, 2 it can't be read, 3 the rows can't be written.
+// How the replay goes on after a piece: with the next one, or it ends.
+#[derive(Clone, Copy)]
+enum Way {
+    Next,
+    End,
+    Unreadable(io::Error),
+    Unwritable(io::Error),
+}
+
+// The way on from what was written.
+fn way_on(written: io::Result<()>, way: Way) -> Way {
+    match written {
+        Ok(()) => way,
+        Err(e) => Way::Unwritable(e),
+    }
+}
+
+// The replay after a piece, how many bytes are held for the next, and how it goes on.
 #[derive(Clone, Copy)]
 struct Turn {
     replay: Replay,
     held: usize,
-    way: u8,
+    way: Way,
 }
 
-// Reads a piece, answers its lines, and holds the bytes of a line that is not ended.
-fn take_turn(replay: Replay, held: usize, buf: &mut [u8], out: &mut [u8]) -> Turn
-    requires { (held ≤ 4097) × (69633 ≤ length buf.old) }
+// Answers the lines of what is read, and holds the bytes of a line that is not ended; nothing more is read at the end.
+fn answer_piece(
+    rt: &impl Print,
+    replay: Replay,
+    got: usize,
+    end: usize,
+    buf: &mut [u8],
+    out: &mut [u8],
+) -> Turn
+    requires { end ≤ length buf.old }
     ensures { result.held ≤ 4097 }
 {
-    let piece = read_piece(buf, held);
-    let end = held + piece.got;
-    if !piece.fine {
-        return Turn {
-            replay,
-            held: 0,
-            way: 2,
-        };
-    }
-    if piece.got == 0 {
-        let ended = last(replay, &buf[..end], out);
+    if got == 0 {
+        let ended = last(rt, replay, &buf[..end], out);
         let whole = ended.replay;
         return Turn {
             replay: whole,
             held: 0,
-            way: if ended.fine { 1 } else { 3 },
+            way: way_on(ended.written, Way::End),
         };
     }
-    let answered = answer(replay, &buf[..end], out);
+    let answered = answer(rt, replay, &buf[..end], out);
     let at = answered.at;
     let next = answered.replay;
     let kept = keep(buf, at, end);
     Turn {
         replay: next,
         held: kept,
-        way: if answered.fine { 0 } else { 3 },
+        way: way_on(answered.written, Way::Next),
     }
 }
 
-// Says how the replay ended.
-fn finish(replay: Replay, way: u8) {
-    if way == 1 {
-        summary(replay);
-        return;
+// Reads a piece, answers its lines, and holds the bytes of a line that is not ended.
+fn take_turn(
+    rt: &impl Print,
+    input: &mut impl Read,
+    replay: Replay,
+    held: usize,
+    buf: &mut [u8],
+    out: &mut [u8],
+) -> Turn
+    requires { (held ≤ 4097) × (69633 ≤ length buf.old) }
+    ensures { result.held ≤ 4097 }
+{
+    match read_piece(input, buf, held) {
+        Ok(got) => answer_piece(rt, replay, got, held + got, buf, out),
+        Err(e) => Turn {
+            replay,
+            held: 0,
+            way: Way::Unreadable(e),
+        },
     }
-    if way == 2 {
-        os::fail(b"the input can't be read");
-        return;
-    }
-    os::fail(b"the rows can't be written");
 }
+
+const UNREADABLE: &str = "the input can't be read";
+
+const UNWRITABLE: &str = "the rows can't be written";
 
 // Replays what follows the header. A proved loop has to end, and nothing says that the input does: it stops after 2^40
 // pieces, which no input has.
-fn pump(buf: &mut [u8], out: &mut [u8])
+fn pump(rt: &(impl Print + Eprint + Alloc), input: &mut impl Read, buf: &mut [u8], out: &mut [u8])
     requires { 69633 ≤ length buf.old }
 {
     let mut replay = Replay::new();
     let mut held: usize = 0;
     for _ in 0u64..1_099_511_627_776 {
-        let turn = take_turn(replay, held, buf, out);
+        let turn = take_turn(rt, input, replay, held, buf, out);
         let next = turn.replay;
-        progress(replay.line, next.line);
+        progress(rt, replay.line, next.line);
         replay = next;
         held = turn.held;
-        let way = turn.way;
-        if way != 0 {
-            finish(replay, way);
-            return;
+        match turn.way {
+            Way::Next => {}
+            Way::End => return summary(rt, replay),
+            Way::Unreadable(e) => return fail(rt, UNREADABLE, e),
+            Way::Unwritable(e) => return fail(rt, UNWRITABLE, e),
         }
     }
-    say(b"the input is too long: 2^40 pieces were read\n");
+    say(rt, "the input is too long: 2^40 pieces were read\n");
 }
 
-fn main() {
-    let header = read_header();
-    if let Header::Unreadable = header {
-        os::fail(b"the input can't be read");
-        return;
+// Writes the header of the rows, and the row that answers a wrong header.
+fn begin(rt: &impl Print, header: Header) -> io::Result<()> {
+    rt.write_all(b"line,refusal,round,max_bw,lo,hi\r\n")?;
+    match header {
+        Header::Right => Ok(()),
+        Header::Wrong => rt.write_all(b"0,6,,,,\r\n"),
     }
-    if !io::write_all(STDOUT_FILENO, b"line,refusal,round,max_bw,lo,hi\r\n") {
-        os::fail(b"the rows can't be written");
-        return;
+}
+
+fn main(rt: HostRuntime) {
+    let mut input = rt.reader();
+    let header = match read_header(&mut input) {
+        Ok(header) => header,
+        Err(e) => return fail(&rt, UNREADABLE, e),
+    };
+    if let Err(e) = begin(&rt, header) {
+        return fail(&rt, UNWRITABLE, e);
     }
     if let Header::Wrong = header {
-        if !io::write_all(STDOUT_FILENO, b"0,6,,,,\r\n") {
-            os::fail(b"the rows can't be written");
-            return;
-        }
-        say(b"the header is wrong or missing: nothing was replayed\n");
+        say(
+            &rt,
+            "the header is wrong or missing: nothing was replayed\n",
+        );
         return;
     }
     let mut buf = [0u8; 69_633];
     let mut out = [0u8; 65_536];
-    pump(&mut buf, &mut out);
+    pump(&rt, &mut input, &mut buf, &mut out);
 }
