@@ -8,10 +8,8 @@ fn space(rt: &impl Print) {
 }
 
 fn spaces(rt: &impl Print, count: usize) {
-    let mut left = count;
-    while left > 0 {
+    for _ in 0..count {
         space(rt);
-        left -= 1;
     }
 }
 
