@@ -4,45 +4,66 @@
 
 mod list;
 
-ghost use Rattle.std.specs.Prelude.{◌≤◌, [], ◌≡◌, length, drop};
+ghost use Rattle.std.specs.Prelude.{◌≤◌, [], ◌≡◌, OnOk, length, drop};
 ghost use Rattle.trace.specs.Stream.{lines_from, rest_from};
 ghost use Rattle.mending.specs.Mend.{last_line};
 ghost use Rattle.mending.specs.Pieces.{mend_after};
 
 use console::input::{Header, read_header, read_piece};
-use console::said::{progress, say, say_number};
-use libc::STDOUT_FILENO;
+use console::said::{fail, progress, say, say_number};
 use mending::Mend;
 use mending::sift::{put_sorted, sift};
+use std::fs::OpenFile;
+use std::io;
+use std::io::{Read, Seek, Write};
+use std::os::fd::AsRawFd;
+use std::rt::Files;
 use trace::stream::keep;
 
-// How it goes on: 0 with the next piece, 1 the input has ended, 2 it can't be read, 3 the mended trace can't be written, 4
-// the list can't be written.
-fn write_both(list: i32, lines: &[u8], entries: &[u8], way: u8) -> u8
-    ensures { (result ≡ 0 → way ≡ 0) × (result ≡ 1 → way ≡ 1) }
-{
-    if !io::write_all(STDOUT_FILENO, lines) {
-        return 3;
-    }
-    if !io::write_all(list, entries) {
-        return 4;
-    }
-    way
+// What failed, and why.
+#[derive(Clone, Copy)]
+enum Failed {
+    Input(io::Error),
+    Trace(io::Error),
+    List(io::Error),
 }
 
-// What is known when the lines of a piece are sifted, where the bytes of a line that is not ended begin, and how it goes on.
+fn write_both(
+    rt: &impl Print,
+    list: &mut impl Write,
+    lines: &[u8],
+    entries: &[u8],
+) -> Result<(), Failed> {
+    if let Err(e) = rt.write_all(lines) {
+        return Err(Failed::Trace(e));
+    }
+    match list.write_all(entries) {
+        Ok(()) => Ok(()),
+        Err(e) => Err(Failed::List(e)),
+    }
+}
+
+// What is known when the lines of a piece are sifted, where the bytes of a line that is not ended begin, and whether all was
+// written.
 #[derive(Clone, Copy)]
 struct Answered {
     mend: Mend,
     at: usize,
-    way: u8,
+    written: Result<(), Failed>,
 }
 
 // Sifts the lines of s, run after run, until one sifts none.
-fn answer(list: i32, mend: Mend, s: &[u8], out: &mut [u8], entries: &mut [u8]) -> Answered
+fn answer(
+    rt: &impl Print,
+    list: &mut impl Write,
+    mend: Mend,
+    s: &[u8],
+    out: &mut [u8],
+    entries: &mut [u8],
+) -> Answered
     requires { (4096 ≤ length out.old) × (43 ≤ length entries.old) }
-    ensures { result.way ≡ 0 →
-        (result.mend ≡ mend_after mend (lines_from [] s.now)) × (drop result.at s.now ≡ rest_from [] s.now) }
+    ensures { OnOk result.written
+        ((result.mend ≡ mend_after mend (lines_from [] s.now)) × (drop result.at s.now ≡ rest_from [] s.now)) }
 {
     let mut cur = mend;
     let mut at: usize = 0;
@@ -55,12 +76,15 @@ fn answer(list: i32, mend: Mend, s: &[u8], out: &mut [u8], entries: &mut [u8]) -
             return Answered {
                 mend: cur,
                 at,
-                way: 0,
+                written: Ok(()),
             };
         }
-        let way = write_both(list, &out[..kept], &entries[..listed], 0);
-        if way != 0 {
-            return Answered { mend: cur, at, way };
+        if let Err(e) = write_both(rt, list, &out[..kept], &entries[..listed]) {
+            return Answered {
+                mend: cur,
+                at,
+                written: Err(e),
+            };
         }
         cur = sifted.mend;
         at = next;
@@ -68,20 +92,27 @@ fn answer(list: i32, mend: Mend, s: &[u8], out: &mut [u8], entries: &mut [u8]) -
     Answered {
         mend: cur,
         at,
-        way: 0,
+        written: Ok(()),
     }
 }
 
 // The bytes after the last line feed are one more line.
-fn last(list: i32, mend: Mend, s: &[u8], out: &mut [u8], entries: &mut [u8]) -> Answered
+fn last(
+    rt: &impl Print,
+    list: &mut impl Write,
+    mend: Mend,
+    s: &[u8],
+    out: &mut [u8],
+    entries: &mut [u8],
+) -> Answered
     requires { (4096 ≤ length out.old) × (43 ≤ length entries.old) }
-    ensures { result.way ≡ 1 → result.mend ≡ mend_after mend (last_line s.now) }
+    ensures { OnOk result.written (result.mend ≡ mend_after mend (last_line s.now)) }
 {
     if s.len() == 0 {
         return Answered {
             mend,
             at: 0,
-            way: 1,
+            written: Ok(()),
         };
     }
     let sorted = mend.take(s);
@@ -89,11 +120,27 @@ fn last(list: i32, mend: Mend, s: &[u8], out: &mut [u8], entries: &mut [u8]) -> 
     let ends = put_sorted(sorted, s, out, 0, entries, 0);
     let kept = ends.kept;
     let listed = ends.listed;
-    let way = write_both(list, &out[..kept], &entries[..listed], 1);
+    let written = write_both(rt, list, &out[..kept], &entries[..listed]);
     Answered {
         mend: after,
         at: 0,
-        way,
+        written,
+    }
+}
+
+// How it goes on after a piece: with the next one, or it ends.
+#[derive(Clone, Copy)]
+enum Way {
+    Next,
+    End,
+    GiveUp(Failed),
+}
+
+// The way on from what was written.
+fn way_on(written: Result<(), Failed>, way: Way) -> Way {
+    match written {
+        Ok(()) => way,
+        Err(e) => Way::GiveUp(e),
     }
 }
 
@@ -102,12 +149,48 @@ fn last(list: i32, mend: Mend, s: &[u8], out: &mut [u8], entries: &mut [u8]) -> 
 struct Turn {
     mend: Mend,
     held: usize,
-    way: u8,
+    way: Way,
+}
+
+// Sifts the lines of what is read, and holds the bytes of a line that is not ended; nothing more is read at the end.
+fn answer_piece(
+    rt: &impl Print,
+    list: &mut impl Write,
+    mend: Mend,
+    got: usize,
+    end: usize,
+    buf: &mut [u8],
+    out: &mut [u8],
+    entries: &mut [u8],
+) -> Turn
+    requires { (end ≤ length buf.old) × (4096 ≤ length out.old) × (43 ≤ length entries.old) }
+    ensures { result.held ≤ 4097 }
+{
+    if got == 0 {
+        let ended = last(rt, list, mend, &buf[..end], out, entries);
+        let whole = ended.mend;
+        return Turn {
+            mend: whole,
+            held: 0,
+            way: way_on(ended.written, Way::End),
+        };
+    }
+    let answered = answer(rt, list, mend, &buf[..end], out, entries);
+    let at = answered.at;
+    let next = answered.mend;
+    let kept = keep(buf, at, end);
+    Turn {
+        mend: next,
+        held: kept,
+        way: way_on(answered.written, Way::Next),
+    }
 }
 
 // Reads a piece, sifts its lines, and holds the bytes of a line that is not ended.
 fn take_turn(
-    list: i32,
+    rt: &impl Print,
+    input: &mut impl Read,
+    list: &mut impl Write,
     mend: Mend,
     held: usize,
     buf: &mut [u8],
@@ -117,126 +200,157 @@ fn take_turn(
     requires { (held ≤ 4097) × (69633 ≤ length buf.old) × (4096 ≤ length out.old) × (43 ≤ length entries.old) }
     ensures { result.held ≤ 4097 }
 {
-    let piece = read_piece(buf, held);
-    let end = held + piece.got;
-    if !piece.fine {
-        return Turn {
+    match read_piece(input, buf, held) {
+        Ok(got) => answer_piece(rt, list, mend, got, held + got, buf, out, entries),
+        Err(e) => Turn {
             mend,
             held: 0,
-            way: 2,
-        };
+            way: Way::GiveUp(Failed::Input(e)),
+        },
     }
-    if piece.got == 0 {
-        let ended = last(list, mend, &buf[..end], out, entries);
-        let whole = ended.mend;
-        return Turn {
-            mend: whole,
-            held: 0,
-            way: ended.way,
-        };
-    }
-    let answered = answer(list, mend, &buf[..end], out, entries);
-    let at = answered.at;
-    let next = answered.mend;
-    let kept = keep(buf, at, end);
-    Turn {
-        mend: next,
-        held: kept,
-        way: answered.way,
+}
+
+// Says what failed.
+fn say_failed(rt: &(impl Eprint + Alloc), failed: Failed) {
+    match failed {
+        Failed::Input(e) => fail(rt, "the input can't be read", e),
+        Failed::Trace(e) => fail(rt, "the mended trace can't be written", e),
+        Failed::List(e) => fail(rt, "the list can't be written", e),
     }
 }
 
 // Says what failed, and leaves no list.
-fn give_up(what: &[u8]) {
-    os::fail(what);
-    list::remove();
+fn give_up(rt: &(impl Files + Eprint + Alloc), name: &str, failed: Failed) {
+    say_failed(rt, failed);
+    list::remove(rt, name);
 }
 
-// Says how it ended.
-fn finish(list: i32, mend: Mend, way: u8) {
-    if way == 2 {
-        give_up(b"the input can't be read");
-        return;
+// Finishes the list, and says how it ended.
+fn finish(
+    rt: &(impl Files + Eprint + Alloc),
+    name: &str,
+    list: &mut (impl Write + Seek + OpenFile),
+    mend: Mend,
+) {
+    if let Err(e) = list::finish(list) {
+        return give_up(rt, name, Failed::List(e));
     }
-    if way == 3 {
-        give_up(b"the mended trace can't be written");
-        return;
-    }
-    if way == 4 {
-        give_up(b"the list can't be written");
-        return;
-    }
-    if libc::close(STDOUT_FILENO) != 0 {
-        give_up(b"the mended trace can't be written");
-        return;
-    }
-    if !list::finish(list) {
-        give_up(b"the list can't be written");
-        return;
-    }
-    say(b"lines: ");
-    say_number(mend.line);
-    say(b"\nkept: ");
-    say_number(mend.kept);
-    say(b"\nlisted: ");
-    say_number(mend.listed);
-    say(b"\n");
+    say(rt, "lines: ");
+    say_number(rt, mend.line);
+    say(rt, "\nkept: ");
+    say_number(rt, mend.kept);
+    say(rt, "\nlisted: ");
+    say_number(rt, mend.listed);
+    say(rt, "\n");
 }
 
 // Mends what follows the header. A proved loop has to end, and nothing says that the input does: it stops after 2^40 pieces,
 // which no input has.
-fn pump(list: i32, buf: &mut [u8], out: &mut [u8], entries: &mut [u8])
+fn pump(
+    rt: &(impl Files + Print + Eprint + Alloc),
+    input: &mut impl Read,
+    name: &str,
+    list: &mut (impl Write + Seek + OpenFile),
+    buf: &mut [u8],
+    out: &mut [u8],
+    entries: &mut [u8],
+)
     requires { (69633 ≤ length buf.old) × (4096 ≤ length out.old) × (43 ≤ length entries.old) }
 {
     let mut mend = Mend::new();
     let mut held: usize = 0;
     for _ in 0u64..1_099_511_627_776 {
-        let turn = take_turn(list, mend, held, buf, out, entries);
+        let turn = take_turn(rt, input, list, mend, held, buf, out, entries);
         let next = turn.mend;
-        progress(mend.line, next.line);
+        progress(rt, mend.line, next.line);
         mend = next;
         held = turn.held;
-        let way = turn.way;
-        if way != 0 {
-            finish(list, mend, way);
-            return;
+        match turn.way {
+            Way::Next => {}
+            Way::End => return finish(rt, name, list, mend),
+            Way::GiveUp(failed) => return give_up(rt, name, failed),
         }
     }
-    say(b"the input is too long: 2^40 pieces were read\n");
-    list::remove();
+    say(rt, "the input is too long: 2^40 pieces were read\n");
+    list::remove(rt, name);
 }
 
-fn main() {
-    if os::arg_count() != 2 {
-        say(b"name the list, and nothing else: mend LIST <trace >mended\n");
-        return;
+// Writes what stands at the head of the list, and the header of the mended trace.
+fn begin(rt: &impl Print, list: &mut impl Write) -> Result<(), Failed> {
+    if let Err(e) = list::begin(list) {
+        return Err(Failed::List(e));
     }
-    let header = read_header();
-    if let Header::Unreadable = header {
-        os::fail(b"the input can't be read");
-        return;
-    }
-    if let Header::Wrong = header {
-        say(b"6\n");
-        return;
-    }
-    let list = list::make();
-    if list < 0 {
-        return;
-    }
-    if !list::begin(list) {
-        give_up(b"the list can't be written");
-        return;
-    }
-    if !io::write_all(
-        STDOUT_FILENO,
+    write_both(
+        rt,
+        list,
         b"kind,time,cwnd,inflight,number,bytes,acked,lost,bw,rtt,probing\r\n",
-    ) {
-        give_up(b"the mended trace can't be written");
-        return;
+        b"",
+    )
+}
+
+// Mends what follows the header into a list that was just made.
+fn mend_into(
+    rt: &(impl Files + Print + Eprint + Alloc),
+    input: &mut impl Read,
+    name: &str,
+    list: &mut (impl Write + Seek + OpenFile),
+) {
+    if let Err(failed) = begin(rt, list) {
+        return give_up(rt, name, failed);
     }
     let mut buf = [0u8; 69_633];
     let mut out = [0u8; 73_729];
     let mut entries = [0u8; 65_536];
-    pump(list, &mut buf, &mut out, &mut entries);
+    pump(rt, input, name, list, &mut buf, &mut out, &mut entries);
+}
+
+// Makes the list. Where it can't be made it says so.
+fn made<R: Files + Eprint + Alloc>(rt: &R, name: &str) -> Option<R::File>
+where
+    R::File: AsRawFd,
+{
+    let list = match list::make(rt, name) {
+        Ok(list) => list,
+        Err(e) => {
+            fail(rt, UNMADE, e);
+            return None;
+        }
+    };
+    // A standard stream that is closed would be the list.
+    if list.as_raw_fd() < 3 {
+        drop(list);
+        list::remove(rt, name);
+        say(
+            rt,
+            "standard output or standard error is closed: nothing was mended\n",
+        );
+        return None;
+    }
+    Some(list)
+}
+
+const UNMADE: &str = "the list can't be made";
+
+fn main(rt: HostRuntime) {
+    if !list::is_named(&rt) {
+        say(
+            &rt,
+            "name the list, and nothing else: mend LIST <trace >mended\n",
+        );
+        return;
+    }
+    let mut input = rt.reader();
+    match read_header(&mut input) {
+        Ok(Header::Right) => {}
+        Ok(Header::Wrong) => return say(&rt, "6\n"),
+        Err(e) => return say_failed(&rt, Failed::Input(e)),
+    }
+    let mut space = [0u8; 4_096];
+    let name = match list::name_in(&rt, &mut space) {
+        Ok(name) => name,
+        Err(e) => return fail(&rt, UNMADE, e),
+    };
+    if let Some(mut list) = made(&rt, name) {
+        mend_into(&rt, &mut input, name, &mut list);
+    }
 }
