@@ -1,5 +1,7 @@
 // What is said on standard error. That it can't be written there is passed over: nobody could be told.
 use std::io;
+use std::io::ErrorKind;
+use std::process::ExitCode;
 
 pub fn say(rt: &impl Eprint, text: &str) {
     let _ = rt.eprint(text);
@@ -20,6 +22,16 @@ pub fn fail(rt: &(impl Eprint + Alloc), what: &str, why: io::Error) {
         }
     }
     say(rt, "\n");
+}
+
+// The same of a write to standard output, and what the program ends with. Where the reader of a pipe has gone nothing is
+// said, and it is 141: what a shell says of a program that SIGPIPE ends.
+pub fn fail_output(rt: &(impl Eprint + Alloc), what: &str, why: io::Error) -> ExitCode {
+    if why.kind() == ErrorKind::BrokenPipe {
+        return ExitCode::from(141);
+    }
+    fail(rt, what, why);
+    ExitCode::SUCCESS
 }
 
 // The words alone: std puts the error's number behind them.

@@ -10,13 +10,15 @@ ghost use Rattle.mending.specs.Mend.{last_line};
 ghost use Rattle.mending.specs.Pieces.{mend_after};
 
 use console::input::{Header, read_header, read_piece};
-use console::said::{fail, progress, say, say_number};
+use console::said::{fail, fail_output, progress, say, say_number};
 use mending::Mend;
 use mending::sift::{put_sorted, sift};
+use std::env::Env;
 use std::fs::OpenFile;
 use std::io;
 use std::io::{Read, Seek, Write};
 use std::os::fd::AsRawFd;
+use std::process::ExitCode;
 use std::rt::Files;
 use trace::stream::keep;
 
@@ -128,28 +130,27 @@ fn last(
     }
 }
 
-// How it goes on after a piece: with the next one, or it ends.
+// How a mending ends.
 #[derive(Clone, Copy)]
-enum Way {
-    Next,
-    End,
-    GiveUp(Failed),
+enum End {
+    Whole,
+    GivenUp(Failed),
 }
 
-// The way on from what was written.
-fn way_on(written: Result<(), Failed>, way: Way) -> Way {
+// The end that a failed write is, or else the one that comes anyway.
+fn end_of(written: Result<(), Failed>, due: Option<End>) -> Option<End> {
     match written {
-        Ok(()) => way,
-        Err(e) => Way::GiveUp(e),
+        Ok(()) => due,
+        Err(failed) => Some(End::GivenUp(failed)),
     }
 }
 
-// What is known after a piece, how many bytes are held for the next, and how it goes on.
+// What is known after a piece, how many bytes are held for the next, and how it ends, if it does.
 #[derive(Clone, Copy)]
 struct Turn {
     mend: Mend,
     held: usize,
-    way: Way,
+    ended: Option<End>,
 }
 
 // Sifts the lines of what is read, and holds the bytes of a line that is not ended; nothing more is read at the end.
@@ -172,7 +173,7 @@ fn answer_piece(
         return Turn {
             mend: whole,
             held: 0,
-            way: way_on(ended.written, Way::End),
+            ended: end_of(ended.written, Some(End::Whole)),
         };
     }
     let answered = answer(rt, list, mend, &buf[..end], out, entries);
@@ -182,7 +183,7 @@ fn answer_piece(
     Turn {
         mend: next,
         held: kept,
-        way: way_on(answered.written, Way::Next),
+        ended: end_of(answered.written, None),
     }
 }
 
@@ -205,33 +206,37 @@ fn take_turn(
         Err(e) => Turn {
             mend,
             held: 0,
-            way: Way::GiveUp(Failed::Input(e)),
+            ended: Some(End::GivenUp(Failed::Input(e))),
         },
     }
 }
 
-// Says what failed.
-fn say_failed(rt: &(impl Eprint + Alloc), failed: Failed) {
+// Says what failed, and answers what the program ends with.
+fn say_failed(rt: &(impl Eprint + Alloc), failed: Failed) -> ExitCode {
     match failed {
         Failed::Input(e) => fail(rt, "the input can't be read", e),
-        Failed::Trace(e) => fail(rt, "the mended trace can't be written", e),
+        Failed::Trace(e) => return fail_output(rt, "the mended trace can't be written", e),
         Failed::List(e) => fail(rt, "the list can't be written", e),
     }
+    ExitCode::SUCCESS
 }
 
-// Says what failed, and leaves no list.
-fn give_up(rt: &(impl Files + Eprint + Alloc), name: &str, failed: Failed) {
-    say_failed(rt, failed);
-    list::remove(rt, name);
+// Says what failed, and leaves no list, but where the reader of a pipe has gone: an unfinished one.
+fn give_up(rt: &(impl Files + Eprint + Alloc), name: &str, failed: Failed) -> ExitCode {
+    let code = say_failed(rt, failed);
+    if code == ExitCode::SUCCESS {
+        list::remove(rt, name);
+    }
+    code
 }
 
-// Finishes the list, and says how it ended.
-fn finish(
+// Finishes the list, and says what was mended.
+fn finish_list(
     rt: &(impl Files + Eprint + Alloc),
     name: &str,
     list: &mut (impl Write + Seek + OpenFile),
     mend: Mend,
-) {
+) -> ExitCode {
     if let Err(e) = list::finish(list) {
         return give_up(rt, name, Failed::List(e));
     }
@@ -242,6 +247,21 @@ fn finish(
     say(rt, "\nlisted: ");
     say_number(rt, mend.listed);
     say(rt, "\n");
+    ExitCode::SUCCESS
+}
+
+// Says how it ended, and answers what the program ends with.
+fn finish(
+    rt: &(impl Files + Eprint + Alloc),
+    name: &str,
+    list: &mut (impl Write + Seek + OpenFile),
+    mend: Mend,
+    end: End,
+) -> ExitCode {
+    match end {
+        End::Whole => finish_list(rt, name, list, mend),
+        End::GivenUp(failed) => give_up(rt, name, failed),
+    }
 }
 
 // Mends what follows the header. A proved loop has to end, and nothing says that the input does: it stops after 2^40 pieces,
@@ -254,7 +274,7 @@ fn pump(
     buf: &mut [u8],
     out: &mut [u8],
     entries: &mut [u8],
-)
+) -> ExitCode
     requires { (69633 ≤ length buf.old) × (4096 ≤ length out.old) × (43 ≤ length entries.old) }
 {
     let mut mend = Mend::new();
@@ -265,14 +285,13 @@ fn pump(
         progress(rt, mend.line, next.line);
         mend = next;
         held = turn.held;
-        match turn.way {
-            Way::Next => {}
-            Way::End => return finish(rt, name, list, mend),
-            Way::GiveUp(failed) => return give_up(rt, name, failed),
+        if let Some(end) = turn.ended {
+            return finish(rt, name, list, mend, end);
         }
     }
     say(rt, "the input is too long: 2^40 pieces were read\n");
     list::remove(rt, name);
+    ExitCode::SUCCESS
 }
 
 // Writes what stands at the head of the list, and the header of the mended trace.
@@ -294,63 +313,73 @@ fn mend_into(
     input: &mut impl Read,
     name: &str,
     list: &mut (impl Write + Seek + OpenFile),
-) {
+) -> ExitCode {
     if let Err(failed) = begin(rt, list) {
         return give_up(rt, name, failed);
     }
     let mut buf = [0u8; 69_633];
     let mut out = [0u8; 73_729];
     let mut entries = [0u8; 65_536];
-    pump(rt, input, name, list, &mut buf, &mut out, &mut entries);
+    pump(rt, input, name, list, &mut buf, &mut out, &mut entries)
 }
 
-// Makes the list. Where it can't be made it says so.
-fn made<R: Files + Eprint + Alloc>(rt: &R, name: &str) -> Option<R::File>
+// Makes the list. Where a standard stream is closed the list would be that stream: then there is none.
+fn made<R: Files>(rt: &R, name: &str) -> io::Result<Option<R::File>>
 where
     R::File: AsRawFd,
 {
-    let list = match list::make(rt, name) {
-        Ok(list) => list,
-        Err(e) => {
-            fail(rt, UNMADE, e);
-            return None;
-        }
-    };
-    // A standard stream that is closed would be the list.
+    let list = list::make(rt, name)?;
     if list.as_raw_fd() < 3 {
         drop(list);
         list::remove(rt, name);
-        say(
-            rt,
-            "standard output or standard error is closed: nothing was mended\n",
-        );
-        return None;
+        return Ok(None);
     }
-    Some(list)
+    Ok(Some(list))
 }
 
-const UNMADE: &str = "the list can't be made";
+// Mends what follows the header.
+fn mend_rest<R: Files + Env + Print + Eprint + Alloc>(rt: &R, input: &mut impl Read) -> ExitCode
+where
+    R::File: AsRawFd,
+{
+    let mut space = [0u8; 4_096];
+    let name = match list::name_in(rt, &mut space) {
+        Ok(name) => name,
+        Err(e) => return unmade(rt, e),
+    };
+    match made(rt, name) {
+        Ok(Some(mut list)) => mend_into(rt, input, name, &mut list),
+        Ok(None) => told(
+            rt,
+            "standard output or standard error is closed: nothing was mended\n",
+        ),
+        Err(e) => unmade(rt, e),
+    }
+}
 
-fn main(rt: HostRuntime) {
+// Says that the list can't be made.
+fn unmade(rt: &(impl Eprint + Alloc), e: io::Error) -> ExitCode {
+    fail(rt, "the list can't be made", e);
+    ExitCode::SUCCESS
+}
+
+// Says why nothing was mended.
+fn told(rt: &impl Eprint, why: &str) -> ExitCode {
+    say(rt, why);
+    ExitCode::SUCCESS
+}
+
+fn main(rt: HostRuntime) -> ExitCode {
     if !list::is_named(&rt) {
-        say(
+        return told(
             &rt,
             "name the list, and nothing else: mend LIST <trace >mended\n",
         );
-        return;
     }
     let mut input = rt.reader();
     match read_header(&mut input) {
-        Ok(Header::Right) => {}
-        Ok(Header::Wrong) => return say(&rt, "6\n"),
-        Err(e) => return say_failed(&rt, Failed::Input(e)),
-    }
-    let mut space = [0u8; 4_096];
-    let name = match list::name_in(&rt, &mut space) {
-        Ok(name) => name,
-        Err(e) => return fail(&rt, UNMADE, e),
-    };
-    if let Some(mut list) = made(&rt, name) {
-        mend_into(&rt, &mut input, name, &mut list);
+        Ok(Header::Right) => mend_rest(&rt, &mut input),
+        Ok(Header::Wrong) => told(&rt, "6\n"),
+        Err(e) => say_failed(&rt, Failed::Input(e)),
     }
 }

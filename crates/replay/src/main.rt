@@ -9,10 +9,11 @@ ghost use Rattle.trace.specs.Output.{last_replay};
 ghost use Rattle.trace.specs.Pieces.{AnswersAll};
 
 use console::input::{Header, read_header, read_piece};
-use console::said::{fail, progress, say};
+use console::said::{fail, fail_output, progress, say};
 use rows::row::put_row;
 use std::io;
 use std::io::{ErrorKind, Read};
+use std::process::ExitCode;
 use summary::summary;
 use trace::Replay;
 use trace::stream::{keep, run};
@@ -90,29 +91,28 @@ fn last(rt: &impl Print, replay: Replay, s: &[u8], out: &mut [u8]) -> Answered
     }
 }
 
-// How the replay goes on after a piece: with the next one, or it ends.
+// How a replay ends.
 #[derive(Clone, Copy)]
-enum Way {
-    Next,
-    End,
+enum End {
+    Whole,
     Unreadable(io::Error),
     Unwritable(io::Error),
 }
 
-// The way on from what was written.
-fn way_on(written: io::Result<()>, way: Way) -> Way {
+// The end that a failed write is, or else the one that comes anyway.
+fn end_of(written: io::Result<()>, due: Option<End>) -> Option<End> {
     match written {
-        Ok(()) => way,
-        Err(e) => Way::Unwritable(e),
+        Ok(()) => due,
+        Err(e) => Some(End::Unwritable(e)),
     }
 }
 
-// The replay after a piece, how many bytes are held for the next, and how it goes on.
+// The replay after a piece, how many bytes are held for the next, and how it ends, if it does.
 #[derive(Clone, Copy)]
 struct Turn {
     replay: Replay,
     held: usize,
-    way: Way,
+    ended: Option<End>,
 }
 
 // Answers the lines of what is read, and holds the bytes of a line that is not ended; nothing more is read at the end.
@@ -133,7 +133,7 @@ fn answer_piece(
         return Turn {
             replay: whole,
             held: 0,
-            way: way_on(ended.written, Way::End),
+            ended: end_of(ended.written, Some(End::Whole)),
         };
     }
     let answered = answer(rt, replay, &buf[..end], out);
@@ -143,7 +143,7 @@ fn answer_piece(
     Turn {
         replay: next,
         held: kept,
-        way: way_on(answered.written, Way::Next),
+        ended: end_of(answered.written, None),
     }
 }
 
@@ -164,7 +164,7 @@ fn take_turn(
         Err(e) => Turn {
             replay,
             held: 0,
-            way: Way::Unreadable(e),
+            ended: Some(End::Unreadable(e)),
         },
     }
 }
@@ -173,9 +173,24 @@ const UNREADABLE: &str = "the input can't be read";
 
 const UNWRITABLE: &str = "the rows can't be written";
 
+// Says how the replay ended, and answers what the program ends with.
+fn finish(rt: &(impl Eprint + Alloc), replay: Replay, end: End) -> ExitCode {
+    match end {
+        End::Whole => summary(rt, replay),
+        End::Unreadable(e) => fail(rt, UNREADABLE, e),
+        End::Unwritable(e) => return fail_output(rt, UNWRITABLE, e),
+    }
+    ExitCode::SUCCESS
+}
+
 // Replays what follows the header. A proved loop has to end, and nothing says that the input does: it stops after 2^40
 // pieces, which no input has.
-fn pump(rt: &(impl Print + Eprint + Alloc), input: &mut impl Read, buf: &mut [u8], out: &mut [u8])
+fn pump(
+    rt: &(impl Print + Eprint + Alloc),
+    input: &mut impl Read,
+    buf: &mut [u8],
+    out: &mut [u8],
+) -> ExitCode
     requires { 69633 ≤ length buf.old }
 {
     let mut replay = Replay::new();
@@ -186,14 +201,12 @@ fn pump(rt: &(impl Print + Eprint + Alloc), input: &mut impl Read, buf: &mut [u8
         progress(rt, replay.line, next.line);
         replay = next;
         held = turn.held;
-        match turn.way {
-            Way::Next => {}
-            Way::End => return summary(rt, replay),
-            Way::Unreadable(e) => return fail(rt, UNREADABLE, e),
-            Way::Unwritable(e) => return fail(rt, UNWRITABLE, e),
+        if let Some(end) = turn.ended {
+            return finish(rt, replay, end);
         }
     }
     say(rt, "the input is too long: 2^40 pieces were read\n");
+    ExitCode::SUCCESS
 }
 
 // Writes the header of the rows, and the row that answers a wrong header.
@@ -205,23 +218,34 @@ fn begin(rt: &impl Print, header: Header) -> io::Result<()> {
     }
 }
 
-fn main(rt: HostRuntime) {
-    let mut input = rt.reader();
-    let header = match read_header(&mut input) {
-        Ok(header) => header,
-        Err(e) => return fail(&rt, UNREADABLE, e),
-    };
-    if let Err(e) = begin(&rt, header) {
-        return fail(&rt, UNWRITABLE, e);
+// Says that the input can't be read.
+fn unreadable(rt: &(impl Eprint + Alloc), e: io::Error) -> ExitCode {
+    fail(rt, UNREADABLE, e);
+    ExitCode::SUCCESS
+}
+
+// Replays an input that begins so.
+fn replay_after(
+    rt: &(impl Print + Eprint + Alloc),
+    input: &mut impl Read,
+    header: Header,
+) -> ExitCode {
+    if let Err(e) = begin(rt, header) {
+        return fail_output(rt, UNWRITABLE, e);
     }
     if let Header::Wrong = header {
-        say(
-            &rt,
-            "the header is wrong or missing: nothing was replayed\n",
-        );
-        return;
+        say(rt, "the header is wrong or missing: nothing was replayed\n");
+        return ExitCode::SUCCESS;
     }
     let mut buf = [0u8; 69_633];
     let mut out = [0u8; 65_536];
-    pump(&rt, &mut input, &mut buf, &mut out);
+    pump(rt, input, &mut buf, &mut out)
+}
+
+fn main(rt: HostRuntime) -> ExitCode {
+    let mut input = rt.reader();
+    match read_header(&mut input) {
+        Ok(header) => replay_after(&rt, &mut input, header),
+        Err(e) => unreadable(&rt, e),
+    }
 }
