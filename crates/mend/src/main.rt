@@ -153,7 +153,7 @@ struct Turn {
     ended: Option<End>,
 }
 
-// Sifts the lines of what is read, and holds the bytes of a line that is not ended; nothing more is read at the end.
+// Sifts the lines of a piece, and holds the bytes of a line that is not ended. A piece of no bytes is the end of the input.
 fn answer_piece(
     rt: &impl Print,
     list: &mut impl Write,

@@ -115,7 +115,7 @@ struct Turn {
     ended: Option<End>,
 }
 
-// Answers the lines of what is read, and holds the bytes of a line that is not ended; nothing more is read at the end.
+// Answers the lines of a piece, and holds the bytes of a line that is not ended. A piece of no bytes is the end of the input.
 fn answer_piece(
     rt: &impl Print,
     replay: Replay,
