@@ -1,4 +1,4 @@
--- bandwidth_lo follows the exact run (`bandwidth-drift`). Assumes nothing.
+-- bandwidth_lo follows the exact run (`bandwidth_drift`). Assumes nothing.
 use Prim.Native.Nat.{ℕ, min, ◌-◌, ◌*◌, ◌^◌, ◌<◌}
 use mathlib.Core.Bool.{Bool, true, false, cond}
 use mathlib.Core.List.{List}

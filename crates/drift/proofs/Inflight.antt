@@ -1,4 +1,4 @@
--- inflight_lo follows the exact run (`inflight-drift`). Assumes nothing.
+-- inflight_lo follows the exact run (`inflight_drift`). Assumes nothing.
 use Prim.Native.Nat.{ℕ, max, ◌-◌, ◌*◌, ◌^◌, ◌≤◌, ◌<◌}
 use mathlib.Core.Bool.{Bool, true, false, cond}
 use mathlib.Core.List.{List}

@@ -29,7 +29,7 @@
 --
 -- After the third, `Follows 1 1 11744051 (Number.Set 445) (over num 72 3)` is `Near 1 1 11744051 445 num 72 3`. Its
 -- `counted` is 0 < 3. Its `by_count` is 0.89997.. < 3 * 1 / 1, multiplied by 2^72: |445 * 2^72 - num| < 3 * 2^72, which
--- is 4250022254848413951580 < 14167099448608935641088. Its `by-rate` is 0.89997.. < 1 / (1 - b) = 3.33333..: with
+-- is 4250022254848413951580 < 14167099448608935641088. Its `by_rate` is 0.89997.. < 1 / (1 - b) = 3.33333..: with
 -- 1 - b = 5033165 / 2^24, both sides multiplied by 2^72 * 5033165. `Under 334 (Number.Set 445) (over num 72 3)` is
 -- 0.89997.. < 3.34. The runs and these statements are computed in Examples.antt (`drift_examples`, `EpisodeFollows`).
 use Rattle.std.specs.Prelude.{ℕ, ◌+◌, ◌-◌, ◌*◌, ◌^◌, ◌≤◌, ◌<◌, cond, true, false, List, [], ◌∷◌, ◌≡◌, T, eqb, Float}

@@ -1,4 +1,4 @@
--- A call's outcome is its step (`every-outcome`): the tests of both are the same, so the two go side by side. Assumes nothing.
+-- A call's outcome is its step (`every_outcome`): the tests of both are the same, so the two go side by side. Assumes nothing.
 use Prim.Native.Nat.{ℕ}
 use mathlib.Core.Bool.{Bool, true, false, cond}
 use mathlib.Core.List.{List}

@@ -1,4 +1,4 @@
--- Each number of a call, one by one: its step is the one of its number (`every-number`). Assumes nothing.
+-- Each number of a call, one by one: its step is the one of its number (`every_number`). Assumes nothing.
 use Prim.Native.Nat.{ℕ, ◌≤◌}
 use mathlib.Core.List.{List}
 use mathlib.Core.Path.{◌≡◌, refl}

@@ -152,7 +152,7 @@ pub record Theorems : Type 0 where
   -- is the reply's word, 0 and, of call 3, the record as handed in; of the others 16 zeros
   pub call_refused : (w : List ℕ) (s : State) → ((outcome_in w s).reply ≡ 0 → ⊥) → Refused w s
   -- A call that is refused with 2 names the first of its faults, by kind and place, and no other reply names any; its
-  -- row is the number above (document 02, request b). Each public call does the same by its contract (`calls-faults`,
+  -- row is the number above (document 02, request b). Each public call does the same by its contract (`calls_faults`,
   -- below)
   pub call_fault : (w : List ℕ) (s : State) → Blames w s
   -- Words that no writer writes are out of bounds: what is within them is written in the very words that were read. So
@@ -217,9 +217,9 @@ pub record Theorems : Type 0 where
   pub only_greatest : OnlyGreatest
   pub only_greatest_call : Calls.OnlyGreatest
   -- Acks for packets never sent (document 02, request i): which lists are turned away with 10, and events worked out;
-  -- where 10 stands among the refusals say `calls` and `call-row` (`Exactly`, `is10`). And what a call of a run does to
-  -- the note of whether anything was sent, and to the last sent number: a start, done or refused, sets them to no and
-  -- 0, a send that is done to yes and its packet's number, and no other call touches them
+  -- where 10 stands among the refusals say `calls` and `call_row_lem` (`Exactly`, `is10`). And what a call of a run does
+  -- to the note of whether anything was sent, and to the last sent number: a start, done or refused, sets them to no
+  -- and 0, a send that is done to yes and its packet's number, and no other call touches them
   pub never_sent_lem : NeverSent
   pub unsent_events_lem : all unsent_events ≡ true
   pub note : (w : List ℕ) (s : State) → (outcome_in w s).model.begun ≡ note_after w s
