@@ -217,9 +217,9 @@ pub record Theorems : Type 0 where
   pub only_greatest : OnlyGreatest
   pub only_greatest_call : Calls.OnlyGreatest
   -- Acks for packets never sent (document 02, request i): which lists are turned away with 10, and events worked out;
-  -- where 10 stands among the refusals say `calls` and `call_row_lem` (`Exactly`, `is10`). And what a call of a run does
-  -- to the note of whether anything was sent, and to the last sent number: a start, done or refused, sets them to no
-  -- and 0, a send that is done to yes and its packet's number, and no other call touches them
+  -- where 10 stands among the refusals say `calls` and `call_row_lem` (`Exactly`, `is10`). And what a call of a run
+  -- does to the note of whether anything was sent, and to the last sent number: a start, done or refused, sets them to
+  -- no and 0, a send that is done to yes and its packet's number, and no other call touches them
   pub never_sent_lem : NeverSent
   pub unsent_events_lem : all unsent_events ≡ true
   pub note : (w : List ℕ) (s : State) → (outcome_in w s).model.begun ≡ note_after w s
