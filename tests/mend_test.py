@@ -394,10 +394,8 @@ def check_left(words, folder):
             said = running.stderr.read().decode()
             running.wait()
         left = read(target) if os.path.exists(target) else None
-        if ignored:
-            check_failed("a reader that has gone", Mended(running.returncode, b"", said, left), f"{NO_WRITE}: Broken pipe")
-        else:
-            check_failed("a reader that goes", Mended(running.returncode, b"", said, left), "", UNFINISHED, status=-signal.SIGPIPE)
+        where = "a reader that has gone" if ignored else "a reader that goes"
+        check_failed(where, Mended(running.returncode, b"", said, left), "", UNFINISHED, status=128 + signal.SIGPIPE)
     target = fresh(folder)
     running = subprocess.Popen([*words, target], cwd=ROOT, bufsize=0, stdin=subprocess.PIPE, stdout=subprocess.PIPE)
     running.stdin.write(HEAD)

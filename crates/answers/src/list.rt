@@ -1,19 +1,39 @@
 // A list: a file of lines, each of decimal numbers with single spaces.
-ghost use Rattle.io.specs.Counts.{IsPrefixLen};
+ghost use Rattle.std.specs.Prelude.{◌≤◌, ◌≡◌, length, take};
+
+use console::said::fail;
+use std::fs;
+use std::io::Read;
+use std::rt::Files;
 
 // Reads the file of this name into the space, which is longer, and answers how many bytes it has; says
 // so and answers 0 if it can't be opened.
-pub fn read_file(name: &[u8], space: &mut [u8]) -> usize
-    ensures { IsPrefixLen result space.new }
+pub fn read_file(rt: &(impl Files + Eprint + Alloc), name: &str, space: &mut [u8]) -> usize
+    ensures { (result ≤ length space.new) × (result ≡ length (take result space.new)) }
 {
-    let file = os::open_read(name);
-    if file < 0 {
-        os::fail(name);
-        return 0;
+    match fs::open(rt, name) {
+        Ok(mut file) => read_full(&mut file, space),
+        Err(e) => {
+            fail(rt, name, e);
+            0
+        }
     }
-    let n = io::read_full(file, space);
-    libc::close(file);
-    n
+}
+
+// Reads until the space is full, the file ends or a read fails, and answers how many bytes it has put at the start of the
+// space.
+fn read_full(file: &mut impl Read, space: &mut [u8]) -> usize
+    ensures { (result ≤ length space.new) × (result ≡ length (take result space.new)) }
+{
+    let mut done: usize = 0;
+    while done < space.len() {
+        match file.read(&mut space[done..]) {
+            Ok(0) => return done,
+            Ok(n) => done += n,
+            Err(_) => return done,
+        }
+    }
+    done
 }
 
 // One line: its numbers, 0 past the last, and where the next line starts.
@@ -46,7 +66,7 @@ pub fn read_line(text: &[u8], at: usize) -> Line {
 // A number with one digit more. No list has a number past 2^64 - 1; one would not be read right.
 fn with_digit(n: u64, digit: u8) -> u64 {
     let tens = n % 1_844_674_407_370_955_162 * 10;
-    std::num::wrapping_add_u64(tens, (digit % 16) as u64)
+    tens.wrapping_add((digit % 16) as u64)
 }
 
 // Puts another digit for the last one of a list.

@@ -6,8 +6,8 @@ mod list;
 
 use asked::Asked;
 use filters::{MaxBandwidthFilter, MinRttFilter, RoundTripCounter, WindowedFilter};
-use libc::STDOUT_FILENO;
 use list::{change_last, read_file, read_line};
+use std::rt::Files;
 use units::{Duration, Moment};
 
 #[derive(Clone, Copy)]
@@ -24,8 +24,8 @@ pub struct Both {
 
 fn sum(a: Tally, b: Tally) -> Tally {
     Tally {
-        answers: std::num::wrapping_add_u64(a.answers, b.answers),
-        differ: std::num::wrapping_add_u64(a.differ, b.differ),
+        answers: a.answers.wrapping_add(b.answers),
+        differ: a.differ.wrapping_add(b.differ),
     }
 }
 
@@ -65,72 +65,71 @@ fn compared_twice(asked: Asked, text: &mut [u8]) -> Both {
 
 // Compares the list in a file, then again with its last digit changed, and prints both. A list is
 // shorter than the buffer, 65,536 bytes.
-fn compare(asked: Asked, name: &[u8]) -> Tally {
-    let mut space = io::large_buffer();
-    let n = read_file(name, &mut space);
+fn compare(rt: &(impl Files + Print + Eprint + Alloc), asked: Asked, name: &str) -> Tally {
+    let mut space = [0u8; 65_536];
+    let n = read_file(rt, name, &mut space);
     let both = compared_twice(asked, &mut space[..n]);
-    print(both, name);
+    print(rt, both, name);
     both.tally
 }
 
-fn print_tally(tally: Tally) {
-    io::print_decimal(STDOUT_FILENO, tally.answers);
-    io::write_all(STDOUT_FILENO, b" answers, ");
-    io::print_decimal(STDOUT_FILENO, tally.differ);
-    io::write_all(STDOUT_FILENO, b" differ");
+// That it can't be written is passed over, here and below.
+fn print_tally(rt: &impl Print, tally: Tally) {
+    let answers = tally.answers;
+    let differ = tally.differ;
+    let _ = print!(rt; "{answers} answers, {differ} differ");
 }
 
-fn print(both: Both, name: &[u8]) {
-    io::write_all(STDOUT_FILENO, name);
-    io::write_all(STDOUT_FILENO, b": ");
-    print_tally(both.tally);
-    io::write_all(STDOUT_FILENO, b"; with its last digit changed ");
-    io::print_decimal(STDOUT_FILENO, both.changed);
-    io::write_all(STDOUT_FILENO, b"\n");
+fn print(rt: &impl Print, both: Both, name: &str) {
+    let changed = both.changed;
+    let _ = print!(rt; "{name}: ");
+    print_tally(rt, both.tally);
+    let _ = print!(rt; "; with its last digit changed {changed}\n");
 }
 
-fn conversions() -> Tally {
-    let a = compare(Asked::ToF32, b"to_f32.txt");
-    let b = compare(Asked::ToF64, b"to_f64.txt");
-    let c = compare(Asked::ToU64, b"to_u64.txt");
-    let d = compare(Asked::RoundToU64, b"round_to_u64.txt");
-    let e = compare(Asked::Scale, b"scale.txt");
+fn conversions(rt: &(impl Files + Print + Eprint + Alloc)) -> Tally {
+    let a = compare(rt, Asked::ToF32, "to_f32.txt");
+    let b = compare(rt, Asked::ToF64, "to_f64.txt");
+    let c = compare(rt, Asked::ToU64, "to_u64.txt");
+    let d = compare(rt, Asked::RoundToU64, "round_to_u64.txt");
+    let e = compare(rt, Asked::Scale, "scale.txt");
     sum(sum(a, b), sum(sum(c, d), e))
 }
 
-fn bandwidths() -> Tally {
-    let a = compare(Asked::BandwidthMul, b"bandwidth_mul.txt");
-    let b = compare(Asked::BandwidthPeriod, b"bandwidth_period.txt");
-    let c = compare(Asked::BandwidthOrder, b"bandwidth_order.txt");
+fn bandwidths(rt: &(impl Files + Print + Eprint + Alloc)) -> Tally {
+    let a = compare(rt, Asked::BandwidthMul, "bandwidth_mul.txt");
+    let b = compare(rt, Asked::BandwidthPeriod, "bandwidth_period.txt");
+    let c = compare(rt, Asked::BandwidthOrder, "bandwidth_order.txt");
     sum(sum(a, b), c)
 }
 
-fn all_filters() -> Tally {
+fn all_filters(rt: &(impl Files + Print + Eprint + Alloc)) -> Tally {
     let a = compare(
+        rt,
         Asked::Windowed(WindowedFilter::new(0)),
-        b"windowed_filter.txt",
+        "windowed_filter.txt",
     );
     let b = compare(
+        rt,
         Asked::MaxBandwidth(MaxBandwidthFilter::new()),
-        b"max_bandwidth_filter.txt",
+        "max_bandwidth_filter.txt",
     );
     let c = compare(
+        rt,
         Asked::MinRtt(MinRttFilter::new(Duration(0), Moment(0))),
-        b"min_rtt_filter.txt",
+        "min_rtt_filter.txt",
     );
     let d = compare(
+        rt,
         Asked::Rounds(RoundTripCounter::new()),
-        b"round_trip_counter.txt",
+        "round_trip_counter.txt",
     );
     sum(sum(a, b), sum(c, d))
 }
 
-fn main() {
-    io::write_all(
-        STDOUT_FILENO,
-        b"The original's answers, compared with the port's:\n",
-    );
-    let tally = sum(sum(conversions(), bandwidths()), all_filters());
-    print_tally(tally);
-    io::write_all(STDOUT_FILENO, b"\n");
+fn main(rt: HostRuntime) {
+    let _ = rt.println("The original's answers, compared with the port's:");
+    let tally = sum(sum(conversions(&rt), bandwidths(&rt)), all_filters(&rt));
+    print_tally(&rt, tally);
+    let _ = rt.println("");
 }

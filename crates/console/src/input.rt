@@ -1,48 +1,40 @@
 // A trace on standard input.
-ghost use Rattle.std.specs.Prelude.{◌≤◌, ◌≡◌, length};
+ghost use Rattle.std.specs.Prelude.{◌≤◌, ◌≡◌, IfOk, length};
 
-use libc::STDIN_FILENO;
+use std::io;
+use std::io::{ErrorKind, Read};
 use text::word::same_text;
 
-// What the input begins with: a trace's header, anything else, or nothing that can be read.
+// What the input begins with: a trace's header, or anything else.
 #[derive(Clone, Copy)]
 pub enum Header {
     Right,
     Wrong,
-    Unreadable,
 }
 
-pub fn read_header() -> Header {
+// An input that ends before is no trace.
+pub fn read_header(input: &mut impl Read) -> io::Result<Header> {
     let mut head = [0u8; 64];
-    let got = io::read_full(STDIN_FILENO, &mut head);
-    if (got < 64) & (os::errno() != 0) {
-        return Header::Unreadable;
+    match input.read_exact(&mut head) {
+        Ok(()) => {}
+        Err(e) if e.kind() == ErrorKind::UnexpectedEof => return Ok(Header::Wrong),
+        Err(e) => return Err(e),
     }
     if same_text(
         &head,
         b"kind,time,cwnd,inflight,number,bytes,acked,lost,bw,rtt,probing\r\n",
     ) {
-        return Header::Right;
+        return Ok(Header::Right);
     }
-    Header::Wrong
+    Ok(Header::Wrong)
 }
 
-// A piece that was read behind the bytes held: how long it is, and whether it could be read.
-#[derive(Clone, Copy)]
-pub struct Piece {
-    pub got: usize,
-    pub fine: bool,
-}
-
-pub fn read_piece(buf: &mut [u8], held: usize) -> Piece
+// Reads a piece behind the bytes held, and answers how long it is.
+pub fn read_piece(input: &mut impl Read, buf: &mut [u8], held: usize) -> io::Result<usize>
     requires { (held ≤ 4097) × (69633 ≤ length buf.old) }
-    ensures { (result.got ≤ 65536) × (length buf.new ≡ length buf.old) }
+    ensures got { IfOk result (λ n. n ≤ 65536) }
+    ensures same_length { length buf.new ≡ length buf.old }
 {
     let most = held + 65_536;
-    let got = libc::read(STDIN_FILENO, &mut buf[held..most]);
-    let fine = 0 <= got;
-    Piece {
-        got: io::count(got, &buf[held..most]),
-        fine,
-    }
+    input.read(&mut buf[held..most])
 }

@@ -1,5 +1,5 @@
-// What both programs over a trace do with standard input and standard error: the header and pieces are read, and things
-// are said. What is read, no contract can say.
+// What the programs do with standard input and standard error: a trace's header and pieces are read, and things are said.
+// What is read, no contract can say.
 #![tactic(auto)]
 
 pub mod input;

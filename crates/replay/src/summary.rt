@@ -4,66 +4,69 @@ use state::bounds::UNSET;
 use trace::{Replay, Tally};
 
 // A refusal's number, how often it was given, and what it means.
-fn refusals(number: &[u8], times: u64, meaning: &[u8]) {
+fn refusals(rt: &impl Eprint, number: &str, times: u64, meaning: &str) {
     if times == 0 {
         return;
     }
-    say(b"  ");
-    say(number);
-    say(b": ");
-    say_number(times);
-    say(b", ");
-    say(meaning);
-    say(b"\n");
+    say(rt, "  ");
+    say(rt, number);
+    say(rt, ": ");
+    say_number(rt, times);
+    say(rt, ", ");
+    say(rt, meaning);
+    say(rt, "\n");
 }
 
 // In the order in which they are asked.
-fn all_refusals(t: Tally) {
+fn all_refusals(rt: &impl Eprint, t: Tally) {
     refusals(
-        b"6",
+        rt,
+        "6",
         t.text,
-        b"no line of a trace, or before an accepted start",
+        "no line of a trace, or before an accepted start",
     );
-    refusals(b"1", t.stored, b"a stored number is out of bounds");
-    refusals(b"2.1", t.window, b"a window is above 2^40 bytes");
-    refusals(b"2.2", t.bytes, b"a byte count is above 2^40");
+    refusals(rt, "1", t.stored, "a stored number is out of bounds");
+    refusals(rt, "2.1", t.window, "a window is above 2^40 bytes");
+    refusals(rt, "2.2", t.bytes, "a byte count is above 2^40");
     refusals(
-        b"2.3",
+        rt,
+        "2.3",
         t.bandwidth,
-        b"a bandwidth is above 2^40 bits per second",
+        "a bandwidth is above 2^40 bits per second",
     );
-    refusals(b"2.4", t.length, b"a length of time is above 2^36 ns");
-    refusals(b"2.5", t.total, b"a total is above 2^62 bytes");
-    refusals(b"2.9", t.moment, b"a moment is above 2^62 ns");
+    refusals(rt, "2.4", t.length, "a length of time is above 2^36 ns");
+    refusals(rt, "2.5", t.total, "a total is above 2^62 bytes");
+    refusals(rt, "2.9", t.moment, "a moment is above 2^62 ns");
     refusals(
-        b"3",
+        rt,
+        "3",
         t.earlier,
-        b"a moment is earlier than the last accepted one",
+        "a moment is earlier than the last accepted one",
     );
-    refusals(b"4", t.lower, b"a total is lower than the one stored");
-    refusals(b"10", t.unsent, b"the acked number was never sent");
-    refusals(b"5", t.full, b"a counter is full");
+    refusals(rt, "4", t.lower, "a total is lower than the one stored");
+    refusals(rt, "10", t.unsent, "the acked number was never sent");
+    refusals(rt, "5", t.full, "a counter is full");
 }
 
-pub(crate) fn summary(replay: Replay) {
+pub(crate) fn summary(rt: &impl Eprint, replay: Replay) {
     let tally = replay.tally;
-    say(b"lines: ");
-    say_number(replay.line);
-    say(b"\nrefused: ");
-    say_number(tally.refused);
+    say(rt, "lines: ");
+    say_number(rt, replay.line);
+    say(rt, "\nrefused: ");
+    say_number(rt, tally.refused);
     if tally.refused != 0 {
-        say(b", first in line ");
-        say_number(tally.first);
+        say(rt, ", first in line ");
+        say_number(rt, tally.first);
     }
-    say(b"\n");
-    all_refusals(tally);
-    say(b"rounds: ");
-    say_number(tally.rounds);
-    say(b"\nlowest lo: ");
+    say(rt, "\n");
+    all_refusals(rt, tally);
+    say(rt, "rounds: ");
+    say_number(rt, tally.rounds);
+    say(rt, "\nlowest lo: ");
     if tally.lowest == UNSET {
-        say(b"never set");
+        say(rt, "never set");
     } else {
-        say_number(tally.lowest);
+        say_number(rt, tally.lowest);
     }
-    say(b"\n");
+    say(rt, "\n");
 }

@@ -10,13 +10,11 @@ pub fn answer(request: &[u8], answers: &mut [u8])
 {
     let mut state = [0u8; 408];
     copy(&request[..408], &mut state, 0);
-    let mut i: usize = 0;
-    while i < 100 {
+    for i in 0usize..100 {
         let from = 408 + 392 * i;
         let to = from + 392;
         let start = 552 * i;
         let end = start + 552;
         answer_call(&mut state, &request[from..to], &mut answers[start..end]);
-        i += 1;
     }
 }

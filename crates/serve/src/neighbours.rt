@@ -22,7 +22,7 @@ fn answers(function: u64, first: u64, other: u64) -> [u64; 69] {
     let mut next = first;
     for i in 2usize..66 {
         words[i] = value(function, next, other);
-        next = std::num::wrapping_add_u64(next, 1);
+        next = next.wrapping_add(1);
     }
     words
 }

@@ -9,11 +9,9 @@ pub fn put(state: &mut [u8], call: &[u8])
     requires { (length state.old ≡ 408) × (length call.now ≡ 392) }
 {
     let count = at_most(get_word(call, 8), 23);
-    let mut i: usize = 0;
-    while i < count {
+    for i in 0..count {
         let at = 16 + 16 * i;
         put_one(state, get_word(call, at), get_word(call, at + 8));
-        i += 1;
     }
 }
 

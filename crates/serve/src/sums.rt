@@ -5,11 +5,9 @@ use words::{get_word, put_words};
 pub fn sums(answers: &[u8; 55_200]) -> [u8; 16] {
     let mut sum: u64 = 0;
     let mut total: u64 = 0;
-    let mut i: usize = 0;
-    while i < 6_900 {
-        sum = std::num::wrapping_add_u64(sum, get_word(answers, 8 * i));
-        total = std::num::wrapping_add_u64(total, sum);
-        i += 1;
+    for i in 0usize..6_900 {
+        sum = sum.wrapping_add(get_word(answers, 8 * i));
+        total = total.wrapping_add(sum);
     }
     let mut out = [0u8; 16];
     put_words(&mut out, 0, &[sum, total]);

@@ -95,16 +95,23 @@ fn lossy_round(model: NetworkModel, time: Moment, packet: u64, lost: u64) -> Cha
 }
 
 // A round's line. After k reductions the two are less than k bytes apart.
-fn line(round: u64, bytes: u64, exact: Exact) {
-    column(round, 9);
-    column(bytes, 14);
-    decimals(exact.thousandths, 25);
-    column(round, 21);
-    text(b"\n");
+fn line(rt: &impl Print, round: u64, bytes: u64, exact: Exact) {
+    column(rt, round, 9);
+    column(rt, bytes, 14);
+    decimals(rt, exact.thousandths, 25);
+    column(rt, round, 21);
+    text(rt, b"\n");
 }
 
 // Makes a round and shows its line, unless a call before it or in it is refused.
-fn shown(before: Changed, time: Moment, round: u64, lost: u64, exact: Exact) -> Changed {
+fn shown(
+    rt: &impl Print,
+    before: Changed,
+    time: Moment,
+    round: u64,
+    lost: u64,
+    exact: Exact,
+) -> Changed {
     let reply = before.reply;
     let model = before.model;
     if !reply.is_done() {
@@ -119,7 +126,7 @@ fn shown(before: Changed, time: Moment, round: u64, lost: u64, exact: Exact) -> 
     let answer = inflight_lo(next);
     let answered = answer.reply;
     if answered.is_done() {
-        line(round, answer.value, exact);
+        line(rt, round, answer.value, exact);
     }
     Changed {
         reply: answered,
@@ -128,7 +135,7 @@ fn shown(before: Changed, time: Moment, round: u64, lost: u64, exact: Exact) -> 
 }
 
 // The three rounds; the reply of the last call.
-fn rounds() -> Reply {
+fn rounds(rt: &impl Print) -> Reply {
     let start = Exact {
         thousandths: 1_300_000,
         first: 0,
@@ -139,27 +146,32 @@ fn rounds() -> Reply {
     let second = reduced(first);
     let third = reduced(second);
     let begun = NetworkModel::new(params(), Duration(100_000_000), Moment(0));
-    let one = shown(begun, Moment(100_000_000), 1, 1_300, first);
-    let two = shown(one, Moment(200_000_000), 2, 2_600, second);
-    let three = shown(two, Moment(300_000_000), 3, 3_900, third);
+    let one = shown(rt, begun, Moment(100_000_000), 1, 1_300, first);
+    let two = shown(rt, one, Moment(200_000_000), 2, 2_600, second);
+    let three = shown(rt, two, Moment(300_000_000), 3, 3_900, third);
     let reply = three.reply;
     reply
 }
 
 // Whether every call was done. If not, the number of the refusal is shown.
-pub fn episode() -> bool {
+pub fn episode(rt: &impl Print) -> bool {
     text(
+        rt,
         b"Three rounds with a loss at beta 0.3, in a window of 1300 bytes. b = 1 - beta = 11744051 / 2^24\n\n",
     );
-    text(b"  round k   inflight_lo   1300 b^k, rounded down   bytes apart, under\n");
-    let reply = rounds();
+    text(
+        rt,
+        b"  round k   inflight_lo   1300 b^k, rounded down   bytes apart, under\n",
+    );
+    let reply = rounds(rt);
     if !reply.is_done() {
-        text(b"refused");
-        column(reply.row(), 2);
-        text(b"\n");
+        text(rt, b"refused");
+        column(rt, reply.row(), 2);
+        text(rt, b"\n");
         return false;
     }
     text(
+        rt,
         b"\nAfter any number of rounds: under 3.34 bytes apart (crates/drift/specs/Drift.antt)\n\n",
     );
     true
