@@ -8,14 +8,15 @@
 # Only the proof and the build decide: the program itself may end with any status on an empty input.
 set -eu
 cd "$(dirname "$0")/.."
+said=$(mktemp)
+trap 'rm -f "$said"' EXIT
 for name; do
     # The list that the program `mend` writes.
     list=out/none
     rm -f "crates/$name/$list"
-    (cd "crates/$name" && rt run -- "$list" </dev/null) >&2 || true
+    { (cd "crates/$name" && rt run -- "$list" </dev/null) 2>&1 || true; } | tee "$said" >&2
     rm -f "crates/$name/$list"
-    # `rt run` takes the stamp away before a build, and writes it after one.
-    [ -f "crates/$name/out/$name.stamp" ] && [ -f "crates/$name/out/$name" ] || {
+    grep -q "^rt: running out/$name;" "$said" && [ -f "crates/$name/out/$name" ] || {
         echo "build: the program $name is not proved and built" >&2
         exit 1
     }

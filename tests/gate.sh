@@ -1,6 +1,6 @@
 #!/bin/sh
-# The gate, as `make test` runs it: what is written is held to the source, the port is compared with the original,
-# everything is proved from nothing, and what ships is built from what was proved, linked and run.
+# The gate, as `make test` runs it: what is written is held to the source, everything is proved by `rt ci`, the port is
+# compared with the original, and what ships is built from what is proved, linked and run.
 #
 # Its last line is that of `rt ci`, printed once more where all the rest has passed.
 set -eu
@@ -58,8 +58,8 @@ if ! grep -q '^rt: ok' "$work/said" || grep '^rt: ok' "$work/said" | grep -Eq ',
     exit 1
 fi
 
-# What was proved, run: beside the original; briefly beside exact fractions, and beside the promises of the estimates; the replay and
-# the mending beside what their page shows, then beside the original.
+# What was proved, run: the calls beside the original; briefly beside exact fractions, and beside the promises of the
+# estimates; the replay and the mending beside what their page shows, then beside the original.
 ORACLE_TARGET=$work/oracle sh tests/diff.sh gate
 if command -v python3 >/dev/null 2>&1; then
     python3 tests/drift.py 1 60

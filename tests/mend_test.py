@@ -602,7 +602,7 @@ name=${PWD##*/}
 echo "$1 $name" >>../../log
 mkdir -p out
 [ -e "out/$name" ] || : >"out/$name"
-: >"out/$name.stamp"
+echo "rt: running out/$name; so it says" >&2
 exit 1
 '''
 
