@@ -94,8 +94,8 @@ fn sent_rows(model: NetworkModel, fine: bool, now: Moment, inflight: u64, bytes:
 
 fn sent_reply(model: NetworkModel, fine: bool, now: Moment, inflight: u64, bytes: u64) -> Reply
     requires { fine ≡ model_ok model }
-    ensures result_value { number result ≡ sent_number model now inflight bytes }
-    ensures result_value_2 { fault result ≡ named (sent_number model now inflight bytes) (first (sent_faults now inflight bytes)) }
+    ensures reply { number result ≡ sent_number model now inflight bytes }
+    ensures fault { fault result ≡ named (sent_number model now inflight bytes) (first (sent_faults now inflight bytes)) }
 {
     let rows = sent_rows(model, fine, now, inflight, bytes);
     refusal(rows, sent_fault(now, inflight, bytes))
@@ -238,8 +238,8 @@ pub fn postpone_min_rtt_timestamp(model: NetworkModel, length: Duration) -> Chan
 }
 
 fn postpone_reply(model: NetworkModel, length: Duration) -> Reply
-    ensures result_value { number result ≡ postpone_number model length }
-    ensures result_value_2 { fault result ≡ named (postpone_number model length) (first (postpone_faults length (postponed model length))) }
+    ensures reply { number result ≡ postpone_number model length }
+    ensures fault { fault result ≡ named (postpone_number model length) (first (postpone_faults length (postponed model length))) }
 {
     let moment = postponed(model, length);
     model.given(

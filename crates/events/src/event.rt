@@ -115,8 +115,8 @@ fn event_reply(
     most: MaybeNumber,
 ) -> Reply
     requires { fine ≡ model_ok model }
-    ensures result_value { number result ≡ event_number model params event sample (listed most) }
-    ensures result_value_2 { fault result ≡ named (event_number model params event sample (listed most))
+    ensures reply { number result ≡ event_number model params event sample (listed most) }
+    ensures fault { fault result ≡ named (event_number model params event sample (listed most))
         (first (started_faults true whole_record event whole_sample sample)) }
 {
     let rows = event_rows(model, fine, params, event, sample, most);
@@ -566,8 +566,8 @@ fn finish_row(model: NetworkModel, fine: bool, event: CongestionEvent) -> u64
 
 fn finish_reply(model: NetworkModel, fine: bool, event: CongestionEvent) -> Reply
     requires { fine ≡ model_ok model }
-    ensures result_value { number result ≡ finish_number model event }
-    ensures result_value_2 { fault result ≡ named (finish_number model event) (first (event_faults whole_record event)) }
+    ensures reply { number result ≡ finish_number model event }
+    ensures fault { fault result ≡ named (finish_number model event) (first (event_faults whole_record event)) }
 {
     let rows = Rows {
         stored: !fine,

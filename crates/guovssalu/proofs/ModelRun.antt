@@ -19,7 +19,7 @@ use Rattle.laws.proofs.Tested.{sent_same, start_same, finish_same}
 use Rattle.state.specs.declared.cycle.Cycle.{Cycle}
 use Rattle.words.specs.Words.{word_at, all_bytes}
 use Rattle.words.proofs.Stores.{sets-append}
-use Rattle.words.proofs.Laws.{all_bytes_append, length_all_bytes, length_words_at, get_d_words_at}
+use Rattle.words.proofs.Laws.{all_bytes_append, length_all_bytes, length_words_at, get_or_words_at}
 use Rattle.layout.specs.NetworkModel.{model_from}
 use Rattle.layout.specs.Cycle.{cycle_from}
 use Rattle.arguments.specs.Alike.{AreAlike}
@@ -118,7 +118,7 @@ module _ (m : NetworkModel) (y : Cycle) (src lists : List ℕ) (at : ℕ) (out :
       × (fine' ≡ model_ok m')
 
   own_number : {n : ℕ} → word_at src at ≡ n → get_or (own_at src at) 0 0 ≡ n
-  own_number e = get_d_words_at src at 49 0 (omega arith) ∙ ap (word_at src) (add-zero at) ∙ e
+  own_number e = get_or_words_at src at 49 0 (omega arith) ∙ ap (word_at src) (add-zero at) ∙ e
 
   -- the lists change nothing of the call's own words
   alike : AreAlike (call_at src lists at) (own_at src at)

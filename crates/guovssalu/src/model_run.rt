@@ -53,8 +53,8 @@ pub fn guovssalu_run_lists(state: &mut [u8], calls: &[u8], lists: &[u64], answer
 }
 
 fn model_reply(state: &[u8], calls: &[u8], room: usize) -> Reply
-    ensures result_value { number result ≡ model_row state.now calls.now room }
-    ensures result_value_2 { fault result ≡ named (model_row state.now calls.now room)
+    ensures reply { number result ≡ model_row state.now calls.now room }
+    ensures fault { fault result ≡ named (model_row state.now calls.now room)
         (first (length_faults state.now calls.now)) }
 {
     let whole = state.len() == 408;

@@ -30,8 +30,8 @@ pub fn guovssalu_raise_inflight_high_slope(rounds: u64, window: u64, out: &mut [
 }
 
 fn slope_reply(rounds: u64, window: u64, room: usize) -> Reply
-    ensures result_value { number result ≡ slope_row rounds window room }
-    ensures result_value_2 { fault result ≡ named (slope_row rounds window room) (first (window_faults window)) }
+    ensures reply { number result ≡ slope_row rounds window room }
+    ensures fault { fault result ≡ named (slope_row rounds window room) (first (window_faults window)) }
 {
     let fine = bytes_ok(window);
     let rows = Rows {

@@ -253,8 +253,8 @@ pub fn check_persistent_queue(model: NetworkModel, params: Params, gain: f32) ->
 
 fn queue_reply(model: NetworkModel, params: Params, gain: f32, queueing: bool) -> Reply
     requires { queueing ≡ is_queueing model gain }
-    ensures result_value { number result ≡ queue_number model params gain }
-    ensures result_value_2 { fault result ≡ named (queue_number model params gain) (first (gain_faults true gain)) }
+    ensures reply { number result ≡ queue_number model params gain }
+    ensures fault { fault result ≡ named (queue_number model params gain) (first (gain_faults true gain)) }
 {
     let full = queueing & (model.growth.queueing == FULL);
     let rows = Rows {
@@ -303,8 +303,8 @@ fn queue_after(growth: Growth, queueing: bool, params: Params) -> Growth
 // ---- what the calls share
 
 fn judged_reply(model: NetworkModel, params: Params, event: CongestionEvent, full: bool) -> Reply
-    ensures result_value { number result ≡ judged_number model params event full }
-    ensures result_value_2 { fault result ≡ named (judged_number model params event full) (first (event_faults whole_record event)) }
+    ensures reply { number result ≡ judged_number model params event full }
+    ensures fault { fault result ≡ named (judged_number model params event full) (first (event_faults whole_record event)) }
 {
     let given = event.ok();
     let rows = Rows {

@@ -1,4 +1,4 @@
--- A fraction rounded to either format lies between its floor and its ceiling, counted in units of 1 / 2 ^ s, as long as those have at most `prec` digits (`round-between`).
+-- A fraction rounded to either format lies between its floor and its ceiling, counted in units of 1 / 2 ^ s, as long as those have at most `prec` digits (`round_between`).
 -- The floor and the ceiling are values of the format, and rounding keeps the order. Assumes nothing.
 use Rattle.std.proofs.Common.{◌≡◌, ℕ, suc, ◌+◌, ◌-◌, ◌*◌, ◌/◌, ◌^◌, ◌<◌, ◌≤◌, true, false, ◌&&◌, ◌||◌, T, eqb, ltb, sym, ap, inl, inr, true≢false, le_of_suc-le-suc, lt_of_le_of_lt, le_of_lt, mul-le-mul_right, mul_assoc, div-lt_iff_lt-mul, sub-add_cancel, div-mul-le_self, arith, pow_pos, pow-add, le-ltb, ne_eqb}
 use native.Mathlib.Nat.{lt-div-mul-add, div-le_of_le-mul}

@@ -1,5 +1,5 @@
--- The nearest whole number of p digits, over the width p: `closest` of the kit, times the place that is kept, is what the Reference's sentence asks for (`cut-closest`), and
--- nothing else is (`only-closest`). Plain whole numbers: no float stands here. Assumes nothing.
+-- The nearest whole number of p digits, over the width p: `closest` of the kit, times the place that is kept, is what the Reference's sentence asks for (`cut_closest`), and
+-- nothing else is (`only_closest`). Plain whole numbers: no float stands here. Assumes nothing.
 use Rattle.std.proofs.Common.{◌≡◌, ℕ, suc, ◌+◌, ◌-◌, ◌*◌, ◌/◌, ◌%◌, ◌^◌, ◌<◌, ◌≤◌, not, T, ◌⊎◌, sym, refl, ap, ◌∙◌, inl, inr, le_trans, le_of_eq, add-zero, le_of_lt, mul-le-mul_right, mod-lt, mod-eq_of_lt, mul_assoc, eq-zero-or-pos, le_antisymm, lt_of_mul-lt-mul_right, eq-or-lt_of_le, one-mul, pow-suc, lt_of_not-le, div-add-mod', le-div_iff_mul-le, mul-one, sub-add_cancel, not-le_of_lt, le-mul_of_pos_right, add-one, arith, eqb→eq, leb→le, pow_pos, pow_mono, pow-add}
 use Prim.Native.Nat.{compare, Ordering}
 use native.Mathlib.Nat.{eq_of_mul-eq-mul_right}

@@ -1,4 +1,4 @@
--- How many digits a number of 64 bits has, by the count of its leading zeros: what is left of the 64 is the kit's `size` (`digits-counted`). So the digits beyond p are 64 less
+-- How many digits a number of 64 bits has, by the count of its leading zeros: what is left of the 64 is the kit's `size` (`digits_counted`). So the digits beyond p are 64 less
 -- the leading zeros, less p (`spare_of`). Assumes nothing.
 use Rattle.std.proofs.Common.{◌≡◌, ℕ, ◌+◌, ◌-◌, ◌*◌, ◌^◌, ◌<◌, ◌≤◌, inl, inr, eq-zero-or-pos, arith}
 use lib.Count.{count_leading_zeros, leading_unique}

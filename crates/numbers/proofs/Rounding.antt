@@ -1,4 +1,4 @@
--- Rounding to a float, for either format at once. A whole number is cut to `prec` leading digits (`round-cut`); a fraction that the format holds is kept (`round-kept`); the
+-- Rounding to a float, for either format at once. A whole number is cut to `prec` leading digits (`round_cut`); a fraction that the format holds is kept (`round_kept`); the
 -- digits that are kept, times the place of the last of them, are the number's float (`of_cut`). Assumes nothing.
 use Rattle.std.proofs.Common.{◌≡◌, ℕ, suc, ◌+◌, ◌-◌, ◌*◌, ◌/◌, ◌%◌, ◌^◌, ◌<◌, ◌≤◌, Bool, true, false, ◌&&◌, T, eqb, ltb, leb, ℤ, pos, sym, refl, ap, ◌∙◌, inl, inr, true≢false, lt_of_le_of_lt, le_of_lt, mul-le-mul_right, mul_assoc, div-lt_iff_lt-mul, eq-or-lt_of_le, mul-lt-mul_of_pos_right, mul-pos, one-mul, le-div_iff_mul-le, mul-one, div-one, arith, ltb→lt, pow_pos, pow-add}
 use native.Mathlib.Nat.{mul-mul-mul_comm, eq_of_mul-eq-mul_right}

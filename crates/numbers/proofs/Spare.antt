@@ -1,4 +1,4 @@
--- What a float is made of, once the digits beyond the format's are counted (`of-spare`): those that are kept, rounded, times the place of the last of them, 2 ^ k. The place is
+-- What a float is made of, once the digits beyond the format's are counted (`of_spare`): those that are kept, rounded, times the place of the last of them, 2 ^ k. The place is
 -- taken in two steps, since a number beyond those that a float holds without a gap can't be cast. Assumes nothing.
 use Rattle.std.proofs.Common.{◌≡◌, ℕ, ◌+◌, ◌*◌, ◌^◌, ◌<◌, ◌≤◌, false, T, pos, refl, lt_of_le_of_lt, div-lt_iff_lt-mul, zero-add, mul-one, arith, le→leb, pow_pos, pow_mono, pow-add}
 use lib.Ieee.{Float, fin, Format, binary32, prec, emax, of_int, of_bits, mul, in_float}

@@ -17,8 +17,8 @@ use words::{get_word, put_words};
 
 // The reply to a run: 2.8 at place 2, 3 or 7.
 pub fn run_reply(window: u64, src: &[u8], room: usize) -> Reply
-    ensures result_value { number result ≡ run_row window src.now room }
-    ensures result_value_2 { fault result ≡ named (run_row window src.now room) (first (pairs_faults src.now)) }
+    ensures reply { number result ≡ run_row window src.now room }
+    ensures fault { fault result ≡ named (run_row window src.now room) (first (pairs_faults src.now)) }
 {
     let even = src.len() % 16 == 0;
     let rows = Rows {

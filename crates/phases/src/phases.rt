@@ -35,8 +35,8 @@ fn entry_reply(
     now: Moment,
     blamed: u32,
 ) -> Reply
-    ensures result_value { number result ≡ entry_number model cycle params argument now }
-    ensures result_value_2 { fault result ≡ named (entry_number model cycle params argument now) blamed }
+    ensures reply { number result ≡ entry_number model cycle params argument now }
+    ensures fault { fault result ≡ named (entry_number model cycle params argument now) blamed }
 {
     let moment = model.moment;
     let stored = model.ok() & cycle.ok() & params;
@@ -211,8 +211,8 @@ pub fn raise_inflight_high_slope(cycle: Cycle, window: u64) -> CycleChanged
 }
 
 fn slope_reply(cycle: Cycle, window: u64) -> Reply
-    ensures result_value { number result ≡ slope_number cycle window }
-    ensures result_value_2 { fault result ≡ named (slope_number cycle window) (first (slope_faults window)) }
+    ensures reply { number result ≡ slope_number cycle window }
+    ensures fault { fault result ≡ named (slope_number cycle window) (first (slope_faults window)) }
 {
     let rows = Rows {
         stored: !cycle.ok(),
@@ -268,8 +268,8 @@ pub fn enter_probe_down(
 }
 
 fn down_reply(model: NetworkModel, cycle: Cycle, params: Params, now: Moment) -> Reply
-    ensures result_value { number result ≡ down_number model cycle params now }
-    ensures result_value_2 { fault result ≡ named (down_number model cycle params now) (first (down_faults true true now)) }
+    ensures reply { number result ≡ down_number model cycle params now }
+    ensures fault { fault result ≡ named (down_number model cycle params now) (first (down_faults true true now)) }
 {
     let blamed = down_fault(true, true, now);
     entry_reply(model, cycle, params.ok(), true, now, blamed)
@@ -414,8 +414,8 @@ pub fn enter_probe_up(model: NetworkModel, cycle: Cycle, now: Moment, window: u6
 }
 
 fn up_reply(model: NetworkModel, cycle: Cycle, now: Moment, window: u64) -> Reply
-    ensures result_value { number result ≡ up_number model cycle now window }
-    ensures result_value_2 { fault result ≡ named (up_number model cycle now window) (first (up_faults now window)) }
+    ensures reply { number result ≡ up_number model cycle now window }
+    ensures fault { fault result ≡ named (up_number model cycle now window) (first (up_faults now window)) }
 {
     let blamed = up_fault(now, window);
     entry_reply(model, cycle, true, bytes_ok(window), now, blamed)

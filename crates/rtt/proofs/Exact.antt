@@ -1,4 +1,4 @@
--- An estimator keeps near to the exact averages: sample by sample (`every-run`). Assumes nothing.
+-- An estimator keeps near to the exact averages: sample by sample (`every_run`). Assumes nothing.
 use Prim.Native.Nat.{ℕ, zero, suc, min, max, ◌+◌, ◌-◌, ◌*◌, ◌/◌, ◌^◌, ◌≤◌, ◌<◌}
 use mathlib.Core.Bool.{Bool, true, false, cond, not, ◌&&◌, true≢false}
 use mathlib.Core.List.{List, [], ◌∷◌}

@@ -145,8 +145,8 @@ impl RttStats {
     }
 
     fn update_reply(self, latest: Duration, delay: Duration) -> Reply
-        ensures result_value { number result ≡ update_number self latest delay true }
-        ensures result_value_2 { fault result ≡ named (update_number self latest delay true)
+        ensures reply { number result ≡ update_number self latest delay true }
+        ensures fault { fault result ≡ named (update_number self latest delay true)
             (first (update_faults latest delay true)) }
     {
         let fine = length_ok(latest) & length_ok(delay) & true;
@@ -155,8 +155,8 @@ impl RttStats {
 
     // The reply to a call that is given what `fine` says is within its bounds or not.
     pub fn given(self, fine: bool, blamed: u32) -> Reply
-        ensures result_value { number result ≡ given_number self fine }
-        ensures result_value_2 { fault result ≡ named (given_number self fine) blamed }
+        ensures reply { number result ≡ given_number self fine }
+        ensures fault { fault result ≡ named (given_number self fine) blamed }
     {
         let rows = Rows {
             stored: !self.ok(),
@@ -345,8 +345,8 @@ pub fn delay_fault(limit: Duration) -> u32
 }
 
 fn new_reply(initial: Duration, limit: Duration) -> Reply
-    ensures result_value { number result ≡ new_number initial limit }
-    ensures result_value_2 { fault result ≡ named (new_number initial limit) (first (new_faults initial limit)) }
+    ensures reply { number result ≡ new_number initial limit }
+    ensures fault { fault result ≡ named (new_number initial limit) (first (new_faults initial limit)) }
 {
     let fine = length_ok(initial) & length_ok(limit);
     let rows = Rows {

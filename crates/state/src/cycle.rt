@@ -103,8 +103,8 @@ impl Stay {
 }
 
 fn fresh_reply(now: Moment) -> Reply
-    ensures result_value { number result ≡ fresh_number now }
-    ensures result_value_2 { fault result ≡ named (fresh_number now) (first (now_faults now)) }
+    ensures reply { number result ≡ fresh_number now }
+    ensures fault { fault result ≡ named (fresh_number now) (first (now_faults now)) }
 {
     let rows = Rows {
         argument: !moment_ok(now),

@@ -59,8 +59,8 @@ fn minrtt_ok(f: MinRttFilter) -> bool
 }
 
 fn start_reply(params: Params, rtt: Duration, now: Moment) -> Reply
-    ensures result_value { number result ≡ start_number params rtt now }
-    ensures result_value_2 { fault result ≡ named (start_number params rtt now) (first (start_faults rtt now)) }
+    ensures reply { number result ≡ start_number params rtt now }
+    ensures fault { fault result ≡ named (start_number params rtt now) (first (start_faults rtt now)) }
 {
     let fine = length_ok(rtt) & moment_ok(now);
     let rows = Rows {
@@ -178,8 +178,8 @@ impl NetworkModel {
 
     // The reply of a call that is given something, which is fine or has this fault.
     pub fn given(self, fine: bool, blamed: u32) -> Reply
-        ensures result_value { number result ≡ given_number self fine }
-        ensures result_value_2 { fault result ≡ named (given_number self fine) blamed }
+        ensures reply { number result ≡ given_number self fine }
+        ensures fault { fault result ≡ named (given_number self fine) blamed }
     {
         let rows = Rows {
             stored: !self.ok(),

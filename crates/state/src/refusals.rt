@@ -38,8 +38,8 @@ impl Rows {
 
 // The reply of the first row that holds, in the order in which they are asked, or `Done`. Row 2 names the fault.
 pub fn refusal(rows: Rows, blamed: u32) -> Reply
-    ensures result_value { number result ≡ first_of rows }
-    ensures result_value_2 { fault result ≡ named (first_of rows) blamed }
+    ensures reply { number result ≡ first_of rows }
+    ensures fault { fault result ≡ named (first_of rows) blamed }
 {
     reply_of(
         rows.stored,
@@ -62,8 +62,8 @@ fn reply_of(
     full: bool,
     blamed: u32,
 ) -> Reply
-    ensures result_value { number result ≡ asked_of stored argument earlier lower unsent full }
-    ensures result_value_2 { fault result ≡ named (asked_of stored argument earlier lower unsent full) blamed }
+    ensures reply { number result ≡ asked_of stored argument earlier lower unsent full }
+    ensures fault { fault result ≡ named (asked_of stored argument earlier lower unsent full) blamed }
 {
     if stored {
         return Reply::OutOfBounds;
@@ -127,8 +127,8 @@ fn row_of(stored: bool, argument: bool, earlier: bool, lower: bool, unsent: bool
 
 // The reply, or `ShortOutput` where it is done and the output is too short.
 pub fn or_short(reply: Reply, short: bool) -> Reply
-    ensures result_value { number result ≡ or_short (number reply) short }
-    ensures result_value_2 { fault result ≡ fault reply }
+    ensures reply { number result ≡ or_short (number reply) short }
+    ensures fault { fault result ≡ fault reply }
 {
     if reply.is_done() & short {
         Reply::ShortOutput

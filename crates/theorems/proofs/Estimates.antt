@@ -20,7 +20,7 @@ use Rattle.filters.specs.Reason.{reason_number, windowed_reason}
 use Rattle.filters.specs.WindowedFilter.{sample_at, best_of, second_of, third_of, windowed_new, windowed_number}
 use Rattle.state.proofs.Rows.{or_left, or_right}
 use Rattle.words.specs.Words.{word_at, all_bytes}
-use Rattle.words.proofs.Laws.{AllWords, get_d_words_at, words_back}
+use Rattle.words.proofs.Laws.{AllWords, get_or_words_at, words_back}
 use Rattle.pairs.specs.Pairs.{pairs, after_pair, refuses, sample_in, samples, pair_words, run_words, run_row}
 use Rattle.guovssalu.specs.Reply.{answered}
 use Rattle.guovssalu.specs.FilterRun.{run_out}
@@ -177,7 +177,7 @@ module _ (r : FilterRun) (h : Filtered r) (bytes : AreBytes r.pairs) (done : r.r
   word_is at j e l =
       ap (λ (s : List ℕ). word_at s at) written
       ∙ ap (word_at (sets r.output 0 (all_bytes words))) e
-      ∙ sym (get_d_words_at (sets r.output 0 (all_bytes words)) 0 (length words) j l)
+      ∙ sym (get_or_words_at (sets r.output 0 (all_bytes words)) 0 (length words) j l)
       ∙ ap (λ (s : List ℕ). get_or s j 0) (words_back r.output 0 words room (all_words r.window r.pairs bytes (windowed_new r.window) [] 0 (pairs r.pairs) empty unrefused))
 
   pub pair_shows : (i : ℕ) → i < pairs r.pairs → PairShows r i

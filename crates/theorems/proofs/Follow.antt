@@ -20,7 +20,7 @@ use Rattle.state.specs.NetworkModel.{model_ok, stored_number}
 use Rattle.state.specs.declared.congestion_event.CongestionEvent.{CongestionEvent}
 use Rattle.state.specs.declared.congestion_event.CongestionEventSample.{CongestionEventSample}
 use Rattle.state.specs.declared.cycle.Cycle.{Cycle}
-use Rattle.words.proofs.Laws.{get_d_words_at}
+use Rattle.words.proofs.Laws.{get_or_words_at}
 use Rattle.words.specs.Maybe.{bandwidth_of}
 use Rattle.layout.specs.NetworkModel.{model_from}
 use Rattle.arguments.specs.Params.{params_from}
@@ -49,11 +49,11 @@ use Rattle.theorems.proofs.Reached.{Reached, Made, all_made, of_reached}
 -- ---- the lower bounds in any bytes are those of the state that they encode
 inflight_in_lem : (bytes : List ℕ) → inflight_in bytes ≡ inflight_low (state_from bytes)
 unfolding low_word inflight_low state_from model_from
-inflight_in_lem bytes = ap (λ (n : ℕ). cond (eqb n (2 ^ 64 - 1)) Number.Unset (Number.Set n)) (sym (get_d_words_at bytes 0 51 17 (omega arith)))
+inflight_in_lem bytes = ap (λ (n : ℕ). cond (eqb n (2 ^ 64 - 1)) Number.Unset (Number.Set n)) (sym (get_or_words_at bytes 0 51 17 (omega arith)))
 
 bandwidth_in_lem : (bytes : List ℕ) → bandwidth_in bytes ≡ bandwidth_low (state_from bytes)
 unfolding bandwidth_in bandwidth_low state_from model_from
-bandwidth_in_lem bytes = λ i. low_of (bandwidth_of (sym (get_d_words_at bytes 0 51 15 (omega arith)) i) (sym (get_d_words_at bytes 0 51 16 (omega arith)) i))
+bandwidth_in_lem bytes = λ i. low_of (bandwidth_of (sym (get_or_words_at bytes 0 51 15 (omega arith)) i) (sym (get_or_words_at bytes 0 51 16 (omega arith)) i))
 
 -- ---- what is known of an event's words is known of its call
 abbrev pub Small : Float → Params → CongestionEvent → CongestionEventSample → Type 0

@@ -17,7 +17,7 @@ use Rattle.state.specs.Faults.{unless, first, named, replied}
 use Rattle.words.specs.Word.{flag_word, flag_of, flag_fits}
 use Rattle.words.specs.Words.{word_at, words_at, all_bytes}
 use Rattle.words.proofs.Back.{flag_written}
-use Rattle.words.proofs.Laws.{AllWords, length_all_bytes, get_d_words_at, words_back}
+use Rattle.words.proofs.Laws.{AllWords, length_all_bytes, get_or_words_at, words_back}
 use Rattle.rtt.specs.declared.rtt.RttStats.{RttStats}
 use Rattle.rtt.specs.Rtt.{stats_tests, stats_ok, stats_new, new_faults, new_number, new_left, update_faults, update_number, update_left, delay_faults, delay_number, delay_left, given_number, minimum_shown}
 use Rattle.rtt.specs.Exact.{Sample, go_on, least, Promised}
@@ -137,11 +137,11 @@ length_answers s src at (suc n) =
     length-append (answer_at s src at) (answers_to (left_at s src at) src (at + 32) n)
     ∙ omega (arith, length_answer s src at, length_answers (left_at s src at) src (at + 32) n)
 
-get_d_right : (l k : List ℕ) (n : ℕ) → get_or (l ++ k) (length l + n) 0 ≡ get_or k n 0
-get_d_right [] k n = ap (λ (x : ℕ). get_or k x 0) (zero-add n)
-get_d_right (x ∷ l) k n =
+get_or_right : (l k : List ℕ) (n : ℕ) → get_or (l ++ k) (length l + n) 0 ≡ get_or k n 0
+get_or_right [] k n = ap (λ (x : ℕ). get_or k x 0) (zero-add n)
+get_or_right (x ∷ l) k n =
     let next : suc (length l) + n ≡ suc (length l + n) = omega arith in
-    ap (λ (y : ℕ). get_or (x ∷ (l ++ k)) y 0) next ∙ get_d_right l k n
+    ap (λ (y : ℕ). get_or (x ∷ (l ++ k)) y 0) next ∙ get_or_right l k n
 
 answer_word_lem : (s : RttStats) (src : List ℕ) (at n i j : ℕ) → i < n → j < 5 → get_or (answers_to s src at n) (5 * i + j) 0 ≡ get_or (answer_at (left_by s src at i) src (at + 32 * i)) j 0
 unfolding answers_to left_by
@@ -154,7 +154,7 @@ answer_word_lem s src at (suc n) (suc i) j h k =
     let there : 5 * suc i + j ≡ length (answer_at s src at) + (5 * i + j) = rw (length_answer s src at) (omega arith) in
     let next : at + 32 + 32 * i ≡ at + 32 * suc i = omega arith in
     ap (λ (x : ℕ). get_or (answers_to s src at (suc n)) x 0) there
-    ∙ get_d_right (answer_at s src at) (answers_to (left_at s src at) src (at + 32) n) (5 * i + j)
+    ∙ get_or_right (answer_at s src at) (answers_to (left_at s src at) src (at + 32) n) (5 * i + j)
     ∙ answer_word_lem (left_at s src at) src (at + 32) n i j (omega (arith, h)) k
     ∙ ap (λ (x : ℕ). get_or (answer_at (left_by (left_at s src at) src (at + 32) i) src x) j 0) next
 
@@ -172,7 +172,7 @@ module _ (r : RttRun) (h : RttRan r) (done : r.reply ≡ 0) where
       let within : 5 * i + j < length words = omega (arith, length_answers (stats_in r.state) r.calls 0 (rtt_count r), l, k) in
       ap (λ (s : List ℕ). word_at s (40 * i + 8 * j)) (written_is r h done)
       ∙ ap (word_at (sets r.answers 0 (all_bytes words))) at
-      ∙ sym (get_d_words_at (sets r.answers 0 (all_bytes words)) 0 (length words) (5 * i + j) within)
+      ∙ sym (get_or_words_at (sets r.answers 0 (all_bytes words)) 0 (length words) (5 * i + j) within)
       ∙ ap (λ (s : List ℕ). get_or s (5 * i + j) 0) (words_back r.answers 0 words fits (answers_small (stats_in r.state) r.calls 0 (rtt_count r)))
       ∙ answer_word_lem (stats_in r.state) r.calls 0 (rtt_count r) i j l k
       ∙ ap (λ (x : ℕ). get_or (answer_at (rtt_before r i) r.calls x) j 0) (zero-add (32 * i))
@@ -203,11 +203,11 @@ unfolding stats_from
 lent_small bytes h = (word 0 (omega arith), word 1 (omega arith), word 2 (omega arith), word 3 (omega arith), word 4 (omega arith))
   where
     word : (i : ℕ) → i < 6 → get_or (words_at bytes 0 6) i 0 < 2 ^ 64
-    word i l = rw (get_d_words_at bytes 0 6 i l) (number_small 8 bytes (0 + 8 * i) h)
+    word i l = rw (get_or_words_at bytes 0 6 i l) (number_small 8 bytes (0 + 8 * i) h)
 
 flag_word_lem : (s : RttStats) → Small s → word_at (all_bytes (stats_words s)) 40 ≡ flag_word s.sampled
 unfolding stats_words
-flag_word_lem s h = sym (get_d_words_at (all_bytes (stats_words s)) 0 6 5 (omega arith)) ∙ ap (λ (l : List ℕ). get_or l 5 0) (words_read s h)
+flag_word_lem s h = sym (get_or_words_at (all_bytes (stats_words s)) 0 6 5 (omega arith)) ∙ ap (λ (l : List ℕ). get_or l 5 0) (words_read s h)
 
 pub left_encodes : (r : RttRun) → RttRan r → AreBytes r.state → r.reply ≡ 0 → (length r.left ≡ 48) × (encodes_none r.left ≡ false)
 unfolding encodes_none

@@ -21,8 +21,8 @@ use words::{get_word, put_words};
 // The reply to a run: 1 for bytes that encode no estimator, 2.8 for a length that is none of an estimator's, at place 1,
 // or of whole calls, at place 2, 7 for answers under 40 bytes a call.
 pub fn run_reply(state: &[u8], calls: &[u8], room: usize) -> Reply
-    ensures result_value { number result ≡ rtt_row state.now calls.now room }
-    ensures result_value_2 { fault result ≡ named (rtt_row state.now calls.now room)
+    ensures reply { number result ≡ rtt_row state.now calls.now room }
+    ensures fault { fault result ≡ named (rtt_row state.now calls.now room)
         (first (rtt_faults state.now calls.now)) }
 {
     let whole = state.len() == 48;

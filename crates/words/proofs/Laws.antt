@@ -34,11 +34,11 @@ unfolding all_bytes
 all_bytes_append [] b = refl
 all_bytes_append (x ∷ a) b = rw (all_bytes_append a b) (sym (append_assoc (bytes x) (all_bytes a) (all_bytes b)))
 
-pub get_d_words_at : (s : List ℕ) (at n i : ℕ) → i < n → get_or (words_at s at n) i 0 ≡ word_at s (at + 8 * i)
+pub get_or_words_at : (s : List ℕ) (at n i : ℕ) → i < n → get_or (words_at s at n) i 0 ≡ word_at s (at + 8 * i)
 unfolding words_at
-get_d_words_at s at zero i h = omega arith
-get_d_words_at s at (suc n) zero h = ap (word_at s) (sym (add-zero at))
-get_d_words_at s at (suc n) (suc i) h = get_d_words_at s (at + 8) n i (omega arith) ∙ ap (word_at s) (omega arith)
+get_or_words_at s at zero i h = omega arith
+get_or_words_at s at (suc n) zero h = ap (word_at s) (sym (add-zero at))
+get_or_words_at s at (suc n) (suc i) h = get_or_words_at s (at + 8) n i (omega arith) ∙ ap (word_at s) (omega arith)
 
 -- ---- what stands at an index, past the first k
 number_at_drop : (n k : ℕ) (s : List ℕ) (at : ℕ) → number_at n (drop k s) at ≡ number_at n s (k + at)

@@ -21,4 +21,6 @@ returns-in-13 c = rw c.in-13.is record { reply = c.inflight_hi_with_headroom.ens
 
 pub returns-in_default : goal.returns-in_default
 unfolding ask_of
-returns-in_default c = let r = c.in_default.in_default-own.rest in rw (ne_eqb _ 10 r.0.0.0.1, ne_eqb _ 11 r.0.0.1, ne_eqb _ 12 r.0.1, ne_eqb _ 13 r.1) record { reply = c.read_any.ensures.reply; value = c.read_any.ensures.value }
+returns-in_default c =
+    let r = c.in_default.in_default-own.rest in
+    rw (ne_eqb _ 10 r.0.0.0.1, ne_eqb _ 11 r.0.0.1, ne_eqb _ 12 r.0.1, ne_eqb _ 13 r.1) record { reply = c.read_any.ensures.reply; value = c.read_any.ensures.value }

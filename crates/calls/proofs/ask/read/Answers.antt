@@ -40,4 +40,6 @@ returns-in-29 c = rw c.in-29.is record { reply = c.total_bytes_lost.ensures.repl
 
 pub returns-in_default : goal.returns-in_default
 unfolding read_of
-returns-in_default c = let r = c.in_default.in_default-own.rest in rw (ne_eqb _ 23 r.0.0.0.0.0.0.1, ne_eqb _ 24 r.0.0.0.0.0.1, ne_eqb _ 25 r.0.0.0.0.1, ne_eqb _ 26 r.0.0.0.1, ne_eqb _ 27 r.0.0.1, ne_eqb _ 28 r.0.1, ne_eqb _ 29 r.1) record { reply = c.refused.ensures.reply; value = c.refused.ensures.value ∙ settled_same _ _ }
+returns-in_default c =
+    let r = c.in_default.in_default-own.rest in
+    rw (ne_eqb _ 23 r.0.0.0.0.0.0.1, ne_eqb _ 24 r.0.0.0.0.0.1, ne_eqb _ 25 r.0.0.0.0.1, ne_eqb _ 26 r.0.0.0.1, ne_eqb _ 27 r.0.0.1, ne_eqb _ 28 r.0.1, ne_eqb _ 29 r.1) record { reply = c.refused.ensures.reply; value = c.refused.ensures.value ∙ settled_same _ _ }

@@ -47,4 +47,6 @@ returns-in-38 c = rw c.in-38.is record { reply = c.queueing_threshold_extra_byte
 
 pub returns-in_default : goal.returns-in_default
 unfolding read_more
-returns-in_default c = let r = c.in_default.in_default-own.rest in rw (ne_eqb _ 30 r.0.0.0.0.0.0.0.0.1, ne_eqb _ 31 r.0.0.0.0.0.0.0.1, ne_eqb _ 32 r.0.0.0.0.0.0.1, ne_eqb _ 33 r.0.0.0.0.0.1, ne_eqb _ 34 r.0.0.0.0.1, ne_eqb _ 35 r.0.0.0.1, ne_eqb _ 36 r.0.0.1, ne_eqb _ 37 r.0.1, ne_eqb _ 38 r.1) record { reply = c.refused.ensures.reply; value = c.refused.ensures.value ∙ settled_same _ _ }
+returns-in_default c =
+    let r = c.in_default.in_default-own.rest in
+    rw (ne_eqb _ 30 r.0.0.0.0.0.0.0.0.1, ne_eqb _ 31 r.0.0.0.0.0.0.0.1, ne_eqb _ 32 r.0.0.0.0.0.0.1, ne_eqb _ 33 r.0.0.0.0.0.1, ne_eqb _ 34 r.0.0.0.0.1, ne_eqb _ 35 r.0.0.0.1, ne_eqb _ 36 r.0.0.1, ne_eqb _ 37 r.0.1, ne_eqb _ 38 r.1) record { reply = c.refused.ensures.reply; value = c.refused.ensures.value ∙ settled_same _ _ }

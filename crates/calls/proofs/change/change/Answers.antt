@@ -3,4 +3,6 @@ use mathlib.Core.Path.{◌∙◌}
 use Rattle.calls.proofs.change.change.Goals as goal
 
 pub returns : goal.returns
-returns c = let one = c.change_one-changed.ensures in record { row = c.row.ensures ∙ one.reply; model = one.model }
+returns c =
+    let one = c.change_one-changed.ensures in
+    record { row = c.row.ensures ∙ one.reply; model = one.model }

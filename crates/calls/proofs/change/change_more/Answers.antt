@@ -31,4 +31,6 @@ returns-in-22 c = rw c.in-22.is record { reply = c.postpone_min_rtt_timestamp.en
 
 pub returns-in_default : goal.returns-in_default
 unfolding change_more
-returns-in_default c = let r = c.in_default.in_default-own.rest in rw (ne_eqb _ 17 r.0.0.0.0.0.1, ne_eqb _ 18 r.0.0.0.0.1, ne_eqb _ 19 r.0.0.0.1, ne_eqb _ 20 r.0.0.1, ne_eqb _ 21 r.0.1, ne_eqb _ 22 r.1) record { reply = c.refused.ensures.reply; model = c.refused.ensures.model ∙ settled_same _ _ }
+returns-in_default c =
+    let r = c.in_default.in_default-own.rest in
+    rw (ne_eqb _ 17 r.0.0.0.0.0.1, ne_eqb _ 18 r.0.0.0.0.1, ne_eqb _ 19 r.0.0.0.1, ne_eqb _ 20 r.0.0.1, ne_eqb _ 21 r.0.1, ne_eqb _ 22 r.1) record { reply = c.refused.ensures.reply; model = c.refused.ensures.model ∙ settled_same _ _ }

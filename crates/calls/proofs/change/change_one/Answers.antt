@@ -21,4 +21,6 @@ returns-in-16 c = rw c.in-16.is record { reply = c.set_cwnd_gain.ensures.reply; 
 
 pub returns-in_default : goal.returns-in_default
 unfolding change_of
-returns-in_default c = let r = c.in_default.in_default-own.rest in rw (ne_eqb _ 8 r.0.0.0.1, ne_eqb _ 14 r.0.0.1, ne_eqb _ 15 r.0.1, ne_eqb _ 16 r.1) record { reply = c.change_more.ensures.reply; model = c.change_more.ensures.model }
+returns-in_default c =
+    let r = c.in_default.in_default-own.rest in
+    rw (ne_eqb _ 8 r.0.0.0.1, ne_eqb _ 14 r.0.0.1, ne_eqb _ 15 r.0.1, ne_eqb _ 16 r.1) record { reply = c.change_more.ensures.reply; model = c.change_more.ensures.model }

@@ -32,4 +32,6 @@ returns-in-45 c = rw c.in-45.is record { reply = ap number c.raised.ensures.repl
 
 pub returns-in_default : goal.returns-in_default
 unfolding enter_of
-returns-in_default c = let r = c.in_default.in_default-own.rest in rw (ne_eqb _ 40 r.0.0.0.0.0.1, ne_eqb _ 41 r.0.0.0.0.1, ne_eqb _ 42 r.0.0.0.1, ne_eqb _ 43 r.0.0.1, ne_eqb _ 44 r.0.1, ne_eqb _ 45 r.1) record { reply = c.refused.ensures.reply; model = c.refused.ensures.model ∙ settled_same _ _; cycle = c.refused.ensures.cycle ∙ settled_same _ _ }
+returns-in_default c =
+    let r = c.in_default.in_default-own.rest in
+    rw (ne_eqb _ 40 r.0.0.0.0.0.1, ne_eqb _ 41 r.0.0.0.0.1, ne_eqb _ 42 r.0.0.0.1, ne_eqb _ 43 r.0.0.1, ne_eqb _ 44 r.0.1, ne_eqb _ 45 r.1) record { reply = c.refused.ensures.reply; model = c.refused.ensures.model ∙ settled_same _ _; cycle = c.refused.ensures.cycle ∙ settled_same _ _ }

@@ -24,4 +24,6 @@ returns-in-9 c = rw c.in-9.is record { reply = ap number c.changed.ensures.reply
 
 pub returns-in_default : goal.returns-in_default
 unfolding judge_of
-returns-in_default c = let r = c.in_default.in_default-own.rest in rw (ne_eqb _ 5 r.0.0.0.1, ne_eqb _ 6 r.0.0.1, ne_eqb _ 7 r.0.1, ne_eqb _ 9 r.1) record { reply = c.refused.ensures.reply; model = c.refused.ensures.model ∙ settled_same _ _; yes = c.refused.ensures.yes ∙ settled_same _ _ }
+returns-in_default c =
+    let r = c.in_default.in_default-own.rest in
+    rw (ne_eqb _ 5 r.0.0.0.1, ne_eqb _ 6 r.0.0.1, ne_eqb _ 7 r.0.1, ne_eqb _ 9 r.1) record { reply = c.refused.ensures.reply; model = c.refused.ensures.model ∙ settled_same _ _; yes = c.refused.ensures.yes ∙ settled_same _ _ }

@@ -2,4 +2,4 @@
 use Rattle.calls.proofs.unknown.unknown.Goals as goal
 
 pub returns : goal.returns
-returns c = c.given.ensures.result_value
+returns c = c.given.ensures.reply

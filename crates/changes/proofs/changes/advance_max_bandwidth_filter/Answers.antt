@@ -5,4 +5,8 @@ use Rattle.state.proofs.Settling.{settled_as}
 use Rattle.changes.proofs.changes.advance_max_bandwidth_filter.Goals as goal
 
 pub returns : goal.returns
-returns c = record { reply = ap number c.settle.ensures.reply ∙ c.stored.ensures; model = c.settle.ensures.model ∙ settled_as _ _ _ _ _ c.stored.ensures c.advance_next.ensures }
+returns c =
+    record {
+      reply = ap number c.settle.ensures.reply ∙ c.stored.ensures;
+      model = c.settle.ensures.model ∙ settled_as _ _ _ _ _ c.stored.ensures c.advance_next.ensures;
+    }

@@ -8,4 +8,6 @@ pub sent_tested-sent-requires : goal.sent_tested-sent-requires
 sent_tested-sent-requires c = c.ok-fine.ensures
 
 pub returns : goal.returns
-returns c = let reply = c.sent_reply-reply.ensures in record { reply = reply.result_value; model = c.sent_tested-sent.ensures.model; fault = reply.result_value_2 }
+returns c =
+    let reply = c.sent_reply-reply.ensures in
+    record { reply = reply.reply; model = c.sent_tested-sent.ensures.model; fault = reply.fault }

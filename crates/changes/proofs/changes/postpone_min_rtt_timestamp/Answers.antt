@@ -5,4 +5,11 @@ use Rattle.state.proofs.Settling.{settled_as}
 use Rattle.changes.proofs.changes.postpone_min_rtt_timestamp.Goals as goal
 
 pub returns : goal.returns
-returns c = let reply = c.postpone_reply.ensures in let settle = c.settle.ensures in record { reply = ap number settle.reply ∙ reply.result_value; model = settle.model ∙ settled_as _ _ _ _ _ reply.result_value c.postpone_next.ensures; fault = ap fault settle.reply ∙ reply.result_value_2 }
+returns c =
+    let reply = c.postpone_reply.ensures in
+    let settle = c.settle.ensures in
+    record {
+      reply = ap number settle.reply ∙ reply.reply;
+      model = settle.model ∙ settled_as _ _ _ _ _ reply.reply c.postpone_next.ensures;
+      fault = ap fault settle.reply ∙ reply.fault;
+    }

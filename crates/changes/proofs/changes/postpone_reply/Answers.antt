@@ -8,6 +8,8 @@ use Rattle.changes.proofs.changes.postpone_reply.Goals as goal
 
 pub returns : goal.returns
 unfolding postpone_number
-returns c = let moment = c.postponed-moment.ensures in let it = asked c.given.result _ _ _ _ (c.given.ensures.result_value, c.given.ensures.result_value_2)
+returns c =
+    let moment = c.postponed-moment.ensures in
+    let it = asked c.given.result _ _ _ _ (c.given.ensures.reply, c.given.ensures.fault)
     (simp (c.length_ok.ensures, c.moment_ok.ensures) (simp moment))
-    (c.postpone_fault.ensures ∙ ap (λ (t : Moment). first (postpone_faults c.args.length t)) moment) in record { result_value = it.0; result_value_2 = it.1 }
+    (c.postpone_fault.ensures ∙ ap (λ (t : Moment). first (postpone_faults c.args.length t)) moment) in record { reply = it.0; fault = it.1 }

@@ -15,7 +15,16 @@ sent_row-row-requires c = c.requires
 
 pub returns-then-row-eq0 : goal.returns-then-row-eq0
 unfolding sent_next with_moment with_rounds with_round with_begun
-returns-then-row-eq0 c = let a = c.args in let row = c.sent_row-row.ensures in let next = ap₂ (λ (x : Round) (y : RoundTripCounter). with_begun (with_moment (with_rounds (with_round a.model x) y) a.now) true) (c.sent-next.ensures ∙ ap (λ (t : Bool). round_sent a.model.round a.inflight t) c.reaches.ensures) c.on_packet_sent-next.ensures in record { row = row; model = done_as _ _ true _ _ _ row (sym (eq-eqb _ 0 c.if-row-eq0.true)) refl next }
+returns-then-row-eq0 c =
+    let a = c.args in
+    let row = c.sent_row-row.ensures in
+    let next = ap₂ (λ (x : Round) (y : RoundTripCounter). with_begun (with_moment (with_rounds (with_round a.model x) y) a.now) true) (c.sent-next.ensures ∙ ap (λ (t : Bool). round_sent a.model.round a.inflight t) c.reaches.ensures) c.on_packet_sent-next.ensures in
+    record { row = row; model = done_as _ _ true _ _ _ row (sym (eq-eqb _ 0 c.if-row-eq0.true)) refl next }
 
 pub returns-else-row-eq0 : goal.returns-else-row-eq0
-returns-else-row-eq0 c = let row = c.sent_row-row.ensures in record { row = row; model = refused_as _ _ false _ _ _ row (sym (ne_eqb _ 0 c.if-row-eq0.false)) refl refl }
+returns-else-row-eq0 c =
+    let row = c.sent_row-row.ensures in
+    record {
+      row = row;
+      model = refused_as _ _ false _ _ _ row (sym (ne_eqb _ 0 c.if-row-eq0.false)) refl refl;
+    }

@@ -14,4 +14,11 @@ finish_tested-finished-requires c = c.requires.2
 
 pub returns : goal.returns
 unfolding call_word
-returns c = let args = c.args in let finished = rw (c.event_from.ensures, c.call_at-words.ensures) at c.finish_tested-finished.ensures in let word = c.reply_word-word.ensures ∙ ap (λ (n : ℕ). replied n (first (faults_of (call_at args.calls.now args.lists.now args.at) args.model.minrtt.timestamp))) finished.row in record { value = finished.model; answers_after = c.put_answer.ensures ∙ ap₂ (λ (n : ℕ) (event : List ℕ). sets args.answers.now args.to (all_bytes (n ∷ 0 ∷ event))) word c.no_event.ensures }
+returns c =
+    let args = c.args in
+    let finished = rw (c.event_from.ensures, c.call_at-words.ensures) at c.finish_tested-finished.ensures in
+    let word = c.reply_word-word.ensures ∙ ap (λ (n : ℕ). replied n (first (faults_of (call_at args.calls.now args.lists.now args.at) args.model.minrtt.timestamp))) finished.row in
+    record {
+      value = finished.model;
+      answers_after = c.put_answer.ensures ∙ ap₂ (λ (n : ℕ) (event : List ℕ). sets args.answers.now args.to (all_bytes (n ∷ 0 ∷ event))) word c.no_event.ensures;
+    }

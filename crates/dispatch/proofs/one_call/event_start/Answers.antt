@@ -24,4 +24,17 @@ put_answer-requires c = (c.requires.1, search rules)
 
 pub returns : goal.returns
 unfolding call_word
-returns c = let args = c.args in let words = c.call_at-words.ensures in let long = length_words_at args.calls.now args.at 49 in let most = rw words at c.greatest_acked.ensures in let event = rw (c.sample_from.ensures, c.event_from.ensures, c.params_from.ensures, words) at c.start_tested-happened.ensures in let number = event.row ∙ started_number _ args.lists.now long args.model most in let record' = (rw words at c.event_left.ensures) ∙ left_by_lem _ _ _ _ _ _ event.row event.event in let after = started_words _ args.lists.now long args.model most record' in let word = c.reply_word-word.ensures ∙ ap (λ (n : ℕ). replied n (first (faults_of (call_at args.calls.now args.lists.now args.at) args.model.minrtt.timestamp))) number in record { value = started_leaves _ args.lists.now long args.model most event.model; answers_after = c.put_answer.ensures ∙ ap₂ (λ (n : ℕ) (record' : List ℕ). sets args.answers.now args.to (all_bytes (n ∷ 0 ∷ record'))) word after }
+returns c =
+    let args = c.args in
+    let words = c.call_at-words.ensures in
+    let long = length_words_at args.calls.now args.at 49 in
+    let most = rw words at c.greatest_acked.ensures in
+    let event = rw (c.sample_from.ensures, c.event_from.ensures, c.params_from.ensures, words) at c.start_tested-happened.ensures in
+    let number = event.row ∙ started_number _ args.lists.now long args.model most in
+    let record' = (rw words at c.event_left.ensures) ∙ left_by_lem _ _ _ _ _ _ event.row event.event in
+    let after = started_words _ args.lists.now long args.model most record' in
+    let word = c.reply_word-word.ensures ∙ ap (λ (n : ℕ). replied n (first (faults_of (call_at args.calls.now args.lists.now args.at) args.model.minrtt.timestamp))) number in
+    record {
+      value = started_leaves _ args.lists.now long args.model most event.model;
+      answers_after = c.put_answer.ensures ∙ ap₂ (λ (n : ℕ) (record' : List ℕ). sets args.answers.now args.to (all_bytes (n ∷ 0 ∷ record'))) word after;
+    }

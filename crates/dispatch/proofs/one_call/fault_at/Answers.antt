@@ -10,7 +10,11 @@ use Rattle.places.specs.Places.{faults_of}
 use Rattle.dispatch.proofs.one_call.fault_at.Goals as goal
 
 pub fault_of-requires : goal.fault_of-requires
-fault_of-requires c = let a = c.args in ap length c.call_at-words.ensures ∙ length_words_at a.calls.now a.at 49
+fault_of-requires c =
+    let a = c.args in
+    ap length c.call_at-words.ensures ∙ length_words_at a.calls.now a.at 49
 
 pub returns : goal.returns
-returns c = let a = c.args in c.fault_word.ensures ∙ ap (λ (f : ℕ). reply_word 2 f) (c.fault_of.ensures ∙ ap (λ (words : List ℕ). first (faults_of (words ++ a.lists.now) a.least)) c.call_at-words.ensures)
+returns c =
+    let a = c.args in
+    c.fault_word.ensures ∙ ap (λ (f : ℕ). reply_word 2 f) (c.fault_of.ensures ∙ ap (λ (words : List ℕ). first (faults_of (words ++ a.lists.now) a.least)) c.call_at-words.ensures)

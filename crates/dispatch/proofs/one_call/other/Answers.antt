@@ -16,4 +16,11 @@ put_answer-requires c = let args = c.args in
 
 pub returns : goal.returns
 unfolding call_word answer_words
-returns c = let args = c.args in let outcome = rw c.call_at-words.ensures at c.carry_out-outcome.ensures in let word = c.other_word-word.ensures in record { value = outcome; answers_after = c.put_answer.ensures ∙ ap (λ (n : ℕ). sets args.answers.now args.to (all_bytes (n ∷ c.carry_out-outcome.result.value ∷ c.carry_out-outcome.result.event))) word ∙ ap (λ (t : Outcome). sets args.answers.now args.to (all_bytes (answer_words (call_at args.calls.now args.lists.now args.at) args.model t))) outcome }
+returns c =
+    let args = c.args in
+    let outcome = rw c.call_at-words.ensures at c.carry_out-outcome.ensures in
+    let word = c.other_word-word.ensures in
+    record {
+      value = outcome;
+      answers_after = c.put_answer.ensures ∙ ap (λ (n : ℕ). sets args.answers.now args.to (all_bytes (n ∷ c.carry_out-outcome.result.value ∷ c.carry_out-outcome.result.event))) word ∙ ap (λ (t : Outcome). sets args.answers.now args.to (all_bytes (answer_words (call_at args.calls.now args.lists.now args.at) args.model t))) outcome;
+    }

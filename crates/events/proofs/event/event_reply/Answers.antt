@@ -11,4 +11,6 @@ event_rows-rows-requires c = c.requires
 
 pub returns : goal.returns
 unfolding event_number
-returns c = let it = asked c.refusal.result _ _ _ _ (c.refusal.ensures.result_value, c.refusal.ensures.result_value_2) (ap (λ (r : Rows). first_of r) c.event_rows-rows.ensures) c.started_fault.ensures in record { result_value = it.0; result_value_2 = it.1 }
+returns c =
+    let it = asked c.refusal.result _ _ _ _ (c.refusal.ensures.reply, c.refusal.ensures.fault) (ap (λ (r : Rows). first_of r) c.event_rows-rows.ensures) c.started_fault.ensures in
+    record { reply = it.0; fault = it.1 }

@@ -30,8 +30,20 @@ finish_row-row-requires c = c.requires
 
 pub returns-then-row-event : goal.returns-then-row-event
 unfolding finish_next with_round
-returns-then-row-event c = let args = c.args in let row = c.finish_row-row.ensures in record { row = row; model = rw (← row, ← c.new-next.ensures) (cleared _ _ _ _ args.model refl c.if-row-event.true) }
+returns-then-row-event c =
+    let args = c.args in
+    let row = c.finish_row-row.ensures in
+    record {
+      row = row;
+      model = rw (← row, ← c.new-next.ensures) (cleared _ _ _ _ args.model refl c.if-row-event.true);
+    }
 
 pub returns-else-row-event : goal.returns-else-row-event
 unfolding finish_next
-returns-else-row-event c = let args = c.args in let row = c.finish_row-row.ensures in record { row = row; model = rw (← row) (kept _ _ args.event.ended _ args.model refl c.if-row-event.false) }
+returns-else-row-event c =
+    let args = c.args in
+    let row = c.finish_row-row.ensures in
+    record {
+      row = row;
+      model = rw (← row) (kept _ _ args.event.ended _ args.model refl c.if-row-event.false);
+    }

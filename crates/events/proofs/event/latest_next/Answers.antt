@@ -5,4 +5,6 @@ use Rattle.events.specs.Event.{latest_after}
 use Rattle.events.proofs.event.latest_next.Goals as goal
 
 pub returns : goal.returns
-returns c = let a = c.args in c.latest_after.ensures ∙ ap (λ (l : Latest). latest_after l a.after.ended a.sample) c.latest_raised.ensures
+returns c =
+    let a = c.args in
+    c.latest_after.ensures ∙ ap (λ (l : Latest). latest_after l a.after.ended a.sample) c.latest_raised.ensures

@@ -6,4 +6,6 @@ use Rattle.events.proofs.event.maxbw_next.Goals as goal
 
 pub returns : goal.returns
 unfolding maxbw_next
-returns c = let a = c.args in c.maxbw_after.ensures ∙ ap (λ (t : Bool). maxbw_after a.model.maxbw a.sample.bandwidth t a.sample.applimited) c.is_changed.ensures
+returns c =
+    let a = c.args in
+    c.maxbw_after.ensures ∙ ap (λ (t : Bool). maxbw_after a.model.maxbw a.sample.bandwidth t a.sample.applimited) c.is_changed.ensures

@@ -20,4 +20,6 @@ made m after s counter most least round latest lower limited =
 
 pub returns : goal.returns
 unfolding model_after
-returns c = let a = c.args in ap6 (made a.model a.after a.sample a.counter) c.maxbw_next-most.ensures c.minrtt_next-least.ensures c.round_next-round.ensures c.latest_next-latest.ensures (c.adapt_lower_bounds-lower.ensures ∙ ap₂ (λ (x : MaxBandwidthFilter) (y : Round). adapt_lower_bounds a.model a.params a.after a.sample x y.lost) c.maxbw_next-most.ensures c.round_next-round.ensures) c.cwndlimited_after-limited.ensures
+returns c =
+    let a = c.args in
+    ap6 (made a.model a.after a.sample a.counter) c.maxbw_next-most.ensures c.minrtt_next-least.ensures c.round_next-round.ensures c.latest_next-latest.ensures (c.adapt_lower_bounds-lower.ensures ∙ ap₂ (λ (x : MaxBandwidthFilter) (y : Round). adapt_lower_bounds a.model a.params a.after a.sample x y.lost) c.maxbw_next-most.ensures c.round_next-round.ensures) c.cwndlimited_after-limited.ensures

@@ -8,4 +8,6 @@ pub finish_tested-finished-requires : goal.finish_tested-finished-requires
 finish_tested-finished-requires c = c.ok-fine.ensures
 
 pub returns : goal.returns
-returns c = let reply = c.finish_reply-reply.ensures in record { reply = reply.result_value; model = c.finish_tested-finished.ensures.model; fault = reply.result_value_2 }
+returns c =
+    let reply = c.finish_reply-reply.ensures in
+    record { reply = reply.reply; model = c.finish_tested-finished.ensures.model; fault = reply.fault }

@@ -17,4 +17,15 @@ pub start_tested-happened-requires : goal.start_tested-happened-requires
 start_tested-happened-requires c = c.ok-fine.ensures
 
 pub returns : goal.returns
-returns c = let a = c.args in let does = same _ a.acked.now (alone a.acked.now c.greatest_of-most.ensures) in let did = c.start_tested-happened.ensures in let reply = c.event_reply-reply.ensures in let number = does.reply a.model a.params a.event a.sample in record { reply = reply.result_value ∙ number; model = did.model ∙ ap₂ (λ (n : ℕ) (m : NetworkModel). settled n m a.model) number (does.model a.model a.params a.event a.sample); event = did.event ∙ ap₂ (λ (n : ℕ) (e : CongestionEvent). settled n e a.event) number (does.event a.model a.event a.sample); fault = reply.result_value_2 ∙ ap (λ (n : ℕ). named n (first (started_faults true whole_record a.event whole_sample a.sample))) number }
+returns c =
+    let a = c.args in
+    let does = same _ a.acked.now (alone a.acked.now c.greatest_of-most.ensures) in
+    let did = c.start_tested-happened.ensures in
+    let reply = c.event_reply-reply.ensures in
+    let number = does.reply a.model a.params a.event a.sample in
+    record {
+      reply = reply.reply ∙ number;
+      model = did.model ∙ ap₂ (λ (n : ℕ) (m : NetworkModel). settled n m a.model) number (does.model a.model a.params a.event a.sample);
+      event = did.event ∙ ap₂ (λ (n : ℕ) (e : CongestionEvent). settled n e a.event) number (does.event a.model a.event a.sample);
+      fault = reply.fault ∙ ap (λ (n : ℕ). named n (first (started_faults true whole_record a.event whole_sample a.sample))) number;
+    }

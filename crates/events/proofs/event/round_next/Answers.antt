@@ -6,4 +6,6 @@ use Rattle.events.proofs.event.round_next.Goals as goal
 
 pub returns : goal.returns
 unfolding round_next
-returns c = let a = c.args in c.round_after.ensures ∙ ap (λ (n : ℕ). round_after a.model.round a.after.lost n a.after.inflight) c.delivered_by.ensures
+returns c =
+    let a = c.args in
+    c.round_after.ensures ∙ ap (λ (n : ℕ). round_after a.model.round a.after.lost n a.after.inflight) c.delivered_by.ensures

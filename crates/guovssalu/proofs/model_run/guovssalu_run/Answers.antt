@@ -9,4 +9,6 @@ pub guovssalu_run_lists-requires : goal.guovssalu_run_lists-requires
 guovssalu_run_lists-requires c = tt
 
 pub returns : goal.returns
-returns c = let did = c.guovssalu_run_lists.ensures in record { value = did.value; state_after = did.state_after; answers_after = did.answers_after }
+returns c =
+    let did = c.guovssalu_run_lists.ensures in
+    record { value = did.value; state_after = did.state_after; answers_after = did.answers_after }

@@ -18,20 +18,54 @@ use Rattle.guovssalu.proofs.model_run.guovssalu_run_lists.Goals as goal
 
 pub returns-then-not-is_done : goal.returns-then-not-is_done
 unfolding state_out answers_out model_reply
-returns-then-not-is_done c = let args = c.args in let state = args.state.now in let calls = args.calls.now in let lists = args.lists.now in let test = c.is_done.ensures in let row = c.word.ensures in let stopped = (ap not c.if-not-is_done.true) in let kept = refused (c.model_reply-reply.ensures.result_value, c.model_reply-reply.ensures.result_value_2) test (words_left state calls lists) state row stopped in record { value = kept.0; state_after = kept.1; answers_after = (refused (c.model_reply-reply.ensures.result_value, c.model_reply-reply.ensures.result_value_2) test (answers_from state calls lists) args.answers.now row stopped).1 }
+returns-then-not-is_done c =
+    let args = c.args in
+    let state = args.state.now in
+    let calls = args.calls.now in
+    let lists = args.lists.now in
+    let test = c.is_done.ensures in
+    let row = c.word.ensures in
+    let stopped = (ap not c.if-not-is_done.true) in
+    let kept = refused (c.model_reply-reply.ensures.reply, c.model_reply-reply.ensures.fault) test (words_left state calls lists) state row stopped in
+    record {
+      value = kept.0;
+      state_after = kept.1;
+      answers_after = (refused (c.model_reply-reply.ensures.reply, c.model_reply-reply.ensures.fault) test (answers_from state calls lists) args.answers.now row stopped).1;
+    }
 
 pub state_in-words-requires : goal.state_in-words-requires
-state_in-words-requires c = run_whole _ _ _ (done_row (c.model_reply-reply.ensures.result_value, c.model_reply-reply.ensures.result_value_2) c.is_done.ensures (ap not c.if-not-is_done.false))
+state_in-words-requires c = run_whole _ _ _ (done_row (c.model_reply-reply.ensures.reply, c.model_reply-reply.ensures.fault) c.is_done.ensures (ap not c.if-not-is_done.false))
 
 pub run_calls-left-requires : goal.run_calls-left-requires
-run_calls-left-requires c = run_room _ _ _ (done_row (c.model_reply-reply.ensures.result_value, c.model_reply-reply.ensures.result_value_2) c.is_done.ensures (ap not c.if-not-is_done.false))
+run_calls-left-requires c = run_room _ _ _ (done_row (c.model_reply-reply.ensures.reply, c.model_reply-reply.ensures.fault) c.is_done.ensures (ap not c.if-not-is_done.false))
 
 pub put_words-requires : goal.put_words-requires
 put_words-requires c = let args = c.args in
-    let done = done_row (c.model_reply-reply.ensures.result_value, c.model_reply-reply.ensures.result_value_2) c.is_done.ensures (ap not c.if-not-is_done.false) in
+    let done = done_row (c.model_reply-reply.ensures.reply, c.model_reply-reply.ensures.fault) c.is_done.ensures (ap not c.if-not-is_done.false) in
     let left = ap length c.run_calls-left.ensures.value ∙ length_left _ _ args.calls.now args.lists.now 0 _ in
     omega (arith, left, run_whole _ _ _ done)
 
 pub returns : goal.returns
 unfolding state_out answers_out model_reply answers_from words_left
-returns c = let args = c.args in let state = args.state.now in let calls = args.calls.now in let lists = args.lists.now in let out = args.answers.now in let test = c.is_done.ensures in let row = c.word-2.ensures in let went_on = (ap not c.if-not-is_done.false) in let words = c.state_in-words.ensures in let model = c.model_from.ensures ∙ ap model_from words in let cycle = c.cycle_from.ensures ∙ ap cycle_from words in let did = c.run_calls-left.ensures in let calls-left = did.value ∙ ap₂ (λ (m : NetworkModel) (y : Cycle). left_by m y calls lists 0 (calls_in calls)) model cycle in let answered = did.answers_after ∙ ap₂ (λ (m : NetworkModel) (y : Cycle). sets out 0 (all_bytes (answers_to m y calls lists 0 (calls_in calls)))) model cycle in let stored = c.put_words.ensures ∙ ap (λ (words : List ℕ). sets state 0 (all_bytes words)) calls-left in let left = written (c.model_reply-reply.ensures.result_value, c.model_reply-reply.ensures.result_value_2) test (words_left state calls lists) state row went_on stored in record { value = left.0; state_after = left.1; answers_after = (written (c.model_reply-reply.ensures.result_value, c.model_reply-reply.ensures.result_value_2) test (answers_from state calls lists) out row went_on answered).1 }
+returns c =
+    let args = c.args in
+    let state = args.state.now in
+    let calls = args.calls.now in
+    let lists = args.lists.now in
+    let out = args.answers.now in
+    let test = c.is_done.ensures in
+    let row = c.word-2.ensures in
+    let went_on = (ap not c.if-not-is_done.false) in
+    let words = c.state_in-words.ensures in
+    let model = c.model_from.ensures ∙ ap model_from words in
+    let cycle = c.cycle_from.ensures ∙ ap cycle_from words in
+    let did = c.run_calls-left.ensures in
+    let calls-left = did.value ∙ ap₂ (λ (m : NetworkModel) (y : Cycle). left_by m y calls lists 0 (calls_in calls)) model cycle in
+    let answered = did.answers_after ∙ ap₂ (λ (m : NetworkModel) (y : Cycle). sets out 0 (all_bytes (answers_to m y calls lists 0 (calls_in calls)))) model cycle in
+    let stored = c.put_words.ensures ∙ ap (λ (words : List ℕ). sets state 0 (all_bytes words)) calls-left in
+    let left = written (c.model_reply-reply.ensures.reply, c.model_reply-reply.ensures.fault) test (words_left state calls lists) state row went_on stored in
+    record {
+      value = left.0;
+      state_after = left.1;
+      answers_after = (written (c.model_reply-reply.ensures.reply, c.model_reply-reply.ensures.fault) test (answers_from state calls lists) out row went_on answered).1;
+    }

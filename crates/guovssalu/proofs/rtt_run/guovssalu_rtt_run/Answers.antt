@@ -16,19 +16,43 @@ use Rattle.guovssalu.proofs.rtt_run.guovssalu_rtt_run.Goals as goal
 
 pub returns-then-not-is_done : goal.returns-then-not-is_done
 unfolding rtt_state_out rtt_answers_out rtt_reply
-returns-then-not-is_done c = let state = c.args.state.now in let calls = c.args.calls.now in let test = c.is_done.ensures in let kept = refused (c.run_reply-reply.ensures.result_value, c.run_reply-reply.ensures.result_value_2) test (rtt_left state calls) state c.word.ensures (ap not c.if-not-is_done.true) in record { value = kept.0; state_after = kept.1; answers_after = (refused (c.run_reply-reply.ensures.result_value, c.run_reply-reply.ensures.result_value_2) test (rtt_answers state calls) c.args.answers.now c.word.ensures (ap not c.if-not-is_done.true)).1 }
+returns-then-not-is_done c =
+    let state = c.args.state.now in
+    let calls = c.args.calls.now in
+    let test = c.is_done.ensures in
+    let kept = refused (c.run_reply-reply.ensures.reply, c.run_reply-reply.ensures.fault) test (rtt_left state calls) state c.word.ensures (ap not c.if-not-is_done.true) in
+    record {
+      value = kept.0;
+      state_after = kept.1;
+      answers_after = (refused (c.run_reply-reply.ensures.reply, c.run_reply-reply.ensures.fault) test (rtt_answers state calls) c.args.answers.now c.word.ensures (ap not c.if-not-is_done.true)).1;
+    }
 
 pub stats_in-requires : goal.stats_in-requires
-stats_in-requires c = run_whole _ _ _ (done_row (c.run_reply-reply.ensures.result_value, c.run_reply-reply.ensures.result_value_2) c.is_done.ensures (ap not c.if-not-is_done.false))
+stats_in-requires c = run_whole _ _ _ (done_row (c.run_reply-reply.ensures.reply, c.run_reply-reply.ensures.fault) c.is_done.ensures (ap not c.if-not-is_done.false))
 
 pub run_calls-left-requires : goal.run_calls-left-requires
-run_calls-left-requires c = run_room _ _ _ (done_row (c.run_reply-reply.ensures.result_value, c.run_reply-reply.ensures.result_value_2) c.is_done.ensures (ap not c.if-not-is_done.false))
+run_calls-left-requires c = run_room _ _ _ (done_row (c.run_reply-reply.ensures.reply, c.run_reply-reply.ensures.fault) c.is_done.ensures (ap not c.if-not-is_done.false))
 
 pub put_words-requires : goal.put_words-requires
 unfolding stats_words
 put_words-requires c = let six = ap length c.stats_words.ensures in
-    omega (arith, six, run_whole _ _ _ (done_row (c.run_reply-reply.ensures.result_value, c.run_reply-reply.ensures.result_value_2) c.is_done.ensures (ap not c.if-not-is_done.false)))
+    omega (arith, six, run_whole _ _ _ (done_row (c.run_reply-reply.ensures.reply, c.run_reply-reply.ensures.fault) c.is_done.ensures (ap not c.if-not-is_done.false)))
 
 pub returns : goal.returns
 unfolding rtt_state_out rtt_answers_out rtt_reply rtt_answers rtt_left
-returns c = let state = c.args.state.now in let calls = c.args.calls.now in let out = c.args.answers.now in let test = c.is_done.ensures in let begun = c.stats_in.ensures in let did = c.run_calls-left.ensures in let went = c.stats_words.ensures ∙ ap stats_words (did.value ∙ ap (λ (s : RttStats). left_by s calls 0 (calls_in calls)) begun) in let stored = c.put_words.ensures ∙ ap (λ (words : List ℕ). sets state 0 (all_bytes words)) went in let answered = did.answers_after ∙ ap (λ (s : RttStats). sets out 0 (all_bytes (answers_to s calls 0 (calls_in calls)))) begun in let left = written (c.run_reply-reply.ensures.result_value, c.run_reply-reply.ensures.result_value_2) test (rtt_left state calls) state c.word-2.ensures (ap not c.if-not-is_done.false) stored in record { value = left.0; state_after = left.1; answers_after = (written (c.run_reply-reply.ensures.result_value, c.run_reply-reply.ensures.result_value_2) test (rtt_answers state calls) out c.word-2.ensures (ap not c.if-not-is_done.false) answered).1 }
+returns c =
+    let state = c.args.state.now in
+    let calls = c.args.calls.now in
+    let out = c.args.answers.now in
+    let test = c.is_done.ensures in
+    let begun = c.stats_in.ensures in
+    let did = c.run_calls-left.ensures in
+    let went = c.stats_words.ensures ∙ ap stats_words (did.value ∙ ap (λ (s : RttStats). left_by s calls 0 (calls_in calls)) begun) in
+    let stored = c.put_words.ensures ∙ ap (λ (words : List ℕ). sets state 0 (all_bytes words)) went in
+    let answered = did.answers_after ∙ ap (λ (s : RttStats). sets out 0 (all_bytes (answers_to s calls 0 (calls_in calls)))) begun in
+    let left = written (c.run_reply-reply.ensures.reply, c.run_reply-reply.ensures.fault) test (rtt_left state calls) state c.word-2.ensures (ap not c.if-not-is_done.false) stored in
+    record {
+      value = left.0;
+      state_after = left.1;
+      answers_after = (written (c.run_reply-reply.ensures.reply, c.run_reply-reply.ensures.fault) test (rtt_answers state calls) out c.word-2.ensures (ap not c.if-not-is_done.false) answered).1;
+    }

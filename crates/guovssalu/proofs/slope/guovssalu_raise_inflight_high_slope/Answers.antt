@@ -20,15 +20,21 @@ slope-room rounds window room h = ltb-false room 16 (done_room _ (ltb room 16) h
 
 pub returns-then-not-is_done : goal.returns-then-not-is_done
 unfolding slope_out slope_reply
-returns-then-not-is_done c = let args = c.args in let it = refused (c.slope_reply-reply.ensures.result_value, c.slope_reply-reply.ensures.result_value_2) c.is_done.ensures (slope_words args.rounds args.window) args.out.now c.word.ensures (ap not c.if-not-is_done.true) in record { value = it.0; out_after = it.1 }
+returns-then-not-is_done c =
+    let args = c.args in
+    let it = refused (c.slope_reply-reply.ensures.reply, c.slope_reply-reply.ensures.fault) c.is_done.ensures (slope_words args.rounds args.window) args.out.now c.word.ensures (ap not c.if-not-is_done.true) in
+    record { value = it.0; out_after = it.1 }
 
 pub put_words-requires : goal.put_words-requires
 unfolding slope_words
 put_words-requires c = let two : length c.slope_words.result ≡ 2 = ap length c.slope_words.ensures in
-    let room = slope-room _ _ _ (done_row (c.slope_reply-reply.ensures.result_value, c.slope_reply-reply.ensures.result_value_2) c.is_done.ensures (ap not c.if-not-is_done.false)) in
+    let room = slope-room _ _ _ (done_row (c.slope_reply-reply.ensures.reply, c.slope_reply-reply.ensures.fault) c.is_done.ensures (ap not c.if-not-is_done.false)) in
     omega arith
 
 pub returns : goal.returns
 unfolding slope_out slope_reply
-returns c = let args = c.args in let out = args.out.now in let it = written (c.slope_reply-reply.ensures.result_value, c.slope_reply-reply.ensures.result_value_2) c.is_done.ensures (slope_words args.rounds args.window) out c.word-2.ensures (ap not c.if-not-is_done.false)
+returns c =
+    let args = c.args in
+    let out = args.out.now in
+    let it = written (c.slope_reply-reply.ensures.reply, c.slope_reply-reply.ensures.fault) c.is_done.ensures (slope_words args.rounds args.window) out c.word-2.ensures (ap not c.if-not-is_done.false)
     (c.put_words.ensures ∙ ap (λ (words : List ℕ). sets out 0 (all_bytes words)) c.slope_words.ensures) in record { value = it.0; out_after = it.1 }

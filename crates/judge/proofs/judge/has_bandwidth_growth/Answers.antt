@@ -12,11 +12,29 @@ use Rattle.judge.proofs.Room.{growth_room}
 use Rattle.judge.proofs.judge.has_bandwidth_growth.Goals as goal
 
 pub growth_after-after-requires : goal.growth_after-after-requires
-growth_after-after-requires c = let a = c.args in subst (λ (b : Bandwidth). has_grown a.model.growth b a.params ≡ false → counts_flat a.model.growth a.event.state ≡ true → eqb a.model.growth.flat (2 ^ 64 - 1) ≡ false) (sym c.get-best.ensures) (growth_room a.model a.params a.event _ (c.judged_reply-reply.ensures.result_value ∙ ap (judged_number a.model a.params a.event) c.growth_full-full.ensures) (sym c.is_done.ensures ∙ c.if-is_done.true))
+growth_after-after-requires c =
+    let a = c.args in
+    subst (λ (b : Bandwidth). has_grown a.model.growth b a.params ≡ false → counts_flat a.model.growth a.event.state ≡ true → eqb a.model.growth.flat (2 ^ 64 - 1) ≡ false) (sym c.get-best.ensures) (growth_room a.model a.params a.event _ (c.judged_reply-reply.ensures.reply ∙ ap (judged_number a.model a.params a.event) c.growth_full-full.ensures) (sym c.is_done.ensures ∙ c.if-is_done.true))
 
 pub returns-then-is_done : goal.returns-then-is_done
 unfolding growth_next with_growth
-returns-then-is_done c = let a = c.args in let e = asked c.judged_reply-reply.result _ _ _ _ (c.judged_reply-reply.ensures.result_value, c.judged_reply-reply.ensures.result_value_2) (ap (judged_number a.model a.params a.event) c.growth_full-full.ensures) refl in record { reply = e.0; model = done_as _ _ _ _ _ _ e.0 c.is_done.ensures c.if-is_done.true (ap (with_growth a.model) (c.growth_after-after.ensures ∙ ap (λ (b : Bandwidth). growth_after a.model.growth b a.event.state a.params) c.get-best.ensures)); yes = done_as _ _ _ _ _ _ e.0 c.is_done.ensures c.if-is_done.true (c.has_grown-yes.ensures ∙ ap (λ (b : Bandwidth). has_grown a.model.growth b a.params) c.get-best.ensures); fault = e.1 }
+returns-then-is_done c =
+    let a = c.args in
+    let e = asked c.judged_reply-reply.result _ _ _ _ (c.judged_reply-reply.ensures.reply, c.judged_reply-reply.ensures.fault) (ap (judged_number a.model a.params a.event) c.growth_full-full.ensures) refl in
+    record {
+      reply = e.0;
+      model = done_as _ _ _ _ _ _ e.0 c.is_done.ensures c.if-is_done.true (ap (with_growth a.model) (c.growth_after-after.ensures ∙ ap (λ (b : Bandwidth). growth_after a.model.growth b a.event.state a.params) c.get-best.ensures));
+      yes = done_as _ _ _ _ _ _ e.0 c.is_done.ensures c.if-is_done.true (c.has_grown-yes.ensures ∙ ap (λ (b : Bandwidth). has_grown a.model.growth b a.params) c.get-best.ensures);
+      fault = e.1;
+    }
 
 pub returns-else-is_done : goal.returns-else-is_done
-returns-else-is_done c = let a = c.args in let e = asked c.judged_reply-reply.result _ _ _ _ (c.judged_reply-reply.ensures.result_value, c.judged_reply-reply.ensures.result_value_2) (ap (judged_number a.model a.params a.event) c.growth_full-full.ensures) refl in record { reply = e.0; model = refused_as _ _ _ _ _ _ e.0 c.is_done.ensures c.if-is_done.false refl; yes = refused_as _ _ _ _ _ _ e.0 c.is_done.ensures c.if-is_done.false refl; fault = e.1 }
+returns-else-is_done c =
+    let a = c.args in
+    let e = asked c.judged_reply-reply.result _ _ _ _ (c.judged_reply-reply.ensures.reply, c.judged_reply-reply.ensures.fault) (ap (judged_number a.model a.params a.event) c.growth_full-full.ensures) refl in
+    record {
+      reply = e.0;
+      model = refused_as _ _ _ _ _ _ e.0 c.is_done.ensures c.if-is_done.false refl;
+      yes = refused_as _ _ _ _ _ _ e.0 c.is_done.ensures c.if-is_done.false refl;
+      fault = e.1;
+    }

@@ -5,4 +5,11 @@ use Rattle.state.proofs.Settling.{settled_as}
 use Rattle.judge.proofs.judge.is_inflight_too_high.Goals as goal
 
 pub returns : goal.returns
-returns c = let reply = c.judged_reply.ensures in let of = c.of.ensures in record { reply = ap number of.reply ∙ reply.result_value; yes = of.yes ∙ settled_as _ _ _ _ _ reply.result_value c.is_too_high.ensures; fault = ap fault of.reply ∙ reply.result_value_2 }
+returns c =
+    let reply = c.judged_reply.ensures in
+    let of = c.of.ensures in
+    record {
+      reply = ap number of.reply ∙ reply.reply;
+      yes = of.yes ∙ settled_as _ _ _ _ _ reply.reply c.is_too_high.ensures;
+      fault = ap fault of.reply ∙ reply.fault;
+    }

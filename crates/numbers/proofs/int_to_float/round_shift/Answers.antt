@@ -36,7 +36,11 @@ overflow_add-result c = let s = c in
     omega (arith, unit s.args.k s.requires, rest s.args.n s.args.k s.requires, last s.args.n s.args.k, mul-le-mul_left (n / u) (pow_pos s.args.k), pow_pos s.args.k, div-add-mod' n u)
 
 pub returns-then-twice-whole : goal.returns-then-twice-whole
-returns-then-twice-whole c = let s = c in sym (closest_up s.args.n (2 ^ s.args.k) (omega (arith, unit s.args.k s.requires, rest s.args.n s.args.k s.requires, last s.args.n s.args.k)))
+returns-then-twice-whole c =
+    let s = c in
+    sym (closest_up s.args.n (2 ^ s.args.k) (omega (arith, unit s.args.k s.requires, rest s.args.n s.args.k s.requires, last s.args.n s.args.k)))
 
 pub returns-else-twice-whole : goal.returns-else-twice-whole
-returns-else-twice-whole c = let s = c in sym (closest_down s.args.n (2 ^ s.args.k) (omega (arith, unit s.args.k s.requires, rest s.args.n s.args.k s.requires, last s.args.n s.args.k)))
+returns-else-twice-whole c =
+    let s = c in
+    sym (closest_down s.args.n (2 ^ s.args.k) (omega (arith, unit s.args.k s.requires, rest s.args.n s.args.k s.requires, last s.args.n s.args.k)))

@@ -5,4 +5,9 @@ use Rattle.state.proofs.Settling.{settled_as}
 use Rattle.phases.proofs.phases.exit_probe_down.Goals as goal
 
 pub returns : goal.returns
-returns c = record { reply = ap number c.settle.ensures.reply ∙ c.exit_reply.ensures; model = c.settle.ensures.model ∙ settled_as _ _ _ _ _ c.exit_reply.ensures c.exit_model.ensures; cycle = c.settle.ensures.cycle ∙ settled_as _ _ _ _ _ c.exit_reply.ensures c.exit_cycle.ensures }
+returns c =
+    record {
+      reply = ap number c.settle.ensures.reply ∙ c.exit_reply.ensures;
+      model = c.settle.ensures.model ∙ settled_as _ _ _ _ _ c.exit_reply.ensures c.exit_model.ensures;
+      cycle = c.settle.ensures.cycle ∙ settled_as _ _ _ _ _ c.exit_reply.ensures c.exit_cycle.ensures;
+    }

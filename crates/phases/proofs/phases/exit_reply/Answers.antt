@@ -5,4 +5,4 @@ use Rattle.phases.proofs.phases.exit_reply.Goals as goal
 
 pub returns : goal.returns
 unfolding exit_number
-returns c = c.refusal.ensures.result_value ∙ simp (c.ok-2.ensures, c.ok.ensures)
+returns c = c.refusal.ensures.reply ∙ simp (c.ok-2.ensures, c.ok.ensures)

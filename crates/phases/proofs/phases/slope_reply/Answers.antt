@@ -5,4 +5,6 @@ use Rattle.phases.proofs.phases.slope_reply.Goals as goal
 
 pub returns : goal.returns
 unfolding slope_number
-returns c = let it = asked c.refusal.result _ _ _ _ (c.refusal.ensures.result_value, c.refusal.ensures.result_value_2) (simp (c.bytes_ok.ensures, c.ok.ensures)) c.slope_fault.ensures in record { result_value = it.0; result_value_2 = it.1 }
+returns c =
+    let it = asked c.refusal.result _ _ _ _ (c.refusal.ensures.reply, c.refusal.ensures.fault) (simp (c.bytes_ok.ensures, c.ok.ensures)) c.slope_fault.ensures in
+    record { reply = it.0; fault = it.1 }

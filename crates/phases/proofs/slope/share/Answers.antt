@@ -14,4 +14,6 @@ pub returns-then-rounds-lt64 : goal.returns-then-rounds-lt64
 returns-then-rounds-lt64 c = rw (one_shifted c.args.rounds c.if-rounds-lt64.true)
 
 pub returns-else-rounds-lt64 : goal.returns-else-rounds-lt64
-returns-else-rounds-lt64 c = let a = c.args in sym (div-eq_of_lt (omega (arith, Fits-lt-pow c.ranges.window, pow_mono c.if-rounds-lt64.false)))
+returns-else-rounds-lt64 c =
+    let a = c.args in
+    sym (div-eq_of_lt (omega (arith, Fits-lt-pow c.ranges.window, pow_mono c.if-rounds-lt64.false)))

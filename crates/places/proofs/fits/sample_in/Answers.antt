@@ -6,4 +6,6 @@ use Rattle.places.proofs.fits.sample_in.Goals as goal
 
 pub returns : goal.returns
 unfolding sample_in
-returns c = let args = c.args in rw (own args.n.now args.lists.now c.requires 11 refl, c.sample_from-sample.ensures)
+returns c =
+    let args = c.args in
+    rw (own args.n.now args.lists.now c.requires 11 refl, c.sample_from-sample.ensures)

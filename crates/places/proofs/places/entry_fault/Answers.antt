@@ -30,4 +30,6 @@ returns-in-45 c = rw c.in-45.is c.slope_fault.ensures
 
 pub returns-in_default : goal.returns-in_default
 unfolding entry_faults first
-returns-in_default c = let r = c.in_default.in_default-own.rest in rw (ne_eqb _ 40 r.0.0.0.0.0.1, ne_eqb _ 41 r.0.0.0.0.1, ne_eqb _ 42 r.0.0.0.1, ne_eqb _ 43 r.0.0.1, ne_eqb _ 44 r.0.1, ne_eqb _ 45 r.1)
+returns-in_default c =
+    let r = c.in_default.in_default-own.rest in
+    rw (ne_eqb _ 40 r.0.0.0.0.0.1, ne_eqb _ 41 r.0.0.0.0.1, ne_eqb _ 42 r.0.0.0.1, ne_eqb _ 43 r.0.0.1, ne_eqb _ 44 r.0.1, ne_eqb _ 45 r.1)

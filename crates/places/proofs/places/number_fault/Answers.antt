@@ -49,4 +49,6 @@ returns-in-22 c = rw c.in-22.is c.postponed_fault.ensures
 
 pub returns-in_default : goal.returns-in_default
 unfolding number_faults
-returns-in_default c = let r = c.in_default.in_default-own.rest in rw (ne_eqb _ 0 r.0.0.0.0.0.0.0.0.0.1, ne_eqb _ 1 r.0.0.0.0.0.0.0.0.1, ne_eqb _ 9 r.0.0.0.0.0.0.0.1, ne_eqb _ 10 r.0.0.0.0.0.0.1, ne_eqb _ 11 r.0.0.0.0.0.1, ne_eqb _ 15 r.0.0.0.0.1, ne_eqb _ 16 r.0.0.0.1, ne_eqb _ 17 r.0.0.1, ne_eqb _ 18 r.0.1, ne_eqb _ 22 r.1) c.nothing_fault.ensures
+returns-in_default c =
+    let r = c.in_default.in_default-own.rest in
+    rw (ne_eqb _ 0 r.0.0.0.0.0.0.0.0.0.1, ne_eqb _ 1 r.0.0.0.0.0.0.0.0.1, ne_eqb _ 9 r.0.0.0.0.0.0.0.1, ne_eqb _ 10 r.0.0.0.0.0.0.1, ne_eqb _ 11 r.0.0.0.0.0.1, ne_eqb _ 15 r.0.0.0.0.1, ne_eqb _ 16 r.0.0.0.1, ne_eqb _ 17 r.0.0.1, ne_eqb _ 18 r.0.1, ne_eqb _ 22 r.1) c.nothing_fault.ensures

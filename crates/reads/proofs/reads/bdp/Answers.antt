@@ -8,4 +8,12 @@ use Rattle.state.proofs.Settling.{settled_as}
 use Rattle.reads.proofs.reads.bdp.Goals as goal
 
 pub returns : goal.returns
-returns c = let given = c.given in let reply = asked given.result _ _ _ _ (given.ensures.result_value, given.ensures.result_value_2) (ap (given_number _) (ap₂ ◌&&◌ c.bandwidth_ok.ensures c.gain_ok.ensures)) c.bdp_fault-blamed.ensures in let of = c.of.ensures in record { reply = ap number of.reply ∙ reply.0; value = of.value ∙ settled_as _ _ _ _ _ reply.0 c.bdp_of.ensures; fault = ap fault of.reply ∙ reply.1 }
+returns c =
+    let given = c.given in
+    let reply = asked given.result _ _ _ _ (given.ensures.reply, given.ensures.fault) (ap (given_number _) (ap₂ ◌&&◌ c.bandwidth_ok.ensures c.gain_ok.ensures)) c.bdp_fault-blamed.ensures in
+    let of = c.of.ensures in
+    record {
+      reply = ap number of.reply ∙ reply.0;
+      value = of.value ∙ settled_as _ _ _ _ _ reply.0 c.bdp_of.ensures;
+      fault = ap fault of.reply ∙ reply.1;
+    }

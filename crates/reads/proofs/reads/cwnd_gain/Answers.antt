@@ -5,4 +5,8 @@ use Rattle.state.proofs.Settling.{settled_as}
 use Rattle.reads.proofs.reads.cwnd_gain.Goals as goal
 
 pub returns : goal.returns
-returns c = record { reply = ap number c.of.ensures.reply ∙ c.stored.ensures; gain = c.of.ensures.gain ∙ settled_as _ _ _ _ _ c.stored.ensures refl }
+returns c =
+    record {
+      reply = ap number c.of.ensures.reply ∙ c.stored.ensures;
+      gain = c.of.ensures.gain ∙ settled_as _ _ _ _ _ c.stored.ensures refl;
+    }

@@ -8,4 +8,8 @@ use Rattle.reads.proofs.reads.inflight_hi_with_headroom.Goals as goal
 
 pub returns : goal.returns
 unfolding headroom_of
-returns c = record { reply = ap number c.of.ensures.reply ∙ c.stored_with.ensures; value = c.of.ensures.value ∙ settled_as _ _ _ _ _ c.stored_with.ensures (c.less.ensures ∙ ap (λ (n : ℕ). c.args.model.high - n) c.scale.ensures) }
+returns c =
+    record {
+      reply = ap number c.of.ensures.reply ∙ c.stored_with.ensures;
+      value = c.of.ensures.value ∙ settled_as _ _ _ _ _ c.stored_with.ensures (c.less.ensures ∙ ap (λ (n : ℕ). c.args.model.high - n) c.scale.ensures);
+    }

@@ -5,4 +5,8 @@ use Rattle.state.proofs.Settling.{settled_as}
 use Rattle.reads.proofs.reads.max_bandwidth.Goals as goal
 
 pub returns : goal.returns
-returns c = record { reply = ap number c.of.ensures.reply ∙ c.stored.ensures; bandwidth = c.of.ensures.bandwidth ∙ settled_as _ _ _ _ _ c.stored.ensures c.get.ensures }
+returns c =
+    record {
+      reply = ap number c.of.ensures.reply ∙ c.stored.ensures;
+      bandwidth = c.of.ensures.bandwidth ∙ settled_as _ _ _ _ _ c.stored.ensures c.get.ensures;
+    }

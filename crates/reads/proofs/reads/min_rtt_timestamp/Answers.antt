@@ -5,4 +5,8 @@ use Rattle.state.proofs.Settling.{settled_as}
 use Rattle.reads.proofs.reads.min_rtt_timestamp.Goals as goal
 
 pub returns : goal.returns
-returns c = record { reply = ap number c.of.ensures.reply ∙ c.stored.ensures; moment = c.of.ensures.moment ∙ settled_as _ _ _ _ _ c.stored.ensures refl }
+returns c =
+    record {
+      reply = ap number c.of.ensures.reply ∙ c.stored.ensures;
+      moment = c.of.ensures.moment ∙ settled_as _ _ _ _ _ c.stored.ensures refl;
+    }

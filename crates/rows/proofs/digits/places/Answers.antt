@@ -25,8 +25,12 @@ pub loop-k-preserved : goal.loop-k-preserved
 loop-k-preserved c = (omega arith, omega (arith, ten_more c.loop-k.k), c.loop-k.invariant.2 ∙ places_next c.loop-k.k c.loop-k.limit c.args.n (omega arith) c.if-n-limit.false)
 
 pub returns-then-n-limit-2 : goal.returns-then-n-limit-2
-returns-then-n-limit-2 c = let q : c.loop-k.k ≡ 19 = omega arith in sym (c.loop-k.invariant.2 ∙ places_here c.loop-k.k c.loop-k.limit c.args.n (omega arith) c.if-n-limit-2.true ∙ q)
+returns-then-n-limit-2 c =
+    let q : c.loop-k.k ≡ 19 = omega arith in
+    sym (c.loop-k.invariant.2 ∙ places_here c.loop-k.k c.loop-k.limit c.args.n (omega arith) c.if-n-limit-2.true ∙ q)
 
 pub returns-else-n-limit-2 : goal.returns-else-n-limit-2
 unfolding places_from
-returns-else-n-limit-2 c = let q : c.loop-k.k ≡ 19 = omega arith in sym (c.loop-k.invariant.2 ∙ places_next c.loop-k.k c.loop-k.limit c.args.n (omega arith) c.if-n-limit-2.false ∙ rw q)
+returns-else-n-limit-2 c =
+    let q : c.loop-k.k ≡ 19 = omega arith in
+    sym (c.loop-k.invariant.2 ∙ places_next c.loop-k.k c.loop-k.limit c.args.n (omega arith) c.if-n-limit-2.false ∙ rw q)

@@ -10,8 +10,14 @@ use Rattle.state.proofs.refusals.or_short.Goals as goal
 
 pub returns-then-is_done-short : goal.returns-then-is_done-short
 unfolding or_short
-returns-then-is_done-short c = let a = c.args in record { result_value = rw (← c.is_done.ensures, c.if-is_done-short.true); result_value_2 = sym (faultless a.reply 0 (eqb-true (number a.reply) 0 (and_left (eqb (number a.reply) 0) a.short (rw c.is_done.ensures at c.if-is_done-short.true))) refl) }
+returns-then-is_done-short c =
+    let a = c.args in
+    record {
+      reply = rw (← c.is_done.ensures, c.if-is_done-short.true);
+      fault = sym (faultless a.reply 0 (eqb-true (number a.reply) 0 (and_left (eqb (number a.reply) 0) a.short (rw c.is_done.ensures at c.if-is_done-short.true))) refl);
+    }
 
 pub returns-else-is_done-short : goal.returns-else-is_done-short
 unfolding or_short
-returns-else-is_done-short c = record { result_value = rw (← c.is_done.ensures, c.if-is_done-short.false); result_value_2 = refl }
+returns-else-is_done-short c =
+    record { reply = rw (← c.is_done.ensures, c.if-is_done-short.false); fault = refl }

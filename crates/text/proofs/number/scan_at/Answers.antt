@@ -20,7 +20,9 @@ pub loop-i-smaller : goal.loop-i-smaller
 loop-i-smaller c = omega arith
 
 pub loop-i-preserved : goal.loop-i-preserved
-loop-i-preserved c = let l = c in (omega arith, scan_end c.args.s.now c.args.at l.loop-i.i l.loop-i.invariant.1 c.loop-i-test.true c.if-b-eq44.false, scan_number c.args.s.now c.args.at l.loop-i.i l.loop-i.n c.push-n.result l.loop-i.invariant.2 c.loop-i-test.true c.if-b-eq44.false c.push-n.ensures)
+loop-i-preserved c =
+    let l = c in
+    (omega arith, scan_end c.args.s.now c.args.at l.loop-i.i l.loop-i.invariant.1 c.loop-i-test.true c.if-b-eq44.false, scan_number c.args.s.now c.args.at l.loop-i.i l.loop-i.n c.push-n.result l.loop-i.invariant.2 c.loop-i-test.true c.if-b-eq44.false c.push-n.ensures)
 
 pub returns : goal.returns
 returns c = scan_stop c.args.s.now c.args.at c.loop-i.i c.loop-i.n c.loop-i.invariant.0 c.loop-i.invariant.1 c.loop-i.invariant.2 c.loop-i-test.false

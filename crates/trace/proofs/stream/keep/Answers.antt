@@ -24,10 +24,24 @@ pub loop-i-smaller : goal.loop-i-smaller
 loop-i-smaller c = omega arith
 
 pub loop-i-preserved : goal.loop-i-preserved
-loop-i-preserved c = let l = c.loop-i in let a = c.args in let n = l.invariant.0 in let k = l.invariant.2 in (n, omega arith, simp length-set l.invariant.2, move_front l.buf a.buf.now a.at l.i (omega (arith, n, k)) (omega (arith, n)) l.invariant.3 l.invariant.4 (omega (arith, n, length-drop a.at a.buf.now)), move_back l.buf a.buf.now l.i _ l.invariant.4)
+loop-i-preserved c =
+    let l = c.loop-i in
+    let a = c.args in
+    let n = l.invariant.0 in
+    let k = l.invariant.2 in
+    (n, omega arith, simp length-set l.invariant.2, move_front l.buf a.buf.now a.at l.i (omega (arith, n, k)) (omega (arith, n)) l.invariant.3 l.invariant.4 (omega (arith, n, length-drop a.at a.buf.now)), move_back l.buf a.buf.now l.i _ l.invariant.4)
 
 pub shape_of-buf : goal.shape_of-buf
 shape_of-buf c = c.loop-i.invariant.2
 
 pub returns : goal.returns
-returns c = let l = c.loop-i in let a = c.args in let n = l.invariant.0 in let q : l.i ≡ c.kept_count-n.result = omega arith in let k = kept_length a.buf.now a.at a.end in record { counts = n ∙ sym k; moves = moved l.buf a.buf.now _ l.i (q ∙ n ∙ sym k) (omega (arith, n, q)) (l.invariant.3 ∙ kept_is a.buf.now a.at a.end l.i (q ∙ n)) l.invariant.4 }
+returns c =
+    let l = c.loop-i in
+    let a = c.args in
+    let n = l.invariant.0 in
+    let q : l.i ≡ c.kept_count-n.result = omega arith in
+    let k = kept_length a.buf.now a.at a.end in
+    record {
+      counts = n ∙ sym k;
+      moves = moved l.buf a.buf.now _ l.i (q ∙ n ∙ sym k) (omega (arith, n, q)) (l.invariant.3 ∙ kept_is a.buf.now a.at a.end l.i (q ∙ n)) l.invariant.4;
+    }

@@ -4,10 +4,14 @@ use native.Mathlib.Omega.{arith}
 use Rattle.trace.proofs.stream.run.Goals as goal
 
 pub returns-then-s-from : goal.returns-then-s-from
-returns-then-s-from c = let it = run_past c.args.replay c.args.s.now c.args.from c.args.out.now c.if-s-from.true in record { answers = it.0; writes = it.1 }
+returns-then-s-from c =
+    let it = run_past c.args.replay c.args.s.now c.args.from c.args.out.now c.if-s-from.true in
+    record { answers = it.0; writes = it.1 }
 
 pub returns-then-room-lt148 : goal.returns-then-room-lt148
-returns-then-room-lt148 c = let it = run_small c.args.replay c.args.s.now c.args.from c.args.out.now c.if-room-lt148.true in record { answers = it.0; writes = it.1 }
+returns-then-room-lt148 c =
+    let it = run_small c.args.replay c.args.s.now c.args.from c.args.out.now c.if-room-lt148.true in
+    record { answers = it.0; writes = it.1 }
 
 pub loop-written-init : goal.loop-written-init
 loop-written-init c = (done_none c.args.replay c.args.s.now c.args.from c.args.out.now (omega arith), omega arith)
@@ -16,7 +20,9 @@ pub shape_of-out-then-end-s : goal.shape_of-out-then-end-s
 shape_of-out-then-end-s c = c.loop-written.invariant.0.same
 
 pub returns-then-end-s : goal.returns-then-end-s
-returns-then-end-s c = let it = run_over c.args.replay c.args.s.now c.args.from c.args.out.now c.loop-written.out c.loop-written.cur c.loop-written.at c.loop-written.written c.loop-written.invariant.0 c.end_of-end.result c.end_of-end.ensures c.if-end-s.true in record { answers = it.0; writes = it.1 }
+returns-then-end-s c =
+    let it = run_over c.args.replay c.args.s.now c.args.from c.args.out.now c.loop-written.out c.loop-written.cur c.loop-written.at c.loop-written.written c.loop-written.invariant.0 c.end_of-end.result c.end_of-end.ensures c.if-end-s.true in
+    record { answers = it.0; writes = it.1 }
 
 pub overflow_add-after : goal.overflow_add-after
 overflow_add-after c = omega (arith, end_lt c.args.replay c.args.s.now c.args.from c.args.out.now c.loop-written.out c.loop-written.cur c.loop-written.at c.loop-written.written c.loop-written.invariant.0 c.end_of-end.result c.end_of-end.ensures c.if-end-s.false)
@@ -43,4 +49,6 @@ pub shape_of-out : goal.shape_of-out
 shape_of-out c = c.loop-written.invariant.0.same
 
 pub returns : goal.returns
-returns c = let it = run_full c.args.replay c.args.s.now c.args.from c.args.out.now c.loop-written.out c.loop-written.cur c.loop-written.at c.loop-written.written c.loop-written.invariant.0 (omega (arith, c.loop-written.invariant.1)) in record { answers = it.0; writes = it.1 }
+returns c =
+    let it = run_full c.args.replay c.args.s.now c.args.from c.args.out.now c.loop-written.out c.loop-written.cur c.loop-written.at c.loop-written.written c.loop-written.invariant.0 (omega (arith, c.loop-written.invariant.1)) in
+    record { answers = it.0; writes = it.1 }

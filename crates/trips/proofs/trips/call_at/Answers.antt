@@ -32,7 +32,15 @@ pub get_word-c-requires : goal.get_word-c-requires
 get_word-c-requires c = omega (arith, c.requires.0)
 
 pub put_words-requires : goal.put_words-requires
-put_words-requires c = let five = ap length c.answer_words.ensures ∙ ap suc (length_settled _ _) in omega (arith, five, c.requires.1)
+put_words-requires c =
+    let five = ap length c.answer_words.ensures ∙ ap suc (length_settled _ _) in
+    omega (arith, five, c.requires.1)
 
 pub returns : goal.returns
-returns c = let did = c.call_taken-taken.ensures in let answer = made _ _ _ _ _ _ _ _ _ _ _ c.get_word-number.ensures c.get_word-a.ensures c.get_word-b.ensures c.get_word-c.ensures did.row did.stats c.reply_word-word.ensures c.answer_words.ensures in record { value = answer.1; answers_after = c.put_words.ensures ∙ ap (λ (words : List ℕ). sets c.args.answers.now c.args.to (all_bytes words)) answer.0 }
+returns c =
+    let did = c.call_taken-taken.ensures in
+    let answer = made _ _ _ _ _ _ _ _ _ _ _ c.get_word-number.ensures c.get_word-a.ensures c.get_word-b.ensures c.get_word-c.ensures did.row did.stats c.reply_word-word.ensures c.answer_words.ensures in
+    record {
+      value = answer.1;
+      answers_after = c.put_words.ensures ∙ ap (λ (words : List ℕ). sets c.args.answers.now c.args.to (all_bytes words)) answer.0;
+    }

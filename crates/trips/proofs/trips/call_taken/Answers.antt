@@ -4,7 +4,10 @@ use Rattle.trips.proofs.trips.call_taken.Goals as goal
 
 pub returns-then-number-eq1 : goal.returns-then-number-eq1
 unfolding call_row call_left
-returns-then-number-eq1 c = let did = c.update_taken.ensures in let fits = c.flag_fits.ensures in rw c.if-number-eq1.true record { row = rw fits at did.row; stats = rw fits at did.stats }
+returns-then-number-eq1 c =
+    let did = c.update_taken.ensures in
+    let fits = c.flag_fits.ensures in
+    rw c.if-number-eq1.true record { row = rw fits at did.row; stats = rw fits at did.stats }
 
 pub other_taken-requires : goal.other_taken-requires
 other_taken-requires c = c.if-number-eq1.false

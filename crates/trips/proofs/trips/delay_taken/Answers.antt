@@ -3,4 +3,8 @@ use mathlib.Core.Path.{◌∙◌}
 use Rattle.trips.proofs.trips.delay_taken.Goals as goal
 
 pub returns : goal.returns
-returns c = record { row = c.row-row.ensures ∙ c.update_max_ack_delay-limited.ensures.reply; stats = c.update_max_ack_delay-limited.ensures.stats }
+returns c =
+    record {
+      row = c.row-row.ensures ∙ c.update_max_ack_delay-limited.ensures.reply;
+      stats = c.update_max_ack_delay-limited.ensures.stats;
+    }

@@ -46,4 +46,10 @@ shape_of-answers c = c.loop-i.invariant.2
 
 pub returns : goal.returns
 unfolding answers_to left_by all_bytes
-returns c = let loop = c.loop-i in let all : loop.i ≡ length c.args.calls.now / 32 = omega arith in record { value = rw (all, sub_self) at loop.invariant.4; answers_after = rw (all, sub_self) at loop.invariant.3 }
+returns c =
+    let loop = c.loop-i in
+    let all : loop.i ≡ length c.args.calls.now / 32 = omega arith in
+    record {
+      value = rw (all, sub_self) at loop.invariant.4;
+      answers_after = rw (all, sub_self) at loop.invariant.3;
+    }

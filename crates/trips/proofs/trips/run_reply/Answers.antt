@@ -6,4 +6,6 @@ use Rattle.trips.proofs.trips.run_reply.Goals as goal
 
 pub returns : goal.returns
 unfolding rtt_row rtt_faults
-returns c = let it = or_short_lem c.refusal-reply.result c.or_short.result _ _ _ (asked c.refusal-reply.result _ _ _ _ (c.refusal-reply.ensures.result_value, c.refusal-reply.ensures.result_value_2) (rw c.encodes_none.ensures) (c.first_of.ensures ∙ rw (c.unless.ensures, c.unless-2.ensures))) (c.or_short.ensures.result_value, c.or_short.ensures.result_value_2) in record { result_value = it.0; result_value_2 = it.1 }
+returns c =
+    let it = or_short_lem c.refusal-reply.result c.or_short.result _ _ _ (asked c.refusal-reply.result _ _ _ _ (c.refusal-reply.ensures.reply, c.refusal-reply.ensures.fault) (rw c.encodes_none.ensures) (c.first_of.ensures ∙ rw (c.unless.ensures, c.unless-2.ensures))) (c.or_short.ensures.reply, c.or_short.ensures.fault) in
+    record { reply = it.0; fault = it.1 }

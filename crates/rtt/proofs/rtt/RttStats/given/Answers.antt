@@ -6,4 +6,6 @@ use Rattle.rtt.proofs.rtt.RttStats.given.Goals as goal
 
 pub returns : goal.returns
 unfolding given_number
-returns c = let it = asked c.refusal.result _ _ _ _ (c.refusal.ensures.result_value, c.refusal.ensures.result_value_2) (simp c.ok.ensures) refl in record { result_value = it.0; result_value_2 = it.1 }
+returns c =
+    let it = asked c.refusal.result _ _ _ _ (c.refusal.ensures.reply, c.refusal.ensures.fault) (simp c.ok.ensures) refl in
+    record { reply = it.0; fault = it.1 }

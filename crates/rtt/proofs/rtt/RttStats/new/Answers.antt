@@ -5,8 +5,20 @@ use Rattle.rtt.proofs.rtt.RttStats.new.Goals as goal
 
 pub returns-then-is_done : goal.returns-then-is_done
 unfolding new_left
-returns-then-is_done c = let reply = c.new_reply-reply.ensures in record { reply = reply.result_value; stats = done_as _ _ _ _ _ _ reply.result_value c.is_done.ensures c.if-is_done.true c.fresh.ensures; fault = reply.result_value_2 }
+returns-then-is_done c =
+    let reply = c.new_reply-reply.ensures in
+    record {
+      reply = reply.reply;
+      stats = done_as _ _ _ _ _ _ reply.reply c.is_done.ensures c.if-is_done.true c.fresh.ensures;
+      fault = reply.fault;
+    }
 
 pub returns : goal.returns
 unfolding new_left
-returns c = let reply = c.new_reply-reply.ensures in record { reply = reply.result_value; stats = refused_as _ _ _ _ _ _ reply.result_value c.is_done.ensures c.if-is_done.false c.fresh-2.ensures; fault = reply.result_value_2 }
+returns c =
+    let reply = c.new_reply-reply.ensures in
+    record {
+      reply = reply.reply;
+      stats = refused_as _ _ _ _ _ _ reply.reply c.is_done.ensures c.if-is_done.false c.fresh-2.ensures;
+      fault = reply.fault;
+    }

@@ -10,7 +10,9 @@ pub adjusted-requires : goal.adjusted-requires
 adjusted-requires c = ((lengths _ c.requires.0).1, leb-true _ _ c.requires.2)
 
 pub later_sample-requires : goal.later_sample-requires
-later_sample-requires c = let b = lengths _ c.requires.0 in (b.2, b.3, rw c.adjusted.ensures (le_trans (adjusted_most _ _ _ _) (leb-true _ _ c.requires.1)))
+later_sample-requires c =
+    let b = lengths _ c.requires.0 in
+    (b.2, b.3, rw c.adjusted.ensures (le_trans (adjusted_most _ _ _ _) (leb-true _ _ c.requires.1)))
 
 pub returns-then-self : goal.returns-then-self
 unfolding update_next

@@ -5,4 +5,6 @@ use Rattle.rtt.proofs.rtt.RttStats.update_reply.Goals as goal
 
 pub returns : goal.returns
 unfolding update_number
-returns c = let it = asked c.given.result _ _ _ _ (c.given.ensures.result_value, c.given.ensures.result_value_2) (rw (c.length_ok.ensures, c.length_ok-2.ensures)) c.update_fault.ensures in record { result_value = it.0; result_value_2 = it.1 }
+returns c =
+    let it = asked c.given.result _ _ _ _ (c.given.ensures.reply, c.given.ensures.fault) (rw (c.length_ok.ensures, c.length_ok-2.ensures)) c.update_fault.ensures in
+    record { reply = it.0; fault = it.1 }

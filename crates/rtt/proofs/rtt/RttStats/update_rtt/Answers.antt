@@ -2,4 +2,9 @@
 use Rattle.rtt.proofs.rtt.RttStats.update_rtt.Goals as goal
 
 pub returns : goal.returns
-returns c = record { reply = c.update_reply-reply.ensures.result_value; stats = c.update_taken-taken.ensures.stats; fault = c.update_reply-reply.ensures.result_value_2 }
+returns c =
+    record {
+      reply = c.update_reply-reply.ensures.reply;
+      stats = c.update_taken-taken.ensures.stats;
+      fault = c.update_reply-reply.ensures.fault;
+    }

@@ -7,4 +7,5 @@ pub returns-then-is_done : goal.returns-then-is_done
 returns-then-is_done c = record { reply = refl; length = done _ _ _ _ c.is_done.ensures c.if-is_done.true }
 
 pub returns-else-is_done : goal.returns-else-is_done
-returns-else-is_done c = record { reply = refl; length = refused _ _ _ _ c.is_done.ensures c.if-is_done.false }
+returns-else-is_done c =
+    record { reply = refl; length = refused _ _ _ _ c.is_done.ensures c.if-is_done.false }

@@ -5,4 +5,4 @@ use Rattle.state.proofs.network_model.NetworkModel.stored.Goals as goal
 
 pub returns : goal.returns
 unfolding stored_number
-returns c = c.refusal.ensures.result_value ∙ simp c.ok.ensures
+returns c = c.refusal.ensures.reply ∙ simp c.ok.ensures
