@@ -1,7 +1,7 @@
 -- Statements of what a contract allows. `Reads.Learnt` of a function is its contract as the checker reads it. It speaks
 -- of lifetimes κ, of the arguments a in the order of the source, written (first, (second, tt)), of a reply x and of
--- what is left at the exit, e. `a.0` is the first argument, `a.1.0` the second, and so on; of a lent slice, `a.0.now` is
--- what it holds. `(x : A) × B` is "there is an x of the kind A, of which B".
+-- what is left at the exit, e. `a.0` is the first argument, `a.1.0` the second, and so on; where the first is a lent
+-- slice, `a.0.now` is what it holds. `(x : A) × B` is "there is an x of the kind A, of which B".
 use Rattle.std.specs.Prelude.{◌≡◌}
 
 -- P holds of some outcome that the contract allows. That there is one for all arguments is what the checker proves of
