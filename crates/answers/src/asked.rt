@@ -1,7 +1,6 @@
 // One line of a list, asked of the port.
-use filters::windowed_filter::Held;
 use filters::{MaxBandwidthFilter, MinRttFilter, RoundTripCounter, WindowedFilter};
-use units::{Bandwidth, Duration, MaybeNumber, Moment};
+use units::{Bandwidth, Duration, Moment};
 use words::float_bits::{f32_bits, f32_of, f64_bits, f64_of};
 
 // What a list asks, with the filter that it goes on with from line to line.
@@ -99,18 +98,18 @@ fn holds(filter: WindowedFilter, n: &[u64; 16]) -> bool {
         & has_times(filter, n)
 }
 
-fn is_sample(answer: MaybeNumber, full: u64, sample: u64) -> bool {
+fn is_sample(answer: Option<u64>, full: u64, sample: u64) -> bool {
     match answer {
-        MaybeNumber::Unset => (full == 0) & (sample == 0),
-        MaybeNumber::Set(held) => (full == 1) & (held == sample),
+        None => (full == 0) & (sample == 0),
+        Some(held) => (full == 1) & (held == sample),
     }
 }
 
 fn has_times(filter: WindowedFilter, n: &[u64; 16]) -> bool {
     let held = filter.held;
     match held {
-        Held::Unset => (n[5] == 0) & (n[7] == 0) & (n[9] == 0),
-        Held::Set(e) => { (e.best.time == n[5]) & (e.second.time == n[7]) & (e.third.time == n[9]) }
+        None => (n[5] == 0) & (n[7] == 0) & (n[9] == 0),
+        Some(e) => { (e.best.time == n[5]) & (e.second.time == n[7]) & (e.third.time == n[9]) }
     }
 }
 
@@ -170,8 +169,8 @@ fn acked(counter: RoundTripCounter, n: &[u64; 16]) -> Compared {
 fn stands(counter: RoundTripCounter, n: &[u64; 16]) -> bool {
     let end = counter.end;
     let set = match end {
-        MaybeNumber::Unset => (n[8] == 0) & (n[9] == 0),
-        MaybeNumber::Set(packet) => (n[8] == 1) & (packet == n[9]),
+        None => (n[8] == 0) & (n[9] == 0),
+        Some(packet) => (n[8] == 1) & (packet == n[9]),
     };
     (counter.count == n[6]) & (counter.sent == n[7]) & set
 }

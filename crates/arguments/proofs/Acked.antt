@@ -1,4 +1,5 @@
 -- Where the acked numbers stand, over plain variables. Assumes nothing.
+use Rattle.std.specs.Prelude.{None, Some}
 use Prim.Native.Nat.{ℕ, zero, suc, max, ◌+◌, ◌-◌, ◌≤◌, ◌<◌}
 use mathlib.Core.Bool.{Bool, true, false, ◌&&◌, ◌||◌}
 use mathlib.Core.List.{List, [], ◌∷◌, ◌++◌}
@@ -8,7 +9,6 @@ use lib.Dec.{leb}
 use lib.ListN.{length, get_or, take, drop, length-append, length-take, length-drop}
 use lib.Seq.{take-nil, drop-append-add}
 use borrow.Author.Tests.{leb-true, leb-false, le-leb, lt-leb}
-use Rattle.units.specs.declared.maybe.MaybeNumber.TheVariants as Number
 use Rattle.filters.specs.RoundTripCounter.{greatest}
 use Rattle.arguments.specs.Sample.{acked_fits, acked_of}
 use Rattle.arguments.proofs.Alike.{own}
@@ -28,16 +28,16 @@ unfolding acked_fits
 many_long l many fits = rw (length-take, length-drop) (omega (arith, leb-true (49 + get_or l 19 0 + get_or l 18 0) (length l) (rw many at fits)))
 
 -- the greatest of up to three
-pub few_none : (n : ℕ) (l : List ℕ) → n ≡ 0 → Number.Unset ≡ greatest (take n l)
+pub few_none : (n : ℕ) (l : List ℕ) → n ≡ 0 → None ≡ greatest (take n l)
 few_none n l e = rw e
 
-pub few_one : (n a b c : ℕ) → n ≡ 1 → Number.Set a ≡ greatest (take n (a ∷ b ∷ c ∷ []))
+pub few_one : (n a b c : ℕ) → n ≡ 1 → Some a ≡ greatest (take n (a ∷ b ∷ c ∷ []))
 few_one n a b c e = rw e
 
-pub few_two : (n a b c : ℕ) → n ≡ 2 → Number.Set (max a b) ≡ greatest (take n (a ∷ b ∷ c ∷ []))
+pub few_two : (n a b c : ℕ) → n ≡ 2 → Some (max a b) ≡ greatest (take n (a ∷ b ∷ c ∷ []))
 few_two n a b c e = rw e
 
-pub few_three : (n a b c : ℕ) → (n ≡ 0 → ⊥) → (n ≡ 1 → ⊥) → (n ≡ 2 → ⊥) → Number.Set (max (max a b) c) ≡ greatest (take n (a ∷ b ∷ c ∷ []))
+pub few_three : (n a b c : ℕ) → (n ≡ 0 → ⊥) → (n ≡ 1 → ⊥) → (n ≡ 2 → ⊥) → Some (max (max a b) c) ≡ greatest (take n (a ∷ b ∷ c ∷ []))
 few_three zero a b c p q r = absurd (p refl)
 few_three (suc zero) a b c p q r = absurd (q refl)
 few_three (suc (suc zero)) a b c p q r = absurd (r refl)

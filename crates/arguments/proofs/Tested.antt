@@ -1,4 +1,5 @@
 -- What passes the bounds is written as it was handed in (specs/Tested.antt). Assumes nothing.
+use Rattle.std.specs.Prelude.{None, Some}
 use Prim.Native.Nat.{ℕ, zero, suc, ◌+◌, ◌^◌, ◌≤◌, ◌<◌}
 use mathlib.Core.Bool.{Bool, true, false, cond, not, ◌&&◌, true≢false}
 use mathlib.Core.List.{List, [], ◌∷◌, ◌++◌}
@@ -9,11 +10,9 @@ use lib.Ieee.{Float, nan, inf, fin, binary32, of_bits, to_bits, le, is_nan}
 use lib.Ieee.Bits.{to_bits-of_bits}
 use lib.ListN.{length, get_or, take, drop, length-take}
 use borrow.Author.Tests.{eqb-true, leb-true, ltb-true}
-use Rattle.units.specs.declared.maybe.MaybeBandwidth.TheVariants.{Unset, Set}
 use Rattle.state.specs.Bounds.{all, within, maybe_ok}
 use Rattle.state.specs.Params.{params_ok}
 use Rattle.state.proofs.Rows.{and_left, and_right, all_at}
-use Rattle.units.specs.declared.maybe.MaybeDuration as rtt
 use Rattle.state.specs.CongestionEvent.{maybe_length_ok, event_tests, sample_tests}
 use Rattle.words.specs.declared.maybe.Maybe.{Maybe}
 use Rattle.words.specs.Word.{outside, or_outside, flag_word, flag_of, flag_fits, float_word, float_of}
@@ -64,10 +63,10 @@ pair_same none some f ok p q bad a b h = go (is_unset a b) (eqb a 1) refl refl h
     go false false e k g = absurd (true≢false (sym g ∙ bad))
 
 bandwidth_same : (a b : ℕ) → maybe_ok (bandwidth_of a b) ≡ true → bandwidth_maybe (bandwidth_of a b) ≡ record { set = a; number = b }
-bandwidth_same a b h = pair_same Unset (λ n. Set (record { 0 = n })) bandwidth_maybe maybe_ok refl (λ n. refl) refl a b h
+bandwidth_same a b h = pair_same None (λ n. Some (record { 0 = n })) bandwidth_maybe maybe_ok refl (λ n. refl) refl a b h
 
 length_same : (a b : ℕ) → maybe_length_ok (length_of a b) ≡ true → length_maybe (length_of a b) ≡ record { set = a; number = b }
-length_same a b h = pair_same rtt.TheVariants.Unset (λ n. rtt.TheVariants.Set (record { 0 = n })) length_maybe maybe_length_ok refl (λ n. refl) refl a b h
+length_same a b h = pair_same None (λ n. Some (record { 0 = n })) length_maybe maybe_length_ok refl (λ n. refl) refl a b h
 
 -- ---- all of them
 event_same : (l : List ℕ) → all (event_tests (event_from l)) ≡ true → event_words (event_from l) ≡ words_from l 22 16

@@ -8,7 +8,6 @@ use filters::round_trip_counter::greatest_of;
 use numbers::{larger, less};
 use state::congestion_event::CongestionEventSample;
 use state::parts::Totals;
-use units::MaybeNumber;
 use words::maybe::{bandwidth_of, length_of};
 use words::word::{flag_fits, or_outside};
 
@@ -55,7 +54,7 @@ pub fn acked_fits(n: &[u64; 49], lists: &[u64]) -> bool
 }
 
 // The greatest of the acked numbers, if there are any.
-pub fn greatest_acked(n: &[u64; 49], lists: &[u64]) -> MaybeNumber
+pub fn greatest_acked(n: &[u64; 49], lists: &[u64]) -> Option<u64>
     requires { length n.now ≡ 49 }
     ensures { result ≡ greatest (acked_of (n.now ++ lists.now)) }
 {
@@ -64,7 +63,7 @@ pub fn greatest_acked(n: &[u64; 49], lists: &[u64]) -> MaybeNumber
         return greatest_of_three(count, n[19], n[20], n[21]);
     }
     if !acked_fits(n, lists) {
-        return MaybeNumber::Unset;
+        return None;
     }
     let start = n[19] as usize;
     let end = start + count as usize;
@@ -72,18 +71,18 @@ pub fn greatest_acked(n: &[u64; 49], lists: &[u64]) -> MaybeNumber
 }
 
 // The greatest of the first numbers of three, as many as the count says.
-fn greatest_of_three(count: u64, first: u64, second: u64, third: u64) -> MaybeNumber
+fn greatest_of_three(count: u64, first: u64, second: u64, third: u64) -> Option<u64>
     ensures { result ≡ greatest (take count (first ∷ second ∷ third ∷ [])) }
 {
     if count == 0 {
-        return MaybeNumber::Unset;
+        return None;
     }
     if count == 1 {
-        return MaybeNumber::Set(first);
+        return Some(first);
     }
     let most = larger(first, second);
     if count == 2 {
-        return MaybeNumber::Set(most);
+        return Some(most);
     }
-    MaybeNumber::Set(larger(most, third))
+    Some(larger(most, third))
 }

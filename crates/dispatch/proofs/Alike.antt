@@ -1,9 +1,9 @@
 -- Calls that differ in their acked numbers alone: those that take none do the same, and an event that takes the same greatest number. Assumes nothing.
+use Rattle.std.specs.Prelude.{Option}
 use Prim.Native.Nat.{ℕ}
 use mathlib.Core.List.{List, ◌++◌}
 use mathlib.Core.Path.{◌≡◌, refl, sym, ap₂, ◌∙◌}
 use lib.ListN.{length}
-use Rattle.units.specs.declared.maybe.MaybeNumber.{MaybeNumber}
 use Rattle.filters.specs.RoundTripCounter.{greatest, listed}
 use Rattle.filters.proofs.Greatest.{alone}
 use Rattle.state.specs.Answers.{settled}
@@ -69,7 +69,7 @@ pub only_greatest : OnlyGreatest
 only_greatest v w h fits most m y = outcome_alike v w h m y fits most
 
 -- ---- an event, from what is read of its own words, of its lists, and of the numbers in them
-module _ (l lists : List ℕ) (long : length l ≡ 49) (m : NetworkModel) {g : MaybeNumber} (most : g ≡ greatest (acked_of (l ++ lists))) where
+module _ (l lists : List ℕ) (long : length l ≡ 49) (m : NetworkModel) {g : Option ℕ} (most : g ≡ greatest (acked_of (l ++ lists))) where
   abbrev w : List ℕ
   w = l ++ lists
 

@@ -1,4 +1,5 @@
 -- bandwidth_lo follows the exact run (`bandwidth_drift`). Assumes nothing.
+use Rattle.std.specs.Prelude.{Option, None, Some}
 use Prim.Native.Nat.{ℕ, min, ◌-◌, ◌*◌, ◌^◌, ◌<◌}
 use mathlib.Core.Bool.{Bool, true, false, cond}
 use mathlib.Core.List.{List}
@@ -18,8 +19,6 @@ use Rattle.filters.specs.MaxBandwidthFilter.{max_get}
 use Rattle.state.specs.declared.network_model.NetworkModel.{NetworkModel}
 use Rattle.state.specs.declared.params.Params.{Params}
 use Rattle.state.specs.declared.parts.Lower.{Lower}
-use Rattle.units.specs.declared.maybe.MaybeBandwidth.{MaybeBandwidth}
-use Rattle.units.specs.declared.maybe.MaybeBandwidth.TheVariants.{Unset, Set}
 use Rattle.state.specs.Answers.{settled, zero_length, zero_moment}
 use Rattle.state.specs.Bounds.{bandwidth_ok, maybe_ok, bytes_or_unset_ok}
 use Rattle.state.specs.NetworkModel.{model_tests, one, start_number, start_model, model_new, with_rounds, with_round, with_lower, with_growth, with_moment, restart_next, cap_next, clear_inflight_next, clear_bandwidth_next}
@@ -52,28 +51,28 @@ module _ (beta : Float) (parts : ℕ) (value : HasValue (complement beta) false 
       record { not_over = omega (arith, law.not_over); not_short = omega (arith, law.not_short) }
 
   -- ---- what is kept
-  abbrev Kept : MaybeBandwidth → Exact → Type 0
-  Kept Unset unset = Unit {0}
-  Kept Unset (over num exponent k) = ⊥
-  Kept (Set x) unset = ⊥
-  Kept (Set x) (over num exponent k) = Near 4097 8192 parts x.0 num exponent k
+  abbrev Kept : Option Bandwidth → Exact → Type 0
+  Kept None unset = Unit {0}
+  Kept None (over num exponent k) = ⊥
+  Kept (Some x) unset = ⊥
+  Kept (Some x) (over num exponent k) = Near 4097 8192 parts x.0 num exponent k
 
-  follows : (l : MaybeBandwidth) (x : Exact) → Kept l x → Follows 4097 8192 parts (low_of l) x
-  follows Unset unset h = tt
-  follows Unset (over num exponent k) h = absurd h
-  follows (Set y) unset h = absurd h
-  follows (Set y) (over num exponent k) h = h
+  follows : (l : Option Bandwidth) (x : Exact) → Kept l x → Follows 4097 8192 parts (low_of l) x
+  follows None unset h = tt
+  follows None (over num exponent k) h = absurd h
+  follows (Some y) unset h = absurd h
+  follows (Some y) (over num exponent k) h = h
 
   -- ---- the calls
-  reduce_kept : (l : MaybeBandwidth) (seed latest : Bandwidth) (x : Exact) → maybe_ok l ≡ true → bandwidth_ok seed ≡ true → Kept l x
-      → Kept (Set (larger_of latest (cut (E.seed_of l seed)))) (exactly parts (reduces seed.0 latest.0) x)
+  reduce_kept : (l : Option Bandwidth) (seed latest : Bandwidth) (x : Exact) → maybe_ok l ≡ true → bandwidth_ok seed ≡ true → Kept l x
+      → Kept (Some (larger_of latest (cut (E.seed_of l seed)))) (exactly parts (reduces seed.0 latest.0) x)
   unfolding exactly
-  reduce_kept Unset seed latest unset p q h = first 4097 8192 parts not_all seed.0 (cut seed).0 latest.0 (omega arith) (step seed q)
-  reduce_kept Unset seed latest (over num exponent k) p q h = absurd h
-  reduce_kept (Set y) seed latest unset p q h = absurd h
-  reduce_kept (Set y) seed latest (over num exponent k) p q h = again 4097 8192 parts not_all y.0 (cut y).0 num exponent k latest.0 (omega arith) (step y p) h
+  reduce_kept None seed latest unset p q h = first 4097 8192 parts not_all seed.0 (cut seed).0 latest.0 (omega arith) (step seed q)
+  reduce_kept None seed latest (over num exponent k) p q h = absurd h
+  reduce_kept (Some y) seed latest unset p q h = absurd h
+  reduce_kept (Some y) seed latest (over num exponent k) p q h = again 4097 8192 parts not_all y.0 (cut y).0 num exponent k latest.0 (omega arith) (step y p) h
 
-  clear_kept : (x : Exact) → Kept Unset (exactly parts clears x)
+  clear_kept : (x : Exact) → Kept None (exactly parts clears x)
   unfolding exactly
   clear_kept unset = tt
   clear_kept (over num exponent k) = tt
@@ -98,7 +97,7 @@ module _ (beta : Float) (parts : ℕ) (value : HasValue (complement beta) false 
       go true =
           let most = max_get (E.maxbw_next m s) in
           let latest = (E.latest_raised m.latest s).bandwidth in
-          subst (λ (f : Float). Kept (Set (larger_of latest (times_f32 (E.seed_of m.lower.bandwidth most) (complement f)))) (exactly parts (reduces most.0 latest.0) x)) (sym same)
+          subst (λ (f : Float). Kept (Some (larger_of latest (times_f32 (E.seed_of m.lower.bandwidth most) (complement f)))) (exactly parts (reduces most.0 latest.0) x)) (sym same)
           (reduce_kept m.lower.bandwidth most latest x lo_ok most_ok h)
       go false = h
 

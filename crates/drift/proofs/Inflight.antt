@@ -1,4 +1,5 @@
 -- inflight_lo follows the exact run (`inflight_drift`). Assumes nothing.
+use Rattle.std.specs.Prelude.{None, Some}
 use Prim.Native.Nat.{ℕ, max, ◌-◌, ◌*◌, ◌^◌, ◌≤◌, ◌<◌}
 use mathlib.Core.Bool.{Bool, true, false, cond}
 use mathlib.Core.List.{List}
@@ -28,7 +29,6 @@ use Rattle.state.specs.declared.cycle.Cycle.{Cycle}
 use Rattle.phases.specs.Phases.{restarted_at, cruise_model, refill_model, left_model}
 use Rattle.drift.specs.Calls.{Call, event, cap, clear_inflight, clear_bandwidth, cruise, refill, other, State, next_of, run, started}
 use Rattle.drift.specs.Exact.{stays, clears, caps, reduces, Exact, unset, over, is_reduced, inflight_effect, exactly, exact_run}
-use Rattle.units.specs.declared.maybe.MaybeNumber.TheVariants as Number
 use Rattle.drift.specs.Drift.{inflight_low, Nearer, Near, Follows, Along, HasBeta, IsSmall, InflightDrift}
 use Rattle.drift.proofs.Others.{other_same, left_same, left_high}
 use Rattle.drift.proofs.Runs.{run_kept, both_along}
@@ -60,7 +60,7 @@ module _ (beta : Float) (parts : ℕ) (value : HasValue (complement beta) false 
   set : (n : ℕ) → n ≤ 2 ^ 24 → eqb n (2 ^ 64 - 1) ≡ false
   set n h = ne_eqb n (2 ^ 64 - 1) (λ e. omega (arith, e, h))
 
-  follows : (n : ℕ) (x : Exact) → Raw n x → Follows 1 1 parts (cond (eqb n (2 ^ 64 - 1)) Number.Unset (Number.Set n)) x
+  follows : (n : ℕ) (x : Exact) → Raw n x → Follows 1 1 parts (cond (eqb n (2 ^ 64 - 1)) None (Some n)) x
   follows n unset h = rw (eq-eqb n (2 ^ 64 - 1) h) tt
   follows n (over num exponent k) h = rw (set n h.0) h.1
 

@@ -1,4 +1,5 @@
 -- What the public functions return is what the definitions say, so the theorems hold of it. Assumes nothing.
+use Rattle.std.specs.Prelude.{Option}
 use Prim.Native.Nat.{ℕ}
 use mathlib.Core.Bool.{Bool, true, false, cond}
 use mathlib.Core.List.{List, [], ◌∷◌}
@@ -19,7 +20,6 @@ use Rattle.state.specs.declared.cycle.Cycle.{Cycle}
 use Rattle.drift.specs.Calls as Calls
 use Rattle.drift.specs.Calls.{Call, Other, State, other_number, other_next, number_of, next_of, after, run, started}
 use Rattle.drift.specs.Exact.{Effect, unset, inflight_effect, bandwidth_effect, exact_run}
-use Rattle.units.specs.declared.maybe.MaybeNumber.{MaybeNumber}
 use Rattle.drift.specs.Drift.{inflight_low, bandwidth_low, Follows, Along, HasBeta, IsSmall, IsAny, Drift, UsualDrift, Under, usual_beta, usual_parts}
 use Rattle.drift.specs.Returned.{MadeOther, Made, Begun, Ran, CodeDrift, CodeUsualDrift, CodeInflightDrift, CodeBandwidthDrift, CodeUsualInflightDrift, CodeUsualBandwidthDrift}
 use Rattle.drift.proofs.Inflight.{inflight_drift}
@@ -113,7 +113,7 @@ module _ (p : Params) (rtt : Duration) (time : Moment) (calls : List Call) (s t 
   along : (P : Call → Type 0) → Along P calls s → Along P calls (started p rtt time s.cycle)
   along P h = subst (λ (z : State). Along P calls z) (begun p rtt time s b) h
 
-module _ (effect : Call → State → Effect) (low : State → MaybeNumber) (Q : Call → Type 0) where
+module _ (effect : Call → State → Effect) (low : State → Option ℕ) (Q : Call → Type 0) where
   code_drift : (u v : ℕ) → Drift u v effect low Q → CodeDrift u v effect low Q
   code_drift u v drift beta ok =
       let parts = parts_of (complement beta) in (

@@ -1,4 +1,5 @@
 -- The drift at beta 0.3. Assumes nothing.
+use Rattle.std.specs.Prelude.{Option, None, Some}
 use Prim.Native.Nat.{ℕ, ◌-◌, ◌*◌, ◌^◌}
 use mathlib.Core.List.{List}
 use mathlib.Core.Path.{◌≡◌, refl, subst}
@@ -12,8 +13,6 @@ use Rattle.state.specs.declared.cycle.Cycle.{Cycle}
 use Rattle.state.specs.Bounds.{within}
 use Rattle.drift.specs.Calls.{Call, State, run, started}
 use Rattle.drift.specs.Exact.{Effect, Exact, unset, over, inflight_effect, bandwidth_effect, exact_run}
-use Rattle.units.specs.declared.maybe.MaybeNumber.{MaybeNumber}
-use Rattle.units.specs.declared.maybe.MaybeNumber.TheVariants as Number
 use Rattle.drift.specs.Drift.{IsBeta, inflight_low, bandwidth_low, Nearer, Follows, Along, HasBeta, IsSmall, usual_beta, usual_parts, Under, UsualInflightDrift, UsualBandwidthDrift}
 use Rattle.drift.proofs.Inflight.{inflight_drift}
 use Rattle.drift.proofs.Bandwidth.{bandwidth_drift}
@@ -34,13 +33,13 @@ bandwidth_under n num exponent h = record { not_over = omega (arith, h.not_over)
 
 -- with the parts as they are computed from beta
 module _ (u v h : ℕ) (rate : (n num exponent : ℕ) → Nearer n num exponent (2 ^ 24) u (v * (2 ^ 24 - usual_parts)) → Nearer n num exponent h 1 100) where
-  under : (l : MaybeNumber) (x : Exact) → Follows u v usual_parts l x → Under h l x
-  under Number.Unset unset f = tt
-  under Number.Unset (over num exponent k) f = f
-  under (Number.Set n) unset f = f
-  under (Number.Set n) (over num exponent k) f = rate n num exponent f.by_rate
+  under : (l : Option ℕ) (x : Exact) → Follows u v usual_parts l x → Under h l x
+  under None unset f = tt
+  under None (over num exponent k) f = f
+  under (Some n) unset f = f
+  under (Some n) (over num exponent k) f = rate n num exponent f.by_rate
 
-  usual : (effect : Call → State → Effect) (l : MaybeNumber) (calls : List Call) (s : State)
+  usual : (effect : Call → State → Effect) (l : Option ℕ) (calls : List Call) (s : State)
       → Follows u v (parts_of (complement usual_beta)) l (exact_run effect (parts_of (complement usual_beta)) calls s unset)
       → Under h l (exact_run effect usual_parts calls s unset)
   usual effect l calls s f =

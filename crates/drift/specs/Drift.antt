@@ -27,12 +27,13 @@
 --     2      637          179299554057781300   636.99997830..    0.00002169..
 --     3      445   2105703107131840534046300   445.89997721..   -0.89997721..
 --
--- After the third, `Follows 1 1 11744051 (Number.Set 445) (over num 72 3)` is `Near 1 1 11744051 445 num 72 3`. Its
+-- After the third, `Follows 1 1 11744051 (Some 445) (over num 72 3)` is `Near 1 1 11744051 445 num 72 3`. Its
 -- `counted` is 0 < 3. Its `by_count` is 0.89997.. < 3 * 1 / 1, multiplied by 2^72: |445 * 2^72 - num| < 3 * 2^72, which
 -- is 4250022254848413951580 < 14167099448608935641088. Its `by_rate` is 0.89997.. < 1 / (1 - b) = 3.33333..: with
--- 1 - b = 5033165 / 2^24, both sides multiplied by 2^72 * 5033165. `Under 334 (Number.Set 445) (over num 72 3)` is
+-- 1 - b = 5033165 / 2^24, both sides multiplied by 2^72 * 5033165. `Under 334 (Some 445) (over num 72 3)` is
 -- 0.89997.. < 3.34. The runs and these statements are computed in Examples.antt (`drift_examples`, `EpisodeFollows`).
-use Rattle.std.specs.Prelude.{ℕ, ◌+◌, ◌-◌, ◌*◌, ◌^◌, ◌≤◌, ◌<◌, cond, true, false, List, [], ◌∷◌, ◌≡◌, T, eqb, Float}
+use Rattle.std.specs.Prelude.{ℕ, ◌+◌, ◌-◌, ◌*◌, ◌^◌, ◌≤◌, ◌<◌, cond, true, false, List, [], ◌∷◌, ◌≡◌, T, eqb, Float, Option, None, Some}
+use Rattle.units.specs.declared.bandwidth.Bandwidth.{Bandwidth}
 use Rattle.std.specs.Float.{binary32}
 use Rattle.std.specs.Float.Ieee.{of_bits, fits}
 use Rattle.std.specs.Float.Ieee.Exact.{HasValue}
@@ -40,10 +41,6 @@ use Rattle.numbers.specs.Scaling.{complement, parts_of}
 use Rattle.units.specs.declared.time.Duration.{Duration}
 use Rattle.units.specs.declared.time.Moment.{Moment}
 use Rattle.state.specs.declared.params.Params.{Params}
-use Rattle.units.specs.declared.maybe.MaybeBandwidth.{MaybeBandwidth}
-use Rattle.units.specs.declared.maybe.MaybeBandwidth.TheVariants.{Unset, Set}
-use Rattle.units.specs.declared.maybe.MaybeNumber.{MaybeNumber}
-use Rattle.units.specs.declared.maybe.MaybeNumber.TheVariants as Number
 use Rattle.state.specs.Params.{beta_ok}
 use Rattle.state.specs.declared.congestion_event.CongestionEvent.{CongestionEvent}
 use Rattle.state.specs.declared.congestion_event.CongestionEventSample.{CongestionEventSample}
@@ -53,14 +50,14 @@ use Rattle.drift.specs.Calls.{Call, State, number_of, after, run, started}
 use Rattle.drift.specs.Exact.{Effect, Exact, unset, over, inflight_effect, bandwidth_effect, exact_run}
 
 -- ---- a lower bound as it is stored: unset, or a number. inflight_lo is unset where it is 2^64 - 1
-unfoldable pub inflight_low : State → MaybeNumber
-inflight_low s = let n = s.model.lower.inflight in cond (eqb n (2 ^ 64 - 1)) Number.Unset (Number.Set n)
+unfoldable pub inflight_low : State → Option ℕ
+inflight_low s = let n = s.model.lower.inflight in cond (eqb n (2 ^ 64 - 1)) None (Some n)
 
-abbrev pub low_of : MaybeBandwidth → MaybeNumber
-low_of Unset = Number.Unset
-low_of (Set b) = Number.Set b.0
+abbrev pub low_of : Option Bandwidth → Option ℕ
+low_of None = None
+low_of (Some b) = Some b.0
 
-unfoldable pub bandwidth_low : State → MaybeNumber
+unfoldable pub bandwidth_low : State → Option ℕ
 bandwidth_low s = low_of s.model.lower.bandwidth
 
 -- ---- how near it is. All is multiplied out, so that every number is whole
@@ -78,11 +75,11 @@ pub record Near (u v parts n num exponent k : ℕ) : Type 0 where
   pub by_rate : Nearer n num exponent (2 ^ 24) u (v * (2 ^ 24 - parts))
 
 -- the stored one is set exactly where the exact one is, and then near it
-abbrev pub Follows : (u v parts : ℕ) → MaybeNumber → Exact → Type 0
-Follows u v parts Number.Unset unset = Unit {0}
-Follows u v parts Number.Unset (over num exponent k) = ⊥
-Follows u v parts (Number.Set n) unset = ⊥
-Follows u v parts (Number.Set n) (over num exponent k) = Near u v parts n num exponent k
+abbrev pub Follows : (u v parts : ℕ) → Option ℕ → Exact → Type 0
+Follows u v parts None unset = Unit {0}
+Follows u v parts None (over num exponent k) = ⊥
+Follows u v parts (Some n) unset = ⊥
+Follows u v parts (Some n) (over num exponent k) = Near u v parts n num exponent k
 
 -- ---- the runs: P holds of every call that is done
 abbrev pub Along : (Call → Type 0) → List Call → State → Type 0
@@ -118,7 +115,7 @@ pub record IsBeta (beta : Float) : Type 0 where
 -- ---- the theorem: b is exactly parts / 2^24, and after any list of calls from a fresh model, beside any cycle y, the
 -- number follows its exact run. u / v bounds what one reduction is off, `effect` is what a call does to the number,
 -- `low` the number as it is stored, P what is asked of every accepted event besides beta
-abbrev pub Drift : (u v : ℕ) → (Call → State → Effect) → (State → MaybeNumber) → (Call → Type 0) → Type 0
+abbrev pub Drift : (u v : ℕ) → (Call → State → Effect) → (State → Option ℕ) → (Call → Type 0) → Type 0
 Drift u v effect low P =
     (beta : Float) → IsBeta beta →
     let parts = parts_of (complement beta) in
@@ -145,13 +142,13 @@ abbrev pub usual_parts : ℕ
 usual_parts = 11744051
 
 -- the stored one differs from the exact one by less than so many hundredths
-abbrev pub Under : (hundredths : ℕ) → MaybeNumber → Exact → Type 0
-Under h Number.Unset unset = Unit {0}
-Under h Number.Unset (over num exponent k) = ⊥
-Under h (Number.Set n) unset = ⊥
-Under h (Number.Set n) (over num exponent k) = Nearer n num exponent h 1 100
+abbrev pub Under : (hundredths : ℕ) → Option ℕ → Exact → Type 0
+Under h None unset = Unit {0}
+Under h None (over num exponent k) = ⊥
+Under h (Some n) unset = ⊥
+Under h (Some n) (over num exponent k) = Nearer n num exponent h 1 100
 
-abbrev pub UsualDrift : (hundredths : ℕ) → (Call → State → Effect) → (State → MaybeNumber) → (Call → Type 0) → Type 0
+abbrev pub UsualDrift : (hundredths : ℕ) → (Call → State → Effect) → (State → Option ℕ) → (Call → Type 0) → Type 0
 UsualDrift h effect low P =
     (p : Params) (rtt : Duration) (now : Moment) (y : Cycle) (calls : List Call) →
     let s = started p rtt now y in

@@ -1,12 +1,8 @@
 -- That the statements of specs/Drift.antt are not empty, and that a premise is needed: runs at beta 0.3, worked out.
-use Rattle.std.specs.Prelude.{ℕ, zero, suc, ◌+◌, ◌*◌, ◌^◌, Bool, true, false, cond, ◌&&◌, List, [], ◌∷◌, ◌++◌, eqb, ltb}
+use Rattle.std.specs.Prelude.{ℕ, zero, suc, ◌+◌, ◌*◌, ◌^◌, Bool, true, false, cond, ◌&&◌, List, [], ◌∷◌, ◌++◌, eqb, ltb, Option, None, Some}
 use Rattle.state.specs.declared.params.Params.{Params}
 use Rattle.state.specs.NetworkModel.{one}
-use Rattle.units.specs.declared.maybe.MaybeBandwidth.TheVariants.{Unset, Set}
 use Rattle.units.specs.declared.time.Moment.{Moment}
-use Rattle.units.specs.declared.maybe.MaybeDuration.TheVariants as Length
-use Rattle.units.specs.declared.maybe.MaybeNumber.{MaybeNumber}
-use Rattle.units.specs.declared.maybe.MaybeNumber.TheVariants as Number
 use Rattle.state.specs.declared.congestion_event.CongestionEvent.{CongestionEvent}
 use Rattle.state.specs.declared.congestion_event.CongestionEventSample.{CongestionEventSample}
 use Rattle.state.specs.Cycle.{fresh_cycle}
@@ -46,8 +42,8 @@ told window probing ended =
       lost = 0;
       ended = ended;
       probing = probing;
-      bandwidth = Unset;
-      rtt = Length.Unset;
+      bandwidth = None;
+      rtt = None;
       state = record { valid = false; applimited = false; acked = 0; inflight = 0 };
     }
 
@@ -55,11 +51,11 @@ told window probing ended =
 abbrev heard : (n lost rate : ℕ) → CongestionEventSample
 heard n lost rate =
     record {
-      bandwidth = Set (record { 0 = rate });
-      send = Unset;
-      ack = Unset;
+      bandwidth = Some (record { 0 = rate });
+      send = None;
+      ack = None;
       applimited = false;
-      rtt = Length.Unset;
+      rtt = None;
       inflight = 0;
       extra = 0;
       state = record { valid = false; applimited = false; acked = 0; inflight = 0 };
@@ -82,15 +78,15 @@ abbrev fresh : State
 fresh = started params (record { 0 = 0 }) moment (fresh_cycle moment)
 
 -- ---- how far the stored number is from the exact one: below it, or above it, by more than so many tenths
-abbrev pub is_below : (tenths : ℕ) → MaybeNumber → Exact → Bool
-is_below t Number.Unset x = false
-is_below t (Number.Set n) unset = false
-is_below t (Number.Set n) (over num exponent k) = ltb (n * 2 ^ exponent * 10 + t * 2 ^ exponent) (num * 10)
+abbrev pub is_below : (tenths : ℕ) → Option ℕ → Exact → Bool
+is_below t None x = false
+is_below t (Some n) unset = false
+is_below t (Some n) (over num exponent k) = ltb (n * 2 ^ exponent * 10 + t * 2 ^ exponent) (num * 10)
 
-abbrev pub is_above : (tenths : ℕ) → MaybeNumber → Exact → Bool
-is_above t Number.Unset x = false
-is_above t (Number.Set n) unset = false
-is_above t (Number.Set n) (over num exponent k) = ltb (num * 10 + t * 2 ^ exponent) (n * 2 ^ exponent * 10)
+abbrev pub is_above : (tenths : ℕ) → Option ℕ → Exact → Bool
+is_above t None x = false
+is_above t (Some n) unset = false
+is_above t (Some n) (over num exponent k) = ltb (num * 10 + t * 2 ^ exponent) (n * 2 ^ exponent * 10)
 
 -- exactly so: num / 2^exponent, after k reductions
 abbrev is_over : (num exponent k : ℕ) → Exact → Bool
@@ -98,9 +94,9 @@ is_over num exponent k unset = false
 is_over num exponent k (over a e c) = eqb a num && eqb e exponent && eqb c k
 
 -- stored is n
-abbrev is_at : ℕ → MaybeNumber → Bool
-is_at n Number.Unset = false
-is_at n (Number.Set m) = eqb n m
+abbrev is_at : ℕ → Option ℕ → Bool
+is_at n None = false
+is_at n (Some m) = eqb n m
 
 abbrev is_unset : Exact → Bool
 is_unset unset = true
@@ -114,7 +110,7 @@ abbrev reductions : Exact → ℕ
 reductions unset = 0
 reductions (over num exponent k) = k
 
-abbrev low : List Call → MaybeNumber
+abbrev low : List Call → Option ℕ
 low calls = inflight_low (run calls fresh)
 
 abbrev exact : List Call → Exact
@@ -182,8 +178,8 @@ drift_examples =
 -- what the theorems say of the loss episode's numbers, after k reductions: under k bytes, 1 / (1 - b) bytes, and 3.34
 abbrev pub FollowsAt : (k stored : ℕ) → Type 0
 FollowsAt k stored =
-    Follows 1 1 usual_parts (Number.Set stored) (over (numerator k) (24 * k) k)
-    × Under 334 (Number.Set stored) (over (numerator k) (24 * k) k)
+    Follows 1 1 usual_parts (Some stored) (over (numerator k) (24 * k) k)
+    × Under 334 (Some stored) (over (numerator k) (24 * k) k)
 
 pub record EpisodeFollows : Type 0 where
   pub first : FollowsAt 1 910

@@ -4,7 +4,7 @@
 --
 -- How to read it. The symbols are those of Drift.antt; crates/units/specs/Outcomes.antt says how a statement speaks of
 -- a contract (`Returned`, `Leaves`), and what the symbols in it are.
-use Rattle.std.specs.Prelude.{ℕ, ◌^◌, false, List, [], ◌∷◌, ◌≡◌, Float}
+use Rattle.std.specs.Prelude.{ℕ, ◌^◌, false, List, [], ◌∷◌, ◌≡◌, Float, Option}
 use Rattle.std.specs.Float.Ieee.Exact.{HasValue}
 use Rattle.numbers.specs.Scaling.{complement, parts_of}
 use Rattle.units.specs.Outcomes.{Returned, Leaves}
@@ -19,7 +19,6 @@ use Rattle.phases.proofs.phases as phases
 use Rattle.drift.specs.Calls as Calls
 use Rattle.drift.specs.Calls.{Call, Other, State}
 use Rattle.drift.specs.Exact.{Effect, unset, inflight_effect, bandwidth_effect, exact_run}
-use Rattle.units.specs.declared.maybe.MaybeNumber.{MaybeNumber}
 use Rattle.drift.specs.Drift.{inflight_low, bandwidth_low, Follows, Along, HasBeta, IsSmall, IsAny, IsBeta, usual_beta, usual_parts, Under}
 
 -- ---- a call by the public function of its name: the state s becomes t. Each line names the function, its arguments,
@@ -139,7 +138,7 @@ Ran (c ∷ calls) s t =
     × Ran calls u t
 
 -- ---- the theorems of specs/Drift.antt, of the states that the public functions return
-abbrev pub CodeDrift : (u v : ℕ) → (Call → State → Effect) → (State → MaybeNumber) → (Call → Type 0) → Type 0
+abbrev pub CodeDrift : (u v : ℕ) → (Call → State → Effect) → (State → Option ℕ) → (Call → Type 0) → Type 0
 CodeDrift u v effect low P =
     (beta : Float) → IsBeta beta →
     let parts = parts_of (complement beta) in
@@ -158,7 +157,7 @@ abbrev pub CodeBandwidthDrift : Type 0
 CodeBandwidthDrift = CodeDrift 4097 8192 bandwidth_effect bandwidth_low IsAny
 
 -- at beta 0.3: under 3.34 bytes, and under 1.67 bits per second
-abbrev pub CodeUsualDrift : (hundredths : ℕ) → (Call → State → Effect) → (State → MaybeNumber) → (Call → Type 0)
+abbrev pub CodeUsualDrift : (hundredths : ℕ) → (Call → State → Effect) → (State → Option ℕ) → (Call → Type 0)
     → Type 0
 CodeUsualDrift h effect low P =
     (p : Params) (rtt : Duration) (time : Moment) (calls : List Call) (s t : State) →

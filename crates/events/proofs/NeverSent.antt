@@ -1,4 +1,5 @@
 -- Which lists give refusal 10 (specs/NeverSent.antt), and that the greatest number decides. Assumes nothing.
+use Rattle.std.specs.Prelude.{Option, None, Some}
 use Prim.Native.Nat.{ℕ, max, ◌+◌, ◌≤◌}
 use mathlib.Core.Bool.{Bool, true, false, not, ◌||◌, or-true, or-false, or_assoc}
 use mathlib.Core.List.{List, [], ◌∷◌}
@@ -7,8 +8,6 @@ use native.Mathlib.Nat.{le_refl}
 use native.Mathlib.Omega.{arith}
 use lib.Dec.{ltb}
 use borrow.Author.Tests.{ltb-false, lt-ltb, le-ltb, not-false}
-use Rattle.units.specs.declared.maybe.MaybeNumber.{MaybeNumber}
-use Rattle.units.specs.declared.maybe.MaybeNumber.TheVariants as Number
 use Rattle.filters.specs.Greatest.{NoneAbove}
 use Rattle.filters.specs.RoundTripCounter.{most_of, greatest, listed}
 use Rattle.filters.proofs.Greatest.{listed_back}
@@ -32,9 +31,9 @@ from_first m n [] = or-false (never_sent m n)
 from_first m n (k ∷ l) = sym (or_assoc (never_sent m n) (never_sent m k) (is_unsent m l)) ∙ ap (λ (t : Bool). t || is_unsent m l) (larger m n k) ∙ from_first m (max n k) l
 
 -- the test of the greatest
-abbrev of_greatest : NetworkModel → MaybeNumber → Bool
-of_greatest m Number.Unset = false
-of_greatest m (Number.Set n) = never_sent m n
+abbrev of_greatest : NetworkModel → Option ℕ → Bool
+of_greatest m None = false
+of_greatest m (Some n) = never_sent m n
 
 by_greatest : (m : NetworkModel) (l : List ℕ) → is_unsent m l ≡ of_greatest m (greatest l)
 unfolding is_unsent

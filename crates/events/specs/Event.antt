@@ -7,7 +7,8 @@
 -- `rounds_acked`). Sample: the event itself, the filters and the round's sums (`event_after`, `maxbw_next`,
 -- `minrtt_after`, `round_next`). Bounds: the lower ones, then the latest (`adapt_lower_bounds`, `latest_after`).
 -- Settle: all is stored (`model_after`). Last on the page three events are worked out, step by step.
-use Rattle.std.specs.Prelude.{ℕ, min, max, ◌+◌, ◌-◌, ◌*◌, ◌^◌, Bool, true, false, cond, not, ◌&&◌, ◌||◌, List, [], ◌∷◌, ltb, leb, eqb, Float}
+use Rattle.std.specs.Prelude.{ℕ, min, max, ◌+◌, ◌-◌, ◌*◌, ◌^◌, Bool, true, false, cond, not, ◌&&◌, ◌||◌, List, [], ◌∷◌, ltb, leb, eqb, Float, Option, None, Some}
+use Rattle.units.specs.declared.time.Duration.{Duration}
 use Rattle.std.specs.Float.{binary32}
 use Rattle.std.specs.Float.Ieee.{of_bits}
 use Rattle.units.specs.declared.bandwidth.Bandwidth.{Bandwidth}
@@ -25,14 +26,10 @@ use Rattle.state.specs.declared.network_model.NetworkModel.{NetworkModel}
 use Rattle.state.specs.declared.params.Params.{Params}
 use Rattle.state.specs.declared.parts.Latest.{Latest}
 use Rattle.state.specs.declared.parts.Lower.{Lower}
-use Rattle.units.specs.declared.maybe.MaybeBandwidth.{MaybeBandwidth}
-use Rattle.units.specs.declared.maybe.MaybeBandwidth.TheVariants.{Unset, Set}
 use Rattle.state.specs.declared.parts.Round.{Round}
 use Rattle.state.specs.declared.refusals.Rows.{Rows}
 use Rattle.state.specs.NetworkModel.{model_ok, with_rounds, with_round, with_begun, one, start_model, given_rows}
 use Rattle.state.specs.Params.{params_ok}
-use Rattle.units.specs.declared.maybe.MaybeDuration.{MaybeDuration}
-use Rattle.units.specs.declared.maybe.MaybeDuration.TheVariants as Length
 use Rattle.state.specs.declared.congestion_event.CongestionEvent.{CongestionEvent}
 use Rattle.state.specs.declared.congestion_event.CongestionEventSample.{CongestionEventSample}
 use Rattle.state.specs.declared.congestion_event.SendTimeState.{SendTimeState}
@@ -60,23 +57,23 @@ abbrev pub is_changed : NetworkModel → CongestionEventSample → Bool
 is_changed m s = not (eqb m.totals.acked s.totals.acked)
 
 -- "max filter (only if total acked changed, and only if not app-limited or the sample is above the present maximum)"
-abbrev pub maxbw_after : MaxBandwidthFilter → MaybeBandwidth → Bool → Bool → MaxBandwidthFilter
-maxbw_after f Unset changed limited = f
-maxbw_after f (Set b) changed limited = cond (changed && (not limited || ltb (max_get f).0 b.0)) (max_update f b) f
+abbrev pub maxbw_after : MaxBandwidthFilter → Option Bandwidth → Bool → Bool → MaxBandwidthFilter
+maxbw_after f None changed limited = f
+maxbw_after f (Some b) changed limited = cond (changed && (not limited || ltb (max_get f).0 b.0)) (max_update f b) f
 
 -- the record takes the sample if total acked changed
-abbrev pub bandwidth_after : MaybeBandwidth → MaybeBandwidth → Bool → MaybeBandwidth
-bandwidth_after was Unset changed = was
-bandwidth_after was (Set b) changed = cond changed (Set b) was
+abbrev pub bandwidth_after : Option Bandwidth → Option Bandwidth → Bool → Option Bandwidth
+bandwidth_after was None changed = was
+bandwidth_after was (Some b) changed = cond changed (Some b) was
 
 -- "min RTT"; the record takes the sample
-abbrev pub minrtt_after : MinRttFilter → MaybeDuration → Moment → MinRttFilter
-minrtt_after f Length.Unset now = f
-minrtt_after f (Length.Set d) now = min_update f d now
+abbrev pub minrtt_after : MinRttFilter → Option Duration → Moment → MinRttFilter
+minrtt_after f None now = f
+minrtt_after f (Some d) now = min_update f d now
 
-abbrev pub rtt_after : MaybeDuration → MaybeDuration → MaybeDuration
-rtt_after was Length.Unset = was
-rtt_after was (Length.Set d) = Length.Set d
+abbrev pub rtt_after : Option Duration → Option Duration → Option Duration
+rtt_after was None = was
+rtt_after was (Some d) = Some d
 
 -- "loss sums (event count +1 if bytes lost > 0); delivered maximum; minimum inflight"
 unfoldable pub delivered_by : SendTimeState → ℕ → ℕ → ℕ
@@ -93,9 +90,9 @@ round_after r lost delivered inflight =
     }
 
 -- "raise the latest bandwidth and inflight"
-abbrev pub raised_bandwidth : Bandwidth → MaybeBandwidth → Bandwidth
-raised_bandwidth was Unset = was
-raised_bandwidth was (Set b) = larger_of was b
+abbrev pub raised_bandwidth : Bandwidth → Option Bandwidth → Bandwidth
+raised_bandwidth was None = was
+raised_bandwidth was (Some b) = larger_of was b
 
 unfoldable pub latest_raised : Latest → CongestionEventSample → Latest
 latest_raised l s =
@@ -109,9 +106,9 @@ abbrev pub acts : Bool → Bool → ℕ → Bool
 acts ended probing lost = ended && not probing && ltb 0 lost
 
 -- "unset, it takes the maximum"
-abbrev pub seed_of : MaybeBandwidth → Bandwidth → Bandwidth
-seed_of Unset most = most
-seed_of (Set lo) most = lo
+abbrev pub seed_of : Option Bandwidth → Bandwidth → Bandwidth
+seed_of None most = most
+seed_of (Some lo) most = lo
 
 -- "inflight_lo: unset, it takes the prior window"
 abbrev pub start_of : ℕ → ℕ → ℕ
@@ -121,7 +118,7 @@ start_of lo window = cond (eqb lo (2 ^ 64 - 1)) window lo
 unfoldable pub lower_reduced : Lower → Bandwidth → Latest → ℕ → Float → Lower
 lower_reduced l most latest window b =
     record {
-      bandwidth = Set (larger_of latest.bandwidth (times_f32 (seed_of l.bandwidth most) b));
+      bandwidth = Some (larger_of latest.bandwidth (times_f32 (seed_of l.bandwidth most) b));
       inflight = max latest.inflight (scaled (start_of l.inflight window) b);
     }
 
@@ -272,8 +269,8 @@ told n =
       lost = 0;
       ended = false;
       probing = false;
-      bandwidth = Unset;
-      rtt = Length.Unset;
+      bandwidth = None;
+      rtt = None;
       state = record { valid = false; applimited = false; acked = 0; inflight = 0 };
     }
 
@@ -281,11 +278,11 @@ told n =
 abbrev pub heard : (n : ℕ) → CongestionEventSample
 heard n =
     record {
-      bandwidth = Set (record { 0 = 80_000 });
-      send = Unset;
-      ack = Unset;
+      bandwidth = Some (record { 0 = 80_000 });
+      send = None;
+      ack = None;
       applimited = false;
-      rtt = Length.Set (record { 0 = 100_000_000 });
+      rtt = Some (record { 0 = 100_000_000 });
       inflight = 400;
       extra = 0;
       state = record { valid = true; applimited = false; acked = n * 1000 - 1000; inflight = 1300 };

@@ -1,10 +1,9 @@
 -- document 01, "Marked examples": 8, about a reduction.
-use Rattle.std.specs.Prelude.{◌-◌, ◌^◌, Bool, true, List, [], ◌∷◌, eqb}
+use Rattle.std.specs.Prelude.{◌-◌, ◌^◌, Bool, true, List, [], ◌∷◌, eqb, None}
 use Rattle.std.specs.Float.{binary32}
 use Rattle.std.specs.Float.Ieee.{of_bits}
 use Rattle.units.specs.declared.bandwidth.Bandwidth.{Bandwidth}
 use Rattle.state.specs.declared.parts.Lower.{Lower}
-use Rattle.units.specs.declared.maybe.MaybeBandwidth.TheVariants.{Unset}
 use Rattle.events.specs.Event.{lower_after}
 
 abbrev none : Bandwidth
@@ -15,7 +14,7 @@ abbrev cut : Lower → Lower
 cut l = lower_after l true none (record { bandwidth = none; inflight = 0 }) 1300 (of_bits binary32 0x3e99_999a)
 
 abbrev unset : Lower
-unset = record { bandwidth = Unset; inflight = 2 ^ 64 - 1 }
+unset = record { bandwidth = None; inflight = 2 ^ 64 - 1 }
 
 unfoldable pub event_examples : List Bool
 event_examples =

@@ -18,7 +18,7 @@ use state::parts::{Latest, Lower, Rates, Round};
 use state::refusals::{Rows, first_row, refusal};
 use state::{NetworkModel, Params};
 use units::counter::FULL;
-use units::{Bandwidth, MaybeBandwidth, MaybeDuration, MaybeNumber, Moment, Reply};
+use units::{Bandwidth, Duration, Moment, Reply};
 
 #[derive(Clone, Copy)]
 pub struct Started {
@@ -76,7 +76,7 @@ pub fn start_tested(
     params: Params,
     event: CongestionEvent,
     sample: CongestionEventSample,
-    most: MaybeNumber,
+    most: Option<u64>,
 ) -> Happened
     requires { fine ≡ model_ok model }
     ensures row { result.row ≡ event_number model params event sample (listed most) }
@@ -112,7 +112,7 @@ fn event_reply(
     params: Params,
     event: CongestionEvent,
     sample: CongestionEventSample,
-    most: MaybeNumber,
+    most: Option<u64>,
 ) -> Reply
     requires { fine ≡ model_ok model }
     ensures reply { number result ≡ event_number model params event sample (listed most) }
@@ -131,7 +131,7 @@ fn event_row(
     params: Params,
     event: CongestionEvent,
     sample: CongestionEventSample,
-    most: MaybeNumber,
+    most: Option<u64>,
 ) -> u64
     requires { fine ≡ model_ok model }
     ensures { result ≡ event_number model params event sample (listed most) }
@@ -145,7 +145,7 @@ fn event_rows(
     params: Params,
     event: CongestionEvent,
     sample: CongestionEventSample,
-    most: MaybeNumber,
+    most: Option<u64>,
 ) -> Rows
     requires { fine ≡ model_ok model }
     ensures { result ≡ event_rows model params event sample (listed most) }
@@ -169,17 +169,17 @@ fn is_lower(model: NetworkModel, sample: CongestionEventSample) -> bool
 }
 
 // Whether an acked number was never sent: one above the last sent, or any before the first send.
-fn is_unsent(model: NetworkModel, most: MaybeNumber) -> bool
+fn is_unsent(model: NetworkModel, most: Option<u64>) -> bool
     ensures { result ≡ is_unsent model (listed most) }
 {
-    let MaybeNumber::Set(number) = most else {
+    let Some(number) = most else {
         return false;
     };
     !model.begun | (model.rounds.sent < number)
 }
 
 // Whether the event would raise a counter that is full.
-fn is_full(model: NetworkModel, sample: CongestionEventSample, most: MaybeNumber) -> bool
+fn is_full(model: NetworkModel, sample: CongestionEventSample, most: Option<u64>) -> bool
     ensures { result ≡ is_full model sample (listed most) }
 {
     let rounds = model.rounds;
@@ -333,7 +333,7 @@ fn adapt_lower_bounds(
         let seed = seed_of(lo, best);
         let slower = fastest.max(seed.mul_f32(b));
         return Lower {
-            bandwidth: MaybeBandwidth::Set(slower),
+            bandwidth: Some(slower),
             inflight: larger(
                 latest.inflight,
                 numbers::scale(start_of(lower.inflight, after.window), b),
@@ -364,26 +364,26 @@ fn is_changed(model: NetworkModel, sample: CongestionEventSample) -> bool
     model.totals.acked != sample.totals.acked
 }
 
-fn bandwidth_after(was: MaybeBandwidth, sample: MaybeBandwidth, changed: bool) -> MaybeBandwidth
+fn bandwidth_after(
+    was: Option<Bandwidth>,
+    sample: Option<Bandwidth>,
+    changed: bool,
+) -> Option<Bandwidth>
     ensures { result ≡ bandwidth_after was sample changed }
 {
-    let MaybeBandwidth::Set(bandwidth) = sample else {
+    let Some(bandwidth) = sample else {
         return was;
     };
-    if changed {
-        MaybeBandwidth::Set(bandwidth)
-    } else {
-        was
-    }
+    if changed { Some(bandwidth) } else { was }
 }
 
-fn rtt_after(was: MaybeDuration, sample: MaybeDuration) -> MaybeDuration
+fn rtt_after(was: Option<Duration>, sample: Option<Duration>) -> Option<Duration>
     ensures { result ≡ rtt_after was sample }
 {
-    let MaybeDuration::Set(rtt) = sample else {
+    let Some(rtt) = sample else {
         return was;
     };
-    MaybeDuration::Set(rtt)
+    Some(rtt)
 }
 
 fn state_after(was: SendTimeState, new: SendTimeState) -> SendTimeState
@@ -394,13 +394,13 @@ fn state_after(was: SendTimeState, new: SendTimeState) -> SendTimeState
 
 fn maxbw_after(
     filter: MaxBandwidthFilter,
-    sample: MaybeBandwidth,
+    sample: Option<Bandwidth>,
     changed: bool,
     limited: bool,
 ) -> MaxBandwidthFilter
     ensures { result ≡ maxbw_after filter sample changed limited }
 {
-    let MaybeBandwidth::Set(bandwidth) = sample else {
+    let Some(bandwidth) = sample else {
         return filter;
     };
     let most = filter.get();
@@ -411,10 +411,10 @@ fn maxbw_after(
     }
 }
 
-fn minrtt_after(filter: MinRttFilter, sample: MaybeDuration, now: Moment) -> MinRttFilter
+fn minrtt_after(filter: MinRttFilter, sample: Option<Duration>, now: Moment) -> MinRttFilter
     ensures { result ≡ minrtt_after filter sample now }
 {
-    let MaybeDuration::Set(rtt) = sample else {
+    let Some(rtt) = sample else {
         return filter;
     };
     filter.update(rtt, now)
@@ -468,20 +468,20 @@ fn latest_raised(latest: Latest, sample: CongestionEventSample) -> Latest
     }
 }
 
-fn raised_bandwidth(was: Bandwidth, sample: MaybeBandwidth) -> Bandwidth
+fn raised_bandwidth(was: Bandwidth, sample: Option<Bandwidth>) -> Bandwidth
     ensures { result ≡ raised_bandwidth was sample }
 {
-    let MaybeBandwidth::Set(bandwidth) = sample else {
+    let Some(bandwidth) = sample else {
         return was;
     };
     was.max(bandwidth)
 }
 
 // bandwidth_lo, or the maximum where it is unset.
-fn seed_of(lo: MaybeBandwidth, most: Bandwidth) -> Bandwidth
+fn seed_of(lo: Option<Bandwidth>, most: Bandwidth) -> Bandwidth
     ensures { result ≡ seed_of lo most }
 {
-    let MaybeBandwidth::Set(bandwidth) = lo else {
+    let Some(bandwidth) = lo else {
         return most;
     };
     bandwidth

@@ -20,7 +20,7 @@ use Rattle.filters.proofs.max_bandwidth_filter.MaxBandwidthFilter as max-bandwid
 use Rattle.filters.proofs.min_rtt_filter.MinRttFilter as min-rtt-filter-minrttfilter
 use Rattle.filters.proofs.round_trip_counter.RoundTripCounter as round-trip-counter-roundtripcounter
 use Rattle.filters.proofs.round_trip_counter.greatest_of as round-trip-counter-greatest-of
-use Rattle.filters.proofs.windowed_filter.Held as windowed-filter-held
+use Rattle.filters.proofs.windowed_filter.step as windowed-filter-step
 use Rattle.filters.proofs.windowed_filter.Reason as windowed-filter-reason
 use Rattle.filters.proofs.windowed_filter.WindowedFilter as windowed-filter-windowedfilter
 
@@ -114,8 +114,8 @@ one_windowed_filter_windowedfilter_get_third_best κ a x y s t p q = p ∙ sym q
 pub one_windowed_filter_windowedfilter_update : OneReply windowed-filter-windowedfilter.update.Reads.Learnt
 one_windowed_filter_windowedfilter_update κ a x y s t p q = updated (number_injective _ _ _ (no_earlier a.0 a.1.1.0) p.0 q.0) (p.1.0 ∙ sym q.1.0) (p.1.1 ∙ sym q.1.1)
 
-pub one_windowed_filter_held_updated : OneReply windowed-filter-held.updated.Reads.Learnt
-one_windowed_filter_held_updated κ a x y s t p q = stepped (p.0 ∙ sym q.0) (p.1 ∙ sym q.1)
+pub one_windowed_filter_step : OneReply windowed-filter-step.Reads.Learnt
+one_windowed_filter_step κ a x y s t p q = stepped (p.0 ∙ sym q.0) (p.1 ∙ sym q.1)
 
 pub one_windowed_filter_reason_number : OneReply windowed-filter-reason.number.Reads.Learnt
 one_windowed_filter_reason_number κ a x y s t p q = p ∙ sym q

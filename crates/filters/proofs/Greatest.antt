@@ -1,4 +1,5 @@
 -- The greatest number of a list, and that the end of a round depends on a list by that alone. Assumes nothing.
+use Rattle.std.specs.Prelude.{Option, None, Some}
 use Prim.Native.Nat.{ℕ, suc, max, ◌+◌, ◌-◌, ◌≤◌, ◌<◌}
 use mathlib.Core.Bool.{Bool, true, false}
 use mathlib.Core.List.{List, [], ◌∷◌, ◌++◌}
@@ -10,8 +11,6 @@ use lib.Dec.{leb}
 use lib.ListN.{length, get_or, take, drop, take-append-drop, length-drop, drop_of_length-le}
 use lib.Seq.{drop-cons, take_all}
 use borrow.Author.Tests.{leb-true, leb-false}
-use Rattle.units.specs.declared.maybe.MaybeNumber.{MaybeNumber}
-use Rattle.units.specs.declared.maybe.MaybeNumber.TheVariants as Number
 use Rattle.filters.specs.declared.round_trip_counter.RoundTripCounter.{RoundTripCounter}
 use Rattle.filters.specs.RoundTripCounter.{most_of, greatest, listed, is_passed_by, ends_round, rounds_full, rounds_number, rounds_ended, rounds_acked}
 use Rattle.filters.specs.Greatest.{Has, NoneAbove, RisesFrom, Greatest}
@@ -25,7 +24,7 @@ pub over : (l : List ℕ) (i n : ℕ) → length l ≤ i → most_of n (drop i l
 over l i n h = ap (most_of n) (drop_of_length-le l h)
 
 -- ---- from the first, and by halves
-pub none : (l : List ℕ) → length l ≡ 0 → Number.Unset ≡ greatest l
+pub none : (l : List ℕ) → length l ≡ 0 → None ≡ greatest l
 none [] h = refl
 none (n ∷ l) h = absurd (omega (arith, h))
 
@@ -36,10 +35,10 @@ part_from i l = take (length l - i) (drop i l)
 part_from_lem : (i : ℕ) (l : List ℕ) → part_from i l ≡ drop i l
 part_from_lem i l = take_all (length l - i) (drop i l) (omega (arith, length-drop i l))
 
-pub some : (l : List ℕ) → (length l ≡ 0 → ⊥) → Number.Set (most_of (get_or l 0 0) (part_from 1 l)) ≡ greatest l
+pub some : (l : List ℕ) → (length l ≡ 0 → ⊥) → Some (most_of (get_or l 0 0) (part_from 1 l)) ≡ greatest l
 some l h = rw (part_from_lem 1 l) (go l h)
   where
-    go : (l : List ℕ) → (length l ≡ 0 → ⊥) → Number.Set (most_of (get_or l 0 0) (drop 1 l)) ≡ greatest l
+    go : (l : List ℕ) → (length l ≡ 0 → ⊥) → Some (most_of (get_or l 0 0) (drop 1 l)) ≡ greatest l
     go [] h = absurd (h refl)
     go (n ∷ l) h = refl
 
@@ -84,15 +83,15 @@ greatest_is =
     record {
       none = refl;
       some = λ n l. (most_of n l, refl, has n l, (from_first n l, none_above n l));
-      last = λ n l h. ap Number.Set (at_last n l h);
+      last = λ n l h. ap Some (at_last n l h);
     }
 
 -- ---- a list of the greatest alone has it
-pub listed_back : (g : MaybeNumber) → greatest (listed g) ≡ g
-listed_back Number.Unset = refl
-listed_back (Number.Set n) = refl
+pub listed_back : (g : Option ℕ) → greatest (listed g) ≡ g
+listed_back None = refl
+listed_back (Some n) = refl
 
-pub alone : {g : MaybeNumber} (l : List ℕ) → g ≡ greatest l → greatest (listed g) ≡ greatest l
+pub alone : {g : Option ℕ} (l : List ℕ) → g ≡ greatest l → greatest (listed g) ≡ greatest l
 alone {g} l e = listed_back g ∙ e
 
 -- ---- two lists of the same greatest number do the same

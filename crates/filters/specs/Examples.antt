@@ -1,13 +1,10 @@
 -- document 01, "Marked examples": 9, about the windowed filter, and 10, about the max bandwidth filter. All twelve, in
 -- one list with one proof, are in crates/laws/specs/Examples.antt. After them, why a windowed filter's estimates moved,
 -- and which lists of acked numbers end a round.
-use Rattle.std.specs.Prelude.{ℕ, ◌-◌, ◌^◌, Bool, true, false, not, ◌&&◌, List, [], ◌∷◌, ◌++◌, eqb}
-use Rattle.units.specs.declared.maybe.MaybeNumber.{MaybeNumber}
-use Rattle.units.specs.declared.maybe.MaybeNumber.TheVariants as Number
+use Rattle.std.specs.Prelude.{ℕ, ◌-◌, ◌^◌, Bool, true, false, not, ◌&&◌, List, [], ◌∷◌, ◌++◌, eqb, Option, None, Some}
+use Rattle.filters.specs.declared.windowed_filter.Estimates.{Estimates}
 use Rattle.filters.specs.declared.round_trip_counter.RoundTripCounter.{RoundTripCounter}
 use Rattle.filters.specs.declared.max_bandwidth_filter.MaxBandwidthFilter.{MaxBandwidthFilter}
-use Rattle.filters.specs.declared.windowed_filter.Held.{Held}
-use Rattle.filters.specs.declared.windowed_filter.Held.TheVariants.{Unset, Set}
 use Rattle.filters.specs.declared.windowed_filter.Sample.{Sample}
 use Rattle.filters.specs.declared.windowed_filter.WindowedFilter.{WindowedFilter}
 use Rattle.filters.specs.MaxBandwidthFilter.{max_advance}
@@ -22,9 +19,9 @@ same [] (b ∷ k) = false
 same (a ∷ l) [] = false
 
 -- the samples, each with its time
-abbrev held : Held → List ℕ
-held Unset = []
-held (Set e) =
+abbrev held : Option Estimates → List ℕ
+held None = []
+held (Some e) =
     e.best.sample
     ∷ e.best.time
     ∷ e.second.sample
@@ -68,9 +65,9 @@ reasons f (x ∷ l) =
     reason_number (windowed_reason f x.sample x.time) ∷ reasons (windowed_update f x.sample x.time) l
 
 -- what step 2 and the later steps name, each by itself
-abbrev named : Held → Sample → ℕ → List ℕ
-named Unset new w = []
-named (Set e) new w = reason_number (raised_reason e new) ∷ reason_number (later_reason e new w) ∷ []
+abbrev named : Option Estimates → Sample → ℕ → List ℕ
+named None new w = []
+named (Some e) new w = reason_number (raised_reason e new) ∷ reason_number (later_reason e new w) ∷ []
 
 -- three samples and a fourth, from an empty filter: the four reasons, then the two names at the fourth
 abbrev fourth : (w : ℕ) (a b c new : Sample) → List ℕ
@@ -106,14 +103,14 @@ reason_examples =
 -- ---- document 02, request d: the greatest number acked ends a round, or none does. The round's end is 5, and 7 was
 -- sent last
 abbrev round : RoundTripCounter
-round = record { count = 1; sent = 7; end = Number.Set 5 }
+round = record { count = 1; sent = 7; end = Some 5 }
 
 abbrev ends : List ℕ → Bool
 ends acked = rounds_ended round acked
 
-abbrev end_is : MaybeNumber → ℕ → Bool
-end_is Number.Unset n = false
-end_is (Number.Set k) n = eqb k n
+abbrev end_is : Option ℕ → ℕ → Bool
+end_is None n = false
+end_is (Some k) n = eqb k n
 
 unfoldable pub round_examples : List Bool
 round_examples =

@@ -1,7 +1,6 @@
 -- What the greatest number of a list is (`greatest` in RoundTripCounter.antt), and that in a list that rises it is the
 -- last: there the rule is document 01's and the Rust's. Statements only.
-use Rattle.std.specs.Prelude.{ℕ, ◌≤◌, List, [], ◌∷◌, ◌⊎◌, ◌≡◌, length, get_or}
-use Rattle.units.specs.declared.maybe.MaybeNumber.TheVariants as Number
+use Rattle.std.specs.Prelude.{ℕ, ◌≤◌, List, [], ◌∷◌, ◌⊎◌, ◌≡◌, length, get_or, None, Some}
 use Rattle.filters.specs.RoundTripCounter.{greatest}
 
 -- n is one of them
@@ -21,9 +20,9 @@ RisesFrom n (k ∷ l) = (n ≤ k) × RisesFrom k l
 
 pub record Greatest : Type 0 where
   -- "The empty list" has none
-  pub none : greatest [] ≡ Number.Unset
+  pub none : greatest [] ≡ None
   -- any other has one: a number of the list that none of the list is above
   pub some : (n : ℕ) (l : List ℕ) →
-      (most : ℕ) × (greatest (n ∷ l) ≡ Number.Set most) × Has (n ∷ l) most × NoneAbove (n ∷ l) most
+      (most : ℕ) × (greatest (n ∷ l) ≡ Some most) × Has (n ∷ l) most × NoneAbove (n ∷ l) most
   -- in a list that rises it is the last
-  pub last : (n : ℕ) (l : List ℕ) → RisesFrom n l → greatest (n ∷ l) ≡ Number.Set (get_or (n ∷ l) (length l) 0)
+  pub last : (n : ℕ) (l : List ℕ) → RisesFrom n l → greatest (n ∷ l) ≡ Some (get_or (n ∷ l) (length l) 0)

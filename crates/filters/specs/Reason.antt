@@ -3,10 +3,8 @@
 -- later step both act, the later one is named." So the name is that of the step that acted last, whatever the three
 -- estimates then are: they may all be new after step 3 too. All replaced is step 1, raised step 2, promoted step 3,
 -- quarter refresh step 4, half refresh step 5, unchanged none.
-use Rattle.std.specs.Prelude.{ℕ, ◌/◌, cond, ltb}
+use Rattle.std.specs.Prelude.{ℕ, ◌/◌, cond, ltb, Option, None, Some}
 use Rattle.filters.specs.declared.windowed_filter.Estimates.{Estimates}
-use Rattle.filters.specs.declared.windowed_filter.Held.{Held}
-use Rattle.filters.specs.declared.windowed_filter.Held.TheVariants.{Unset, Set}
 use Rattle.filters.specs.declared.windowed_filter.Reason.{Reason}
 use Rattle.filters.specs.declared.windowed_filter.Reason.TheVariants.{AllReplaced, SecondRaised, ThirdRaised, PromotedOnce, PromotedTwice, QuarterRefresh, HalfRefresh, Unchanged}
 use Rattle.filters.specs.declared.windowed_filter.Sample.{Sample}
@@ -46,9 +44,9 @@ aged_reason e new w before =
     cond (is_older e.best w new.time) (shifted_reason e new w) (renewed_reason e new w before)
 
 -- step 1, "empty" too; else the steps after it, 3 to 5 on the estimates that step 2 leaves
-abbrev pub reason_of : Held → Sample → ℕ → Reason
-reason_of Unset new w = AllReplaced
-reason_of (Set e) new w =
+abbrev pub reason_of : Option Estimates → Sample → ℕ → Reason
+reason_of None new w = AllReplaced
+reason_of (Some e) new w =
     cond (is_replaced e new w) AllReplaced (aged_reason (raised e new) new w (raised_reason e new))
 
 -- a refused update leaves the filter unchanged, and says so

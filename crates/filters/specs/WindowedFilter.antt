@@ -1,10 +1,6 @@
 -- The windowed filter: document 01, "Filters and rounds", windowed filter, steps 1 to 5; windowed_filter.rs.
-use Rattle.std.specs.Prelude.{ℕ, ◌-◌, ◌/◌, Bool, false, cond, ◌&&◌, ◌||◌, ltb, eqb}
-use Rattle.units.specs.declared.maybe.MaybeNumber.{MaybeNumber}
-use Rattle.units.specs.declared.maybe.MaybeNumber.TheVariants as Number
+use Rattle.std.specs.Prelude.{ℕ, ◌-◌, ◌/◌, Bool, false, cond, ◌&&◌, ◌||◌, ltb, eqb, Option, None, Some}
 use Rattle.filters.specs.declared.windowed_filter.Estimates.{Estimates}
-use Rattle.filters.specs.declared.windowed_filter.Held.{Held}
-use Rattle.filters.specs.declared.windowed_filter.Held.TheVariants.{Unset, Set}
 use Rattle.filters.specs.declared.windowed_filter.Sample.{Sample}
 use Rattle.filters.specs.declared.windowed_filter.WindowedFilter.{WindowedFilter}
 
@@ -60,35 +56,35 @@ unfoldable pub aged : Estimates → Sample → ℕ → Estimates
 aged e new w = cond (is_older e.best w new.time) (shifted e new w) (renewed e new w)
 
 -- step 1: "Empty, new sample > best, or age of third > window: all three become the new sample"; else steps 2 to 5
-abbrev pub updated : Held → Sample → ℕ → Estimates
-updated Unset new w = all_three new
-updated (Set e) new w = cond (is_replaced e new w) (all_three new) (aged (raised e new) new w)
+abbrev pub updated : Option Estimates → Sample → ℕ → Estimates
+updated None new w = all_three new
+updated (Some e) new w = cond (is_replaced e new w) (all_three new) (aged (raised e new) new w)
 
 -- an empty filter: new, and clear
 abbrev pub windowed_new : ℕ → WindowedFilter
-windowed_new w = record { window = w; held = Unset }
+windowed_new w = record { window = w; held = None }
 
 -- all three are the sample: reset
 unfoldable pub windowed_reset : WindowedFilter → ℕ → ℕ → WindowedFilter
-windowed_reset f s t = record { window = f.window; held = Set (all_three (sample_at s t)) }
+windowed_reset f s t = record { window = f.window; held = Some (all_three (sample_at s t)) }
 
 -- get_best, get_second_best, get_third_best
-abbrev pub best_of : Held → MaybeNumber
-best_of Unset = Number.Unset
-best_of (Set e) = Number.Set e.best.sample
+abbrev pub best_of : Option Estimates → Option ℕ
+best_of None = None
+best_of (Some e) = Some e.best.sample
 
-abbrev pub second_of : Held → MaybeNumber
-second_of Unset = Number.Unset
-second_of (Set e) = Number.Set e.second.sample
+abbrev pub second_of : Option Estimates → Option ℕ
+second_of None = None
+second_of (Some e) = Some e.second.sample
 
-abbrev pub third_of : Held → MaybeNumber
-third_of Unset = Number.Unset
-third_of (Set e) = Number.Set e.third.sample
+abbrev pub third_of : Option Estimates → Option ℕ
+third_of None = None
+third_of (Some e) = Some e.third.sample
 
 -- "Replies and bounds", row 3: "earlier than any of its three stored times"
-abbrev pub is_after : Held → ℕ → Bool
-is_after Unset t = false
-is_after (Set e) t = ltb t e.best.time || ltb t e.second.time || ltb t e.third.time
+abbrev pub is_after : Option Estimates → ℕ → Bool
+is_after None t = false
+is_after (Some e) t = ltb t e.best.time || ltb t e.second.time || ltb t e.third.time
 
 unfoldable pub windowed_number : WindowedFilter → ℕ → ℕ
 windowed_number f t = cond (is_after f.held t) 3 0
@@ -97,4 +93,4 @@ windowed_number f t = cond (is_after f.held t) 3 0
 unfoldable pub windowed_update : WindowedFilter → ℕ → ℕ → WindowedFilter
 windowed_update f s t =
     cond (is_after f.held t) f
-    (record { window = f.window; held = Set (updated f.held (sample_at s t) f.window) })
+    (record { window = f.window; held = Some (updated f.held (sample_at s t) f.window) })

@@ -4,8 +4,8 @@ ghost use Rattle.units.specs.Reply.{number};
 ghost use Rattle.filters.specs.RoundTripCounter.{rounds_new, rounds_sent, rounds_restart, is_past, most_of, greatest, listed, ends_round, rounds_number, rounds_acked, rounds_ended};
 
 use numbers::larger;
+use units::Reply;
 use units::counter::FULL;
-use units::{MaybeNumber, Reply};
 
 // So many numbers are gone through one after the other, without halving them.
 const AT_ONCE: usize = 64;
@@ -14,7 +14,7 @@ const AT_ONCE: usize = 64;
 pub struct RoundTripCounter {
     pub count: u64,
     pub sent: u64,
-    pub end: MaybeNumber,
+    pub end: Option<u64>,
 }
 
 #[derive(Clone, Copy)]
@@ -32,7 +32,7 @@ impl RoundTripCounter {
         RoundTripCounter {
             count: 0,
             sent: 0,
-            end: MaybeNumber::Unset,
+            end: None,
         }
     }
 
@@ -58,7 +58,7 @@ impl RoundTripCounter {
     }
 
     // The same, where the greatest of the acked numbers is known.
-    pub fn on_greatest_acked(self, most: MaybeNumber) -> Acked
+    pub fn on_greatest_acked(self, most: Option<u64>) -> Acked
         ensures reply { number result.reply ≡ rounds_number self (listed most) }
         ensures counter { result.counter ≡ rounds_acked self (listed most) }
         ensures ended { result.ended ≡ rounds_ended self (listed most) }
@@ -81,7 +81,7 @@ impl RoundTripCounter {
         let next = RoundTripCounter {
             count: self.count + 1,
             sent: self.sent,
-            end: MaybeNumber::Set(self.sent),
+            end: Some(self.sent),
         };
         Acked {
             reply: Reply::Done,
@@ -97,39 +97,39 @@ impl RoundTripCounter {
         RoundTripCounter {
             count: self.count,
             sent: self.sent,
-            end: MaybeNumber::Set(self.sent),
+            end: Some(self.sent),
         }
     }
 }
 
 // Whether a packet number lies past the end of the round.
-fn is_past(end: MaybeNumber, packet: u64) -> bool
+fn is_past(end: Option<u64>, packet: u64) -> bool
     ensures { result ≡ is_past end packet }
 {
-    let MaybeNumber::Set(last) = end else {
+    let Some(last) = end else {
         return true;
     };
     last < packet
 }
 
 // Whether there is a number, and it lies past the end: where no end is set, every number does.
-fn is_passed_by(end: MaybeNumber, most: MaybeNumber) -> bool
+fn is_passed_by(end: Option<u64>, most: Option<u64>) -> bool
     ensures { result ≡ ends_round end (listed most) }
 {
-    let MaybeNumber::Set(packet) = most else {
+    let Some(packet) = most else {
         return false;
     };
     is_past(end, packet)
 }
 
 // The greatest of some numbers, if there are any.
-pub fn greatest_of(numbers: &[u64]) -> MaybeNumber
+pub fn greatest_of(numbers: &[u64]) -> Option<u64>
     ensures { result ≡ greatest numbers.now }
 {
     if numbers.len() == 0 {
-        return MaybeNumber::Unset;
+        return None;
     }
-    MaybeNumber::Set(most_of(numbers[0], &numbers[1..]))
+    Some(most_of(numbers[0], &numbers[1..]))
 }
 
 // The greatest of a number and of others; many go by halves. It calls itself so that it is not compiled into the loop of

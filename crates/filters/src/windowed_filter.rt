@@ -5,7 +5,7 @@ ghost use Rattle.filters.specs.declared.windowed_filter.Reason.TheVariants.{AllR
 ghost use Rattle.filters.specs.Reason.{reason_number, raised_reason, shifted_reason, renewed_reason, aged_reason, reason_of, windowed_reason};
 ghost use Rattle.filters.specs.WindowedFilter.{all_three, is_older, lingers, is_after, is_replaced, raised, shifted, renewed, aged, updated, windowed_new, windowed_reset, best_of, second_of, third_of, windowed_number, windowed_update};
 
-use units::{MaybeNumber, Reply};
+use units::Reply;
 
 #[derive(Clone, Copy)]
 pub struct Sample {
@@ -21,15 +21,9 @@ pub struct Estimates {
 }
 
 #[derive(Clone, Copy)]
-pub enum Held {
-    Unset,
-    Set(Estimates),
-}
-
-#[derive(Clone, Copy)]
 pub struct WindowedFilter {
     pub window: u64,
-    pub held: Held,
+    pub held: Option<Estimates>,
 }
 
 // What an update did to the estimates: the step of document 01 that acted last, or none.
@@ -82,10 +76,7 @@ impl WindowedFilter {
     pub fn new(window: u64) -> WindowedFilter
         ensures { result ≡ windowed_new window }
     {
-        WindowedFilter {
-            window,
-            held: Held::Unset,
-        }
+        WindowedFilter { window, held: None }
     }
 
     // The filter whose three estimates are the sample.
@@ -95,7 +86,7 @@ impl WindowedFilter {
         let new = Sample { sample, time };
         WindowedFilter {
             window: self.window,
-            held: Held::Set(Estimates::all(new)),
+            held: Some(Estimates::all(new)),
         }
     }
 
@@ -107,35 +98,35 @@ impl WindowedFilter {
     }
 
     // The best estimate.
-    pub fn get_best(self) -> MaybeNumber
+    pub fn get_best(self) -> Option<u64>
         ensures { result ≡ best_of self.held }
     {
         let held = self.held;
         match held {
-            Held::Unset => MaybeNumber::Unset,
-            Held::Set(e) => MaybeNumber::Set(e.best.sample),
+            None => None,
+            Some(e) => Some(e.best.sample),
         }
     }
 
     // The second best estimate.
-    pub fn get_second_best(self) -> MaybeNumber
+    pub fn get_second_best(self) -> Option<u64>
         ensures { result ≡ second_of self.held }
     {
         let held = self.held;
         match held {
-            Held::Unset => MaybeNumber::Unset,
-            Held::Set(e) => MaybeNumber::Set(e.second.sample),
+            None => None,
+            Some(e) => Some(e.second.sample),
         }
     }
 
     // The third best estimate.
-    pub fn get_third_best(self) -> MaybeNumber
+    pub fn get_third_best(self) -> Option<u64>
         ensures { result ≡ third_of self.held }
     {
         let held = self.held;
         match held {
-            Held::Unset => MaybeNumber::Unset,
-            Held::Set(e) => MaybeNumber::Set(e.third.sample),
+            None => None,
+            Some(e) => Some(e.third.sample),
         }
     }
 
@@ -146,7 +137,7 @@ impl WindowedFilter {
         ensures reason { result.reason ≡ windowed_reason self sample time }
     {
         let held = self.held;
-        if held.is_after(time) {
+        if is_after(held, time) {
             return Updated {
                 reply: Reply::EarlierMoment,
                 filter: self,
@@ -154,12 +145,12 @@ impl WindowedFilter {
             };
         }
         let new = Sample { sample, time };
-        let stepped = held.updated(new, self.window);
+        let stepped = step(held, new, self.window);
         let estimates = stepped.estimates;
         let reason = stepped.reason;
         let filter = WindowedFilter {
             window: self.window,
-            held: Held::Set(estimates),
+            held: Some(estimates),
         };
         Updated {
             reply: Reply::Done,
@@ -169,30 +160,28 @@ impl WindowedFilter {
     }
 }
 
-impl Held {
-    // Whether one of the stored times is later than the time given.
-    fn is_after(self, time: u64) -> bool
-        ensures { result ≡ is_after self time }
-    {
-        let Held::Set(e) = self else {
-            return false;
-        };
-        (time < e.best.time) | (time < e.second.time) | (time < e.third.time)
-    }
+// Whether one of the stored times is later than the time given.
+fn is_after(held: Option<Estimates>, time: u64) -> bool
+    ensures { result ≡ is_after held time }
+{
+    let Some(e) = held else {
+        return false;
+    };
+    (time < e.best.time) | (time < e.second.time) | (time < e.third.time)
+}
 
-    // Step 1, and where it does not apply, the steps after it.
-    pub fn updated(self, new: Sample, window: u64) -> Stepped
-        ensures estimates { result.estimates ≡ updated self new window }
-        ensures reason { result.reason ≡ reason_of self new window }
-    {
-        let Held::Set(e) = self else {
-            return Stepped::replaced(new);
-        };
-        if e.is_replaced(new, window) {
-            Stepped::replaced(new)
-        } else {
-            e.raised(new).aged(new, window)
-        }
+// Step 1, and where it does not apply, the steps after it.
+pub fn step(held: Option<Estimates>, new: Sample, window: u64) -> Stepped
+    ensures estimates { result.estimates ≡ updated held new window }
+    ensures reason { result.reason ≡ reason_of held new window }
+{
+    let Some(e) = held else {
+        return Stepped::replaced(new);
+    };
+    if e.is_replaced(new, window) {
+        Stepped::replaced(new)
+    } else {
+        e.raised(new).aged(new, window)
     }
 }
 

@@ -12,7 +12,7 @@ use state::bounds::bytes_ok;
 use state::cycle::Slope;
 use state::faults::{WINDOW, unless};
 use state::refusals::{Rows, or_short, refusal};
-use units::{MaybeNumber, Reply};
+use units::Reply;
 use words::put_words;
 
 // The next rounds and probe_up_bytes, as two words of the output: 1 for rounds over 30, 2.1 at
@@ -56,7 +56,7 @@ fn slope_words(rounds: u64, window: u64) -> [u64; 2]
 {
     let slope = Slope {
         rounds,
-        bytes: MaybeNumber::Unset,
+        bytes: None,
         acked: 0,
         applimited: false,
     };
@@ -66,11 +66,11 @@ fn slope_words(rounds: u64, window: u64) -> [u64; 2]
 }
 
 // A byte count; 0 where there is none.
-fn count_in(bytes: MaybeNumber) -> u64
+fn count_in(bytes: Option<u64>) -> u64
     ensures { result ≡ count_in bytes }
 {
     match bytes {
-        MaybeNumber::Unset => 0,
-        MaybeNumber::Set(count) => count,
+        None => 0,
+        Some(count) => count,
     }
 }

@@ -1,14 +1,12 @@
 -- document 01, "Marked examples": 12, about a fresh model.
-use Rattle.std.specs.Prelude.{ℕ, Bool, true, false, List, [], ◌∷◌, eqb}
+use Rattle.std.specs.Prelude.{ℕ, Bool, true, false, List, [], ◌∷◌, eqb, None}
 use Rattle.std.specs.Float.{binary32}
 use Rattle.std.specs.Float.Ieee.{of_bits}
 use Rattle.filters.specs.MaxBandwidthFilter.{max_get}
 use Rattle.state.specs.Answers.{settled}
 use Rattle.state.specs.declared.network_model.NetworkModel.{NetworkModel}
 use Rattle.state.specs.declared.params.Params.{Params}
-use Rattle.units.specs.declared.maybe.MaybeBandwidth.TheVariants.{Unset}
 use Rattle.state.specs.NetworkModel.{start_number, start_model, one}
-use Rattle.units.specs.declared.maybe.MaybeDuration.TheVariants as Length
 use Rattle.state.specs.declared.congestion_event.CongestionEvent.{CongestionEvent}
 use Rattle.judge.specs.Judge.{has_grown, growth_full, judged_number}
 
@@ -44,8 +42,8 @@ idle =
       lost = 0;
       ended = false;
       probing = false;
-      bandwidth = Unset;
-      rtt = Length.Unset;
+      bandwidth = None;
+      rtt = None;
       state = record { valid = false; applimited = false; acked = 0; inflight = 0 };
     }
 

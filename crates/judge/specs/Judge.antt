@@ -1,6 +1,6 @@
 -- The calls that judge the round, by an event's record or by the parameters: network_model.rs, with document 01's
 -- refusals. For each, the number of its reply, the model that it leaves and what it answers.
-use Rattle.std.specs.Prelude.{ℕ, max, ◌+◌, ◌*◌, Bool, true, false, cond, not, ◌&&◌, ◌||◌, [], ◌∷◌, ltb, leb, Float}
+use Rattle.std.specs.Prelude.{ℕ, max, ◌+◌, ◌*◌, Bool, true, false, cond, not, ◌&&◌, ◌||◌, [], ◌∷◌, ltb, leb, Float, Option, None, Some}
 use Rattle.units.specs.declared.bandwidth.Bandwidth.{Bandwidth}
 use Rattle.filters.specs.declared.min_rtt_filter.MinRttFilter.{MinRttFilter}
 use Rattle.units.specs.declared.time.Duration.{Duration}
@@ -17,8 +17,6 @@ use Rattle.state.specs.declared.parts.Round.{Round}
 use Rattle.state.specs.declared.refusals.Rows.{Rows}
 use Rattle.state.specs.Bounds.{all, gain_ok}
 use Rattle.state.specs.NetworkModel.{one, bdp_of, with_minrtt, with_growth, judged_rows}
-use Rattle.units.specs.declared.maybe.MaybeDuration.{MaybeDuration}
-use Rattle.units.specs.declared.maybe.MaybeDuration.TheVariants as Length
 use Rattle.state.specs.declared.congestion_event.CongestionEvent.{CongestionEvent}
 use Rattle.state.specs.declared.congestion_event.SendTimeState.{SendTimeState}
 use Rattle.state.specs.CongestionEvent.{event_ok}
@@ -29,19 +27,19 @@ judged_number m p e rises = first_of (judged_rows m p (event_ok e) rises)
 
 -- ---- maybe_expire_min_rtt: "Expiry needs a sample and a moment not earlier than the stored one plus the period; the
 -- sample is then forced in"
-abbrev pub is_given : MaybeDuration → Bool
-is_given Length.Unset = false
-is_given (Length.Set d) = true
+abbrev pub is_given : Option Duration → Bool
+is_given None = false
+is_given (Some d) = true
 
 unfoldable pub is_due : Moment → MinRttFilter → Duration → Bool
 is_due now f period = not (is_before now (plus f.timestamp period))
 
-abbrev pub is_expired : MaybeDuration → Moment → MinRttFilter → Duration → Bool
+abbrev pub is_expired : Option Duration → Moment → MinRttFilter → Duration → Bool
 is_expired sample now f period = is_given sample && is_due now f period
 
-abbrev pub minrtt_expired : MaybeDuration → Moment → MinRttFilter → Duration → MinRttFilter
-minrtt_expired Length.Unset now f period = f
-minrtt_expired (Length.Set d) now f period = cond (is_due now f period) (min_force d now) f
+abbrev pub minrtt_expired : Option Duration → Moment → MinRttFilter → Duration → MinRttFilter
+minrtt_expired None now f period = f
+minrtt_expired (Some d) now f period = cond (is_due now f period) (min_force d now) f
 
 unfoldable pub expire_next : NetworkModel → Params → CongestionEvent → NetworkModel
 expire_next m p e = with_minrtt m (minrtt_expired e.rtt e.time m.minrtt p.period)

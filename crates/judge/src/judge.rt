@@ -16,7 +16,7 @@ use state::parts::{Growth, Round};
 use state::refusals::{Rows, refusal};
 use state::{NetworkModel, Params};
 use units::counter::FULL;
-use units::{Bandwidth, Duration, MaybeDuration, Moment, Reply};
+use units::{Bandwidth, Duration, Moment, Reply};
 
 // A call's reply, the model after it, and its answer.
 #[derive(Clone, Copy)]
@@ -61,14 +61,14 @@ fn expire_next(model: NetworkModel, params: Params, event: CongestionEvent) -> N
 }
 
 fn minrtt_expired(
-    sample: MaybeDuration,
+    sample: Option<Duration>,
     now: Moment,
     filter: MinRttFilter,
     period: Duration,
 ) -> MinRttFilter
     ensures { result ≡ minrtt_expired sample now filter period }
 {
-    let MaybeDuration::Set(rtt) = sample else {
+    let Some(rtt) = sample else {
         return filter;
     };
     if is_due(now, filter, period) {
@@ -78,12 +78,12 @@ fn minrtt_expired(
     }
 }
 
-fn is_given(sample: MaybeDuration) -> bool
+fn is_given(sample: Option<Duration>) -> bool
     ensures { result ≡ is_given sample }
 {
     match sample {
-        MaybeDuration::Unset => false,
-        MaybeDuration::Set(_) => true,
+        None => false,
+        Some(_) => true,
     }
 }
 

@@ -1,5 +1,7 @@
 -- A call that carries an event, or counts rounds, and is done leaves the model, and the event's the record too, within the bounds. beta is an f32, so the format holds it. Assumes nothing.
+use Rattle.std.specs.Prelude.{Option, None, Some}
 use Prim.Native.Nat.{ℕ, min, max, ◌+◌, ◌-◌, ◌^◌, ◌≤◌}
+use Rattle.units.specs.declared.time.Duration.{Duration}
 use mathlib.Core.Bool.{Bool, true, false, cond, not, ◌&&◌, ◌||◌}
 use mathlib.Core.List.{List}
 use mathlib.Core.Path.{◌≡◌, refl, sym, ◌∙◌, subst}
@@ -21,8 +23,6 @@ use Rattle.state.specs.declared.network_model.NetworkModel.{NetworkModel}
 use Rattle.state.specs.declared.params.Params.{Params}
 use Rattle.state.specs.declared.parts.Latest.{Latest}
 use Rattle.state.specs.declared.parts.Lower.{Lower}
-use Rattle.units.specs.declared.maybe.MaybeBandwidth.{MaybeBandwidth}
-use Rattle.units.specs.declared.maybe.MaybeBandwidth.TheVariants.{Unset, Set}
 use Rattle.state.specs.declared.parts.Round.{Round}
 use Rattle.state.specs.declared.parts.Totals.{Totals}
 use Rattle.state.specs.Bounds.{within, bytes_ok, bytes_or_unset_ok, total_ok, moment_ok, length_ok, bandwidth_ok, maybe_ok, gain_ok}
@@ -31,8 +31,6 @@ use Rattle.state.specs.Parts.{round_ok, latest_ok, lower_ok, totals_ok, round_ne
 use Rattle.state.specs.NetworkModel.{maxbw_ok, minrtt_ok, model_tests, model_ok, with_round, with_minrtt, with_growth}
 use Rattle.laws.proofs.Model.{round_new_ok}
 use Rattle.state.proofs.Rows.{row_stored, row_argument, and_left, and_right, and_both, or_left, or_right, all_at, all_put}
-use Rattle.units.specs.declared.maybe.MaybeDuration.{MaybeDuration}
-use Rattle.units.specs.declared.maybe.MaybeDuration.TheVariants as Length
 use Rattle.state.specs.declared.congestion_event.CongestionEvent.{CongestionEvent}
 use Rattle.state.specs.declared.congestion_event.CongestionEventSample.{CongestionEventSample}
 use Rattle.state.specs.declared.congestion_event.SendTimeState.{SendTimeState}
@@ -50,35 +48,35 @@ larger_ok : (a b k : ℕ) → leb a k ≡ true → leb b k ≡ true → leb (max
 larger_ok a b k p q = le-leb (max a b) k (omega (arith, leb-true a k p, leb-true b k q))
 
 -- ---- part by part
-pub most_kept : (f : MaxBandwidthFilter) (b : MaybeBandwidth) (c l : Bool) → maxbw_ok f ≡ true → maybe_ok b ≡ true → maxbw_ok (E.maxbw_after f b c l) ≡ true
+pub most_kept : (f : MaxBandwidthFilter) (b : Option Bandwidth) (c l : Bool) → maxbw_ok f ≡ true → maybe_ok b ≡ true → maxbw_ok (E.maxbw_after f b c l) ≡ true
 unfolding max_update
-most_kept f Unset c l h k = h
-most_kept f (Set b) c l h k =
+most_kept f None c l h k = h
+most_kept f (Some b) c l h k =
     arms maxbw_ok (c && (not l || ltb (max_get f).0 b.0)) (max_update f b) f
     (and_both (bandwidth_ok f.slot0) (leb (max f.slot1.0 b.0) (2 ^ 40)) (and_left (bandwidth_ok f.slot0) (bandwidth_ok f.slot1) h) (larger_ok f.slot1.0 b.0 (2 ^ 40) (and_right (bandwidth_ok f.slot0) (bandwidth_ok f.slot1) h) k)) h
 
-least_kept : (f : MinRttFilter) (r : MaybeDuration) (now : Moment) → minrtt_ok f ≡ true → H.maybe_length_ok r ≡ true → moment_ok now ≡ true → minrtt_ok (E.minrtt_after f r now) ≡ true
+least_kept : (f : MinRttFilter) (r : Option Duration) (now : Moment) → minrtt_ok f ≡ true → H.maybe_length_ok r ≡ true → moment_ok now ≡ true → minrtt_ok (E.minrtt_after f r now) ≡ true
 unfolding min_update
-least_kept f Length.Unset now h k t = h
-least_kept f (Length.Set d) now h k t = arms minrtt_ok (ltb d.0 f.rtt.0) (record { rtt = d; timestamp = now }) f (and_both (length_ok d) (moment_ok now) k t) h
+least_kept f None now h k t = h
+least_kept f (Some d) now h k t = arms minrtt_ok (ltb d.0 f.rtt.0) (record { rtt = d; timestamp = now }) f (and_both (length_ok d) (moment_ok now) k t) h
 
 -- the largest of the filter
 pub most_max : (f : MaxBandwidthFilter) → maxbw_ok f ≡ true → bandwidth_ok (max_get f) ≡ true
 unfolding max_get
 most_max f h = larger_ok f.slot0.0 f.slot1.0 (2 ^ 40) (and_left (bandwidth_ok f.slot0) (bandwidth_ok f.slot1) h) (and_right (bandwidth_ok f.slot0) (bandwidth_ok f.slot1) h)
 
-seed_kept : (b : MaybeBandwidth) (w : Bandwidth) → maybe_ok b ≡ true → bandwidth_ok w ≡ true → bandwidth_ok (E.seed_of b w) ≡ true
-seed_kept Unset w h k = k
-seed_kept (Set b) w h k = h
+seed_kept : (b : Option Bandwidth) (w : Bandwidth) → maybe_ok b ≡ true → bandwidth_ok w ≡ true → bandwidth_ok (E.seed_of b w) ≡ true
+seed_kept None w h k = k
+seed_kept (Some b) w h k = h
 
 raised_kept : (l : Latest) (s : CongestionEventSample) → latest_ok l ≡ true → maybe_ok s.bandwidth ≡ true → bytes_ok s.inflight ≡ true → latest_ok (E.latest_raised l s) ≡ true
 unfolding E.latest_raised
 raised_kept l s h b n =
     and_both (bandwidth_ok (E.raised_bandwidth l.bandwidth s.bandwidth)) (leb (max l.inflight s.inflight) (2 ^ 40)) (go s.bandwidth b) (larger_ok l.inflight s.inflight (2 ^ 40) (and_right (bandwidth_ok l.bandwidth) (bytes_ok l.inflight) h) n)
   where
-    go : (x : MaybeBandwidth) → maybe_ok x ≡ true → bandwidth_ok (E.raised_bandwidth l.bandwidth x) ≡ true
-    go Unset k = and_left (bandwidth_ok l.bandwidth) (bytes_ok l.inflight) h
-    go (Set x) k = larger_ok l.bandwidth.0 x.0 (2 ^ 40) (and_left (bandwidth_ok l.bandwidth) (bytes_ok l.inflight) h) k
+    go : (x : Option Bandwidth) → maybe_ok x ≡ true → bandwidth_ok (E.raised_bandwidth l.bandwidth x) ≡ true
+    go None k = and_left (bandwidth_ok l.bandwidth) (bytes_ok l.inflight) h
+    go (Some x) k = larger_ok l.bandwidth.0 x.0 (2 ^ 40) (and_left (bandwidth_ok l.bandwidth) (bytes_ok l.inflight) h) k
 
 latest_kept : (l : Latest) (t : Bool) (s : CongestionEventSample) → latest_ok l ≡ true → maybe_ok s.bandwidth ≡ true → bytes_ok s.inflight ≡ true → latest_ok (E.latest_after l t s) ≡ true
 unfolding E.latest_after
@@ -126,7 +124,7 @@ lower_kept l t most latest window beta v h m k w =
     let b = complement beta in
     let x = larger_of latest.bandwidth (times_f32 (E.seed_of l.bandwidth most) b) in
     let n = scaled (E.start_of l.inflight window) b in
-    arms lower_ok t (record { bandwidth = Set x; inflight = max latest.inflight n }) l
+    arms lower_ok t (record { bandwidth = Some x; inflight = max latest.inflight n }) l
     (and_both (bandwidth_ok x) (bytes_or_unset_ok (max latest.inflight n))
     (larger_ok latest.bandwidth.0 (times_f32 (E.seed_of l.bandwidth most) b).0 (2 ^ 40) (and_left (bandwidth_ok latest.bandwidth) (bytes_ok latest.inflight) k)
     (slower_kept b v (E.seed_of l.bandwidth most) (seed_kept l.bandwidth most (and_left (maybe_ok l.bandwidth) (bytes_or_unset_ok l.inflight) h) m)))
@@ -247,13 +245,13 @@ module _ (m : NetworkModel) (p : Params) (e : CongestionEvent) (s : CongestionEv
         arms H.state_ok s.state.valid s.state e.state (all_at (H.sample_tests s) 6 event_sample) (all_at (H.event_tests e) 8 event_record),
       )
     where
-      bandwidth : (x : MaybeBandwidth) → maybe_ok x ≡ true → maybe_ok (E.bandwidth_after e.bandwidth x (E.is_changed m s)) ≡ true
-      bandwidth Unset h = all_at (H.event_tests e) 6 event_record
-      bandwidth (Set b) h = arms maybe_ok (E.is_changed m s) (Set b) e.bandwidth h (all_at (H.event_tests e) 6 event_record)
+      bandwidth : (x : Option Bandwidth) → maybe_ok x ≡ true → maybe_ok (E.bandwidth_after e.bandwidth x (E.is_changed m s)) ≡ true
+      bandwidth None h = all_at (H.event_tests e) 6 event_record
+      bandwidth (Some b) h = arms maybe_ok (E.is_changed m s) (Some b) e.bandwidth h (all_at (H.event_tests e) 6 event_record)
 
-      rtt : (x : MaybeDuration) → H.maybe_length_ok x ≡ true → H.maybe_length_ok (E.rtt_after e.rtt x) ≡ true
-      rtt Length.Unset h = all_at (H.event_tests e) 7 event_record
-      rtt (Length.Set d) h = h
+      rtt : (x : Option Duration) → H.maybe_length_ok x ≡ true → H.maybe_length_ok (E.rtt_after e.rtt x) ≡ true
+      rtt None h = all_at (H.event_tests e) 7 event_record
+      rtt (Some d) h = h
 
   pub event_model_kept : T (fits binary32 p.beta) → model_ok (E.model_next m p e s acked) ≡ true
   unfolding model_tests H.event_tests H.sample_tests E.model_next E.model_after E.event_next E.event_after E.maxbw_next E.round_next E.adapt_lower_bounds
@@ -304,9 +302,9 @@ expire_kept m p e done = all_put (model_tests m) 1 (minrtt_ok (J.minrtt_expired 
     k : H.event_ok e ≡ true
     k = (judged m p e false done).1
 
-    go : (x : MaybeDuration) → H.maybe_length_ok x ≡ true → minrtt_ok (J.minrtt_expired x e.time m.minrtt p.period) ≡ true
-    go Length.Unset l = all_at (model_tests m) 1 h
-    go (Length.Set d) l = arms minrtt_ok (J.is_due e.time m.minrtt p.period) (record { rtt = d; timestamp = e.time }) m.minrtt (and_both (length_ok d) (moment_ok e.time) l (all_at (H.event_tests e) 0 k)) (all_at (model_tests m) 1 h)
+    go : (x : Option Duration) → H.maybe_length_ok x ≡ true → minrtt_ok (J.minrtt_expired x e.time m.minrtt p.period) ≡ true
+    go None l = all_at (model_tests m) 1 h
+    go (Some d) l = arms minrtt_ok (J.is_due e.time m.minrtt p.period) (record { rtt = d; timestamp = e.time }) m.minrtt (and_both (length_ok d) (moment_ok e.time) l (all_at (H.event_tests e) 0 k)) (all_at (model_tests m) 1 h)
 
 pub growth_kept : (m : NetworkModel) (p : Params) (e : CongestionEvent) → J.judged_number m p e (J.growth_full m p e) ≡ 0 → model_ok (J.growth_next m p e) ≡ true
 unfolding model_tests J.growth_next with_growth J.growth_after J.growth_flat

@@ -1,4 +1,5 @@
 -- A call that is done leaves model and cycle within their bounds. Assumes nothing.
+use Rattle.std.specs.Prelude.{Some}
 use Prim.Native.Nat.{ℕ, ◌+◌, ◌^◌}
 use mathlib.Core.Bool.{Bool, true, false, cond}
 use mathlib.Core.Path.{◌≡◌, refl}
@@ -15,7 +16,6 @@ use Rattle.state.specs.Bounds.{moment_ok, bytes_ok}
 use Rattle.state.specs.declared.cycle.Cycle.{Cycle}
 use Rattle.state.specs.declared.cycle.CyclePhase.{CyclePhase}
 use Rattle.state.specs.declared.cycle.CyclePhase.TheVariants.{Up, Cruise, Refill}
-use Rattle.units.specs.declared.maybe.MaybeDuration.TheVariants as Length
 use Rattle.state.specs.Cycle.{wait_ok, rounds_ok, cycle_tests, cycle_ok, cycle_new, fresh_number, stay_from}
 use Rattle.phases.specs.Slope.{next_rounds, up_bytes, slope_raised}
 use Rattle.phases.specs.Phases.{restarted_at, is_down, exit_number, exit_model, exit_cycle, left_model, left_cycle, slope_number, slope_cycle, down_number, down_cycle, cycle_in, capped_by_high, cruise_number, cruise_model, cruise_cycle, refill_number, refill_model, refilled, refill_cycle, up_number, up_cycle}
@@ -95,7 +95,7 @@ down_kept m c p high risky now done =
     let k = accepted.entry_moment m c (params_ok p) true now done in
     let l = cycle_tests c in
     let t = moment_ok now in
-    let w = wait_ok (Length.Set (record { 0 = p.base.0 + 500_000 })) in (
+    let w = wait_ok (Some (record { 0 = p.base.0 + 500_000 })) in (
       restarted_kept m now (accepted.entry_model m c (params_ok p) true now done) k,
       all_put (set (set (set l 0 t) 1 t) 2 w) 4 true
           (all_put (set (set l 0 t) 1 t) 2 w (all_put (set l 0 t) 1 t (all_put l 0 t (accepted.entry_cycle m c (params_ok p) true now done) k) k)

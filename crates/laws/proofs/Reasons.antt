@@ -1,4 +1,5 @@
 -- Why a windowed filter's estimates moved: the laws of the reason, by the tests of the steps. Assumes nothing.
+use Rattle.std.specs.Prelude.{Option, None, Some}
 use Prim.Native.Nat.{ℕ, ◌/◌}
 use mathlib.Core.Bool.{Bool, true, false, cond, ◌&&◌, ◌||◌, true≢false, false≢true}
 use mathlib.Core.Logic.{◌⊎◌, inl, inr, ◌↔◌}
@@ -8,8 +9,6 @@ use native.Mathlib.Omega.{arith}
 use lib.Dec.{ltb, eqb}
 use borrow.Author.Tests.{le-ltb}
 use Rattle.filters.specs.declared.windowed_filter.Estimates.{Estimates}
-use Rattle.filters.specs.declared.windowed_filter.Held.{Held}
-use Rattle.filters.specs.declared.windowed_filter.Held.TheVariants.{Unset, Set}
 use Rattle.filters.specs.declared.windowed_filter.Reason.{Reason}
 use Rattle.filters.specs.declared.windowed_filter.Reason.TheVariants.{AllReplaced, SecondRaised, ThirdRaised, PromotedOnce, PromotedTwice, QuarterRefresh, HalfRefresh, Unchanged}
 use Rattle.filters.specs.declared.windowed_filter.Sample.{Sample}
@@ -121,7 +120,7 @@ module _ (e : Estimates) (new : Sample) (w : ℕ) where
   unfolding is_replaced
   third_young none = or_right (ltb e.best.sample new.sample) (is_older e.third w new.time) none
 
-  pub updated_agrees : Agree (updated (Set e) new w) (reason_of (Set e) new w)
+  pub updated_agrees : Agree (updated (Some e) new w) (reason_of (Some e) new w)
   unfolding is_replaced
   updated_agrees =
       choose Agree (is_replaced e new w)
@@ -129,29 +128,29 @@ module _ (e : Estimates) (new : Sample) (w : ℕ) where
       (λ none. aged_agrees (raised e new) (raised_reason e new) (raised_left (third_young none)))
 
 -- ---- and so is the filter
-abbrev is_set : Held → Bool
-is_set Unset = false
-is_set (Set e) = true
+abbrev is_set : Option Estimates → Bool
+is_set None = false
+is_set (Some e) = true
 
-abbrev estimates_in : Estimates → Held → Estimates
-estimates_in e Unset = e
-estimates_in e (Set x) = x
+abbrev estimates_in : Estimates → Option Estimates → Estimates
+estimates_in e None = e
+estimates_in e (Some x) = x
 
-abbrev filter : ℕ → Held → WindowedFilter
+abbrev filter : ℕ → Option Estimates → WindowedFilter
 filter w h = record { window = w; held = h }
 
 refused_or : (b : Bool) (f g : WindowedFilter) (r : Reason) → (r ≡ Unchanged) ↔ (g ≡ f) → (cond b Unchanged r ≡ Unchanged) ↔ (cond b f g ≡ f)
 refused_or true f g r h = (λ _. refl, λ _. refl)
 refused_or false f g r h = h
 
-agrees : (w : ℕ) (h : Held) (s t : ℕ) → (windowed_reason (filter w h) s t ≡ Unchanged) ↔ (windowed_update (filter w h) s t ≡ filter w h)
+agrees : (w : ℕ) (h : Option Estimates) (s t : ℕ) → (windowed_reason (filter w h) s t ≡ Unchanged) ↔ (windowed_update (filter w h) s t ≡ filter w h)
 unfolding windowed_reason windowed_update
-agrees w Unset s t = (λ is. absurd (names refl is), λ same. absurd (true≢false (ap (λ (f : WindowedFilter). is_set f.held) same)))
-agrees w (Set e) s t =
+agrees w None s t = (λ is. absurd (names refl is), λ same. absurd (true≢false (ap (λ (f : WindowedFilter). is_set f.held) same)))
+agrees w (Some e) s t =
     let new = sample_at s t in
     let both = updated_agrees e new w in
-    refused_or (is_after (Set e) t) (filter w (Set e)) (filter w (Set (updated (Set e) new w))) (reason_of (Set e) new w)
-    (λ is. ap (λ (x : Estimates). filter w (Set x)) (both.0 is), λ same. both.1 (ap (λ (f : WindowedFilter). estimates_in e f.held) same))
+    refused_or (is_after (Some e) t) (filter w (Some e)) (filter w (Some (updated (Some e) new w))) (reason_of (Some e) new w)
+    (λ is. ap (λ (x : Estimates). filter w (Some x)) (both.0 is), λ same. both.1 (ap (λ (f : WindowedFilter). estimates_in e f.held) same))
 
 -- ---- the best moves with step 1 and step 3 alone
 module _ (e : Estimates) (new : Sample) (w : ℕ) where
@@ -168,7 +167,7 @@ module _ (e : Estimates) (new : Sample) (w : ℕ) where
       choose Stays (lingers y.second y.best (w / 4) new.time) (λ _ _. same)
       (λ _. choose Stays (lingers y.third y.second (w / 2) new.time) (λ _ _. same) (λ _ _. same)))
 
-  pub updated_stays : Stays (updated (Set e) new w) (reason_of (Set e) new w)
+  pub updated_stays : Stays (updated (Some e) new w) (reason_of (Some e) new w)
   updated_stays =
       choose Stays (is_replaced e new w) (λ _ moves. absurd (true≢false moves))
       (λ none. aged_stays (raised e new) (raised_reason e new) (raised_left e new w (third_young e new w none)).0)
@@ -177,13 +176,13 @@ refused_best : (b : Bool) (f g : WindowedFilter) (r : Reason) → (moves_best r 
 refused_best true f g r p moves = refl
 refused_best false f g r p moves = p moves
 
-best_stays : (w : ℕ) (h : Held) (s t : ℕ) → moves_best (windowed_reason (filter w h) s t) ≡ false → best_of (windowed_update (filter w h) s t).held ≡ best_of h
+best_stays : (w : ℕ) (h : Option Estimates) (s t : ℕ) → moves_best (windowed_reason (filter w h) s t) ≡ false → best_of (windowed_update (filter w h) s t).held ≡ best_of h
 unfolding windowed_reason windowed_update
-best_stays w Unset s t moves = absurd (true≢false moves)
-best_stays w (Set e) s t moves =
+best_stays w None s t moves = absurd (true≢false moves)
+best_stays w (Some e) s t moves =
     let new = sample_at s t in
-    refused_best (is_after (Set e) t) (filter w (Set e)) (filter w (Set (updated (Set e) new w))) (reason_of (Set e) new w)
-    (λ stays. ap (λ (x : Sample). best_of (Set (all_three x))) (updated_stays e new w stays)) moves
+    refused_best (is_after (Some e) t) (filter w (Some e)) (filter w (Some (updated (Some e) new w))) (reason_of (Some e) new w)
+    (λ stays. ap (λ (x : Sample). best_of (Some (all_three x))) (updated_stays e new w stays)) moves
 
 -- ---- the later step is named
 -- a step's name, by the tests of step 3, of step 4 and of step 5, and what acted before them
@@ -210,13 +209,13 @@ module _ (e : Estimates) (new : Sample) (w : ℕ) where
   abbrev y : Estimates
   y = raised e new
 
-  later : is_replaced e new w ≡ false → Acts (later_reason e new w) → reason_of (Set e) new w ≡ later_reason e new w
+  later : is_replaced e new w ≡ false → Acts (later_reason e new w) → reason_of (Some e) new w ≡ later_reason e new w
   unfolding aged_reason renewed_reason shifted_reason
   later none acts =
       rw none
       (named_later (is_older y.best w new.time) (is_older y.second w new.time) (lingers y.second y.best (w / 4) new.time) (lingers y.third y.second (w / 2) new.time) (raised_reason e new) acts)
 
-  earlier : is_replaced e new w ≡ false → later_reason e new w ≡ Unchanged → reason_of (Set e) new w ≡ raised_reason e new
+  earlier : is_replaced e new w ≡ false → later_reason e new w ≡ Unchanged → reason_of (Some e) new w ≡ raised_reason e new
   unfolding aged_reason renewed_reason shifted_reason
   earlier none idle =
       rw none

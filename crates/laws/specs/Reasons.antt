@@ -1,9 +1,8 @@
 -- What holds of the reason that an update of a windowed filter answers (crates/filters/specs/Reason.antt): document 02,
 -- request f. Statements only; crates/theorems/specs/Theorems.antt says how to read them, and Replies.antt beside this
 -- file what `Every` says of a contract. crates/filters/specs/Examples.antt has each of the four pairs worked out.
-use Rattle.std.specs.Prelude.{ℕ, Bool, true, false, ◌⊎◌, ◌↔◌, ◌≡◌}
+use Rattle.std.specs.Prelude.{ℕ, Bool, true, false, ◌⊎◌, ◌↔◌, ◌≡◌, Some}
 use Rattle.filters.specs.declared.windowed_filter.Estimates.{Estimates}
-use Rattle.filters.specs.declared.windowed_filter.Held.TheVariants.{Set}
 use Rattle.filters.specs.declared.windowed_filter.Reason.{Reason}
 use Rattle.filters.specs.declared.windowed_filter.Reason.TheVariants.{AllReplaced, SecondRaised, ThirdRaised, PromotedOnce, PromotedTwice, QuarterRefresh, HalfRefresh, Unchanged}
 use Rattle.filters.specs.declared.windowed_filter.Sample.{Sample}
@@ -44,9 +43,9 @@ pub record Reasons : Type 0 where
   -- where step 1 does not act: "If step 2 of document 01 and a later step both act, the later one is named", and where
   -- no later step acts, step 2
   pub later : (e : Estimates) (new : Sample) (w : ℕ) → is_replaced e new w ≡ false →
-      Acts (later_reason e new w) → reason_of (Set e) new w ≡ later_reason e new w
+      Acts (later_reason e new w) → reason_of (Some e) new w ≡ later_reason e new w
   pub earlier : (e : Estimates) (new : Sample) (w : ℕ) → is_replaced e new w ≡ false →
-      later_reason e new w ≡ Unchanged → reason_of (Set e) new w ≡ raised_reason e new
+      later_reason e new w ≡ Unchanged → reason_of (Some e) new w ≡ raised_reason e new
   -- step 2 and a later step both act in four ways and no other
   pub both : (e : Estimates) (new : Sample) (w : ℕ) → Acts (raised_reason e new) → Acts (later_reason e new w) →
       Meet e new w SecondRaised PromotedOnce

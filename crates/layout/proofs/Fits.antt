@@ -1,4 +1,5 @@
 -- Words encode a state exactly where each flag, float, phase and thing that may be unset is written as it is read. Assumes nothing.
+use Rattle.std.specs.Prelude.{None, Some}
 use Prim.Native.Nat.{ℕ, zero, suc, ◌%◌, ◌^◌, ◌≤◌, ◌<◌}
 use mathlib.Core.Bool.{Bool, true, false, not, cond, ◌&&◌, ◌||◌, and_assoc, and-true}
 use mathlib.Core.List.{List}
@@ -10,9 +11,6 @@ use lib.Ieee.Bits.{to_bits-of_bits, nan_bits_is}
 use borrow.Author.Tests.{eq-eqb, ne_eqb, eqb-true, eqb-false, lt-leb, leb-true, leb-false, lt-ltb, le-ltb}
 use Rattle.numbers.proofs.Fields.{plain_bits, nan_bits_lem}
 use Rattle.state.proofs.Rows.{and_left, and_right}
-use Rattle.units.specs.declared.maybe.MaybeNumber.TheVariants as Number
-use Rattle.units.specs.declared.maybe.MaybeBandwidth.TheVariants.{Unset, Set}
-use Rattle.units.specs.declared.maybe.MaybeDuration.TheVariants as Length
 use Rattle.words.specs.declared.maybe.Maybe.{Maybe}
 use Rattle.words.specs.Word.{flag_word, flag_of, flag_fits, float_word, float_of}
 use Rattle.words.specs.Maybe.{unset, held, is_unset, number_in, bandwidth_maybe, bandwidth_of, plain_maybe, plain_of, length_maybe, length_of}
@@ -85,16 +83,16 @@ pair m a b t e = go (is_unset a b) (eqb a 1) refl refl
     go false false h k = rw (e, h, eqb_swap 1 a, k)
 
 end_pair : (a b : ℕ) (t : Bool) → (eqb (plain_maybe (plain_of a b)).set a && (eqb (plain_maybe (plain_of a b)).number b && t)) ≡ (pair_fits a b && t)
-end_pair a b t = pair (plain_maybe (plain_of a b)) a b t (cond_out plain_maybe (is_unset a b) Number.Unset (Number.Set (number_in a b)))
+end_pair a b t = pair (plain_maybe (plain_of a b)) a b t (cond_out plain_maybe (is_unset a b) None (Some (number_in a b)))
 
 rate_pair : (a b : ℕ) (t : Bool) → (eqb (bandwidth_maybe (bandwidth_of a b)).set a && (eqb (bandwidth_maybe (bandwidth_of a b)).number b && t)) ≡ (pair_fits a b && t)
-rate_pair a b t = pair (bandwidth_maybe (bandwidth_of a b)) a b t (cond_out bandwidth_maybe (is_unset a b) Unset (Set (record { 0 = number_in a b })))
+rate_pair a b t = pair (bandwidth_maybe (bandwidth_of a b)) a b t (cond_out bandwidth_maybe (is_unset a b) None (Some (record { 0 = number_in a b })))
 
 wait_pair : (a b : ℕ) (t : Bool) → (eqb (length_maybe (length_of a b)).set a && (eqb (length_maybe (length_of a b)).number b && t)) ≡ (pair_fits a b && t)
-wait_pair a b t = pair (length_maybe (length_of a b)) a b t (cond_out length_maybe (is_unset a b) Length.Unset (Length.Set (record { 0 = number_in a b })))
+wait_pair a b t = pair (length_maybe (length_of a b)) a b t (cond_out length_maybe (is_unset a b) None (Some (record { 0 = number_in a b })))
 
 up_pair : (a b : ℕ) (t : Bool) → (eqb (plain_maybe (plain_of a b)).set a && (eqb (plain_maybe (plain_of a b)).number b && t)) ≡ (pair_fits a b && t)
-up_pair a b t = pair (plain_maybe (plain_of a b)) a b t (cond_out plain_maybe (is_unset a b) Number.Unset (Number.Set (number_in a b)))
+up_pair a b t = pair (plain_maybe (plain_of a b)) a b t (cond_out plain_maybe (is_unset a b) None (Some (number_in a b)))
 
 -- ---- all of them
 pub form : (w : List ℕ) → is_state w ≡ (early_fits w && late_fits w && cycle_fits w)

@@ -1,6 +1,8 @@
 -- One turn of each loop of the filter run, over plain variables: what is still to be done leads to the same end.
 -- Assumes nothing.
+use Rattle.std.specs.Prelude.{Option, Some}
 use Prim.Native.Nat.{ℕ, suc, ◌+◌, ◌-◌, ◌*◌, ◌≤◌, ◌<◌}
+use Rattle.filters.specs.declared.windowed_filter.Estimates.{Estimates}
 use mathlib.Core.Bool.{Bool, true, false, cond, not, ◌||◌, true≢false}
 use mathlib.Core.List.{List, ◌++◌}
 use mathlib.Core.Path.{◌≡◌, refl, sym, ap, ◌∙◌}
@@ -9,8 +11,6 @@ use lib.Dec.{eqb}
 use lib.ListN.{length}
 use lib.Seq.{sets}
 use borrow.Author.Tests.{lt-ltb, le-ltb}
-use Rattle.filters.specs.declared.windowed_filter.Held.{Held}
-use Rattle.filters.specs.declared.windowed_filter.Held.TheVariants.{Set}
 use Rattle.filters.specs.declared.windowed_filter.Sample.{Sample}
 use Rattle.filters.specs.declared.windowed_filter.Stepped.{Stepped}
 use Rattle.filters.specs.declared.windowed_filter.WindowedFilter.{WindowedFilter}
@@ -28,23 +28,23 @@ unrefused true later e = absurd (true≢false e)
 unrefused false later e = (refl, e)
 
 -- a pair that is not refused, by what the steps make of it
-abbrev pub filter : ℕ → Held → WindowedFilter
+abbrev pub filter : ℕ → Option Estimates → WindowedFilter
 filter w h = record { window = w; held = h }
 
-abbrev stepped : List ℕ → ℕ → Held → ℕ → Stepped
+abbrev stepped : List ℕ → ℕ → Option Estimates → ℕ → Stepped
 stepped src w h at = record { estimates = updated h (pair_at src at) w; reason = reason_of h (pair_at src at) w }
 
-abbrev held_after : List ℕ → ℕ → Held → ℕ → Held
-held_after src w h at = Set (updated h (pair_at src at) w)
+abbrev held_after : List ℕ → ℕ → Option Estimates → ℕ → Option Estimates
+held_after src w h at = Some (updated h (pair_at src at) w)
 
 -- what a function that makes the steps has written
 pub stepped_words_lem :
-    (src : List ℕ) (w : ℕ) (h : Held) (at : ℕ) (made : Stepped) (pair : Sample) → pair ≡ pair_at src at → made.estimates ≡ updated h pair w →
+    (src : List ℕ) (w : ℕ) (h : Option Estimates) (at : ℕ) (made : Stepped) (pair : Sample) → pair ≡ pair_at src at → made.estimates ≡ updated h pair w →
     made.reason ≡ reason_of h pair w → stepped_words made ≡ stepped_words (stepped src w h at)
 unfolding stepped_words
 stepped_words_lem src w h at made pair is e r = rw (e, r, is)
 
-module _ (src : List ℕ) (w : ℕ) (h : Held) (at n : ℕ) where
+module _ (src : List ℕ) (w : ℕ) (h : Option Estimates) (at n : ℕ) where
   tests : refuses (filter w h) src at (suc n) ≡ false → (is_after h (word_at src at) ≡ false) × (refuses (after_pair (filter w h) src at) src (at + 16) n ≡ false)
   unfolding refuses windowed_number
   tests e = unrefused (is_after h (word_at src at)) (refuses (after_pair (filter w h) src at) src (at + 16) n) e
@@ -112,7 +112,7 @@ module _ (src : List ℕ) (i count : ℕ) (h : i < count) where
     refused_later d e = rw next (rw d at (rw left at e))
 
   -- a pair is written: no later one is refused, and what is left to write makes the same end
-  module _ (w : ℕ) (h' : Held) where
+  module _ (w : ℕ) (h' : Option Estimates) where
     pub taken_later : refuses (filter w h') src (16 * i) (count - i) ≡ false → refuses (filter w (held_after src w h' (16 * i))) src (16 * (i + 1)) (count - (i + 1)) ≡ false
     taken_later e = rw next (none_later src w h' (16 * i) (count - (i + 1)) (rw left at e))
 

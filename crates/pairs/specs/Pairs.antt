@@ -2,9 +2,7 @@
 -- u64 pairs (time, sample) that writes three samples per pair, u64 each. It starts empty." And document 02, request f:
 -- "the exported filter run writes it" (the reason) "as a fourth u64 after the three samples, numbered 0 to 7 in this
 -- order, and gives 7 under 32 bytes a pair".
-use Rattle.std.specs.Prelude.{ℕ, zero, suc, ◌+◌, ◌*◌, ◌/◌, ◌%◌, Bool, false, not, ◌||◌, List, [], ◌∷◌, ◌++◌, length, ltb, eqb}
-use Rattle.units.specs.declared.maybe.MaybeNumber.{MaybeNumber}
-use Rattle.units.specs.declared.maybe.MaybeNumber.TheVariants as Number
+use Rattle.std.specs.Prelude.{ℕ, zero, suc, ◌+◌, ◌*◌, ◌/◌, ◌%◌, Bool, false, not, ◌||◌, List, [], ◌∷◌, ◌++◌, length, ltb, eqb, Option, None, Some}
 use Rattle.filters.specs.declared.windowed_filter.WindowedFilter.{WindowedFilter}
 use Rattle.filters.specs.Reason.{reason_number, windowed_reason}
 use Rattle.filters.specs.WindowedFilter.{windowed_new, windowed_number, windowed_update, best_of, second_of, third_of}
@@ -27,9 +25,9 @@ refuses f src at (suc n) =
     not (eqb (windowed_number f (word_at src at)) 0) || refuses (after_pair f src at) src (at + 16) n
 
 -- "three samples per pair": the filter's, from the best to the third. After a pair there is one each
-abbrev pub sample_in : MaybeNumber → ℕ
-sample_in Number.Unset = 0
-sample_in (Number.Set sample) = sample
+abbrev pub sample_in : Option ℕ → ℕ
+sample_in None = 0
+sample_in (Some sample) = sample
 
 unfoldable pub samples : WindowedFilter → List ℕ
 samples f = sample_in (best_of f.held) ∷ sample_in (second_of f.held) ∷ sample_in (third_of f.held) ∷ []

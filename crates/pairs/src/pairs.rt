@@ -9,7 +9,7 @@ ghost use Rattle.pairs.specs.Pairs.{pairs, refuses, run_words, run_row, pairs_fa
 ghost use Rattle.pairs.specs.Inner.{times_fall, pair_at, stepped_words};
 
 use filters::WindowedFilter;
-use filters::windowed_filter::{Held, Sample, Stepped};
+use filters::windowed_filter::{Sample, Stepped, step};
 use state::faults::{LIST_LENGTH, unless};
 use state::refusals::{Rows, or_short, refusal};
 use units::Reply;
@@ -84,13 +84,13 @@ pub fn write_run(window: u64, src: &[u8], out: &mut [u8])
     ensures { out.new ≡ sets out.old 0 (all_bytes (run_words (windowed_new window) src.now 0 (pairs src.now))) }
 {
     let count = src.len() / 16;
-    let mut held = Held::Unset;
+    let mut held = None;
     let mut i = 0;
     while i < count {
-        let stepped = held.updated(pair_at(src, 16 * i), window);
+        let stepped = step(held, pair_at(src, 16 * i), window);
         put_words(out, 32 * i, &words_of(stepped));
         let estimates = stepped.estimates;
-        held = Held::Set(estimates);
+        held = Some(estimates);
         i += 1;
     }
 }

@@ -1,18 +1,16 @@
 -- document 01, "Marked examples": 11, about the slope.
-use Rattle.std.specs.Prelude.{ℕ, Bool, false, ◌&&◌, List, [], ◌∷◌, eqb}
-use Rattle.units.specs.declared.maybe.MaybeNumber.{MaybeNumber}
-use Rattle.units.specs.declared.maybe.MaybeNumber.TheVariants as Number
+use Rattle.std.specs.Prelude.{ℕ, Bool, false, ◌&&◌, List, [], ◌∷◌, eqb, Option, None, Some}
 use Rattle.state.specs.declared.cycle.Slope.{Slope}
 use Rattle.phases.specs.Slope.{slope_raised}
 
-abbrev pub bytes_are : MaybeNumber → ℕ → Bool
-bytes_are Number.Unset n = false
-bytes_are (Number.Set b) n = eqb b n
+abbrev pub bytes_are : Option ℕ → ℕ → Bool
+bytes_are None n = false
+bytes_are (Some b) n = eqb b n
 
 -- the slope that follows the rounds given, with the window 26,000
 abbrev pub raised_from : ℕ → Slope
 raised_from rounds =
-    slope_raised (record { rounds = rounds; bytes = Number.Unset; acked = 0; applimited = false }) 26_000
+    slope_raised (record { rounds = rounds; bytes = None; acked = 0; applimited = false }) 26_000
 
 abbrev pub gives : Slope → ℕ → ℕ → Bool
 gives s bytes rounds = bytes_are s.bytes bytes && eqb s.rounds rounds

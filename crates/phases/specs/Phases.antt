@@ -1,6 +1,6 @@
 -- The phase entries, exit_probe_down and raise_inflight_high_slope: probe_bw.rs in BwLoMode::Default, with document
 -- 01's refusals. For each call, the number of its reply, and the model and the cycle that it leaves.
-use Rattle.std.specs.Prelude.{ℕ, ◌+◌, Bool, true, false, cond, not, ◌&&◌}
+use Rattle.std.specs.Prelude.{ℕ, ◌+◌, Bool, true, false, cond, not, ◌&&◌, None, Some}
 use Rattle.units.specs.declared.time.Moment.{Moment}
 use Rattle.units.specs.Time.{is_before}
 use Rattle.state.specs.declared.network_model.NetworkModel.{NetworkModel}
@@ -13,8 +13,6 @@ use Rattle.state.specs.Params.{params_ok}
 use Rattle.state.specs.declared.cycle.Cycle.{Cycle}
 use Rattle.state.specs.declared.cycle.CyclePhase.{CyclePhase}
 use Rattle.state.specs.declared.cycle.CyclePhase.TheVariants.{NotStarted, Up, Down, Cruise, Refill}
-use Rattle.units.specs.declared.maybe.MaybeNumber.TheVariants as Number
-use Rattle.units.specs.declared.maybe.MaybeDuration.TheVariants as Length
 use Rattle.state.specs.Cycle.{cycle_ok, rounds_ok, stay_from}
 use Rattle.phases.specs.Slope.{slope_raised}
 
@@ -97,8 +95,8 @@ unfoldable pub down_cycle : Cycle → Params → (high risky : Bool) → Moment 
 down_cycle c p high risky now =
     record {
       stay = stay_from Down now;
-      wait = record { start = now; rounds = 0; length = Length.Set (record { 0 = p.base.0 + 500_000 }) };
-      slope = record { rounds = c.slope.rounds; bytes = Number.Unset; acked = c.slope.acked; applimited = false };
+      wait = record { start = now; rounds = 0; length = Some (record { 0 = p.base.0 + 500_000 }) };
+      slope = record { rounds = c.slope.rounds; bytes = None; acked = c.slope.acked; applimited = false };
       advanced = false;
       probing = c.probing;
       last = record { high = high; risky = risky };

@@ -13,7 +13,7 @@ use state::cycle::{CycleChanged, Last, Slope, Stay, Wait};
 use state::faults::{down_fault, now_fault, refill_fault, slope_fault, up_fault};
 use state::refusals::{Rows, refusal};
 use state::{Cycle, CyclePhase, NetworkModel, Params};
-use units::{Duration, MaybeDuration, MaybeNumber, Moment, Reply};
+use units::{Duration, Moment, Reply};
 
 // A call's reply, and the model and the cycle after it.
 #[derive(Clone, Copy)]
@@ -286,11 +286,11 @@ fn down_cycle(cycle: Cycle, params: Params, high: bool, risky: bool, now: Moment
         wait: Wait {
             start: now,
             rounds: 0,
-            length: MaybeDuration::Set(length),
+            length: Some(length),
         },
         slope: Slope {
             rounds: cycle.slope.rounds,
-            bytes: MaybeNumber::Unset,
+            bytes: None,
             acked: cycle.slope.acked,
             applimited: false,
         },

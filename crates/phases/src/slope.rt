@@ -5,7 +5,6 @@ ghost use Rattle.phases.specs.Slope.{slope_raised, next_rounds};
 use numbers::larger;
 use state::cycle::Slope;
 use state::{Cycle, NetworkModel};
-use units::MaybeNumber;
 
 // The window over 2^rounds.
 fn share(window: u64, rounds: u64) -> u64
@@ -37,7 +36,7 @@ pub fn slope_raised(slope: Slope, window: u64) -> Slope
     let bytes = larger(share(window, slope.rounds), NetworkModel::DEFAULT_MSS);
     Slope {
         rounds: next_rounds(slope.rounds),
-        bytes: MaybeNumber::Set(bytes),
+        bytes: Some(bytes),
         acked: slope.acked,
         applimited: slope.applimited,
     }

@@ -1,4 +1,5 @@
 -- The faults of a call in words are there exactly where its row 2 holds: of its records, its floats and its flags. Assumes nothing.
+use Rattle.std.specs.Prelude.{None, Some}
 use Prim.Native.Nat.{ℕ, ◌^◌}
 use mathlib.Core.Bool.{Bool, true, false, cond, ◌&&◌, ◌||◌}
 use mathlib.Core.List.{List, [], ◌∷◌}
@@ -6,8 +7,6 @@ use mathlib.Core.Path.{◌≡◌, refl, sym, ap, ◌∙◌}
 use lib.Dec.{ltb, eqb}
 use lib.Ieee.{nan, binary32, of_bits, le}
 use Rattle.units.specs.declared.bandwidth.Bandwidth.{Bandwidth}
-use Rattle.units.specs.declared.maybe.MaybeBandwidth.TheVariants.{Unset, Set}
-use Rattle.units.specs.declared.maybe.MaybeDuration.TheVariants as Length
 use Rattle.state.specs.declared.congestion_event.CongestionEvent.{CongestionEvent}
 use Rattle.state.specs.declared.congestion_event.CongestionEventSample.{CongestionEventSample}
 use Rattle.state.specs.declared.faults.RecordFits.{RecordFits}
@@ -35,7 +34,7 @@ bytes_beyond false n = refl
 rate_fits : (set n : ℕ) → maybe_ok (bandwidth_of set n) ≡ true → maybe_fits set n ≡ true
 rate_fits set n h = go (is_unset set n) (flag_of set) h
   where
-    go : (u s : Bool) → maybe_ok (cond u Unset (Set (record { 0 = or_outside s n }))) ≡ true → (u || s) ≡ true
+    go : (u s : Bool) → maybe_ok (cond u None (Some (record { 0 = or_outside s n }))) ≡ true → (u || s) ≡ true
     go true s h = refl
     go false true h = refl
     go false false h = h
@@ -43,7 +42,7 @@ rate_fits set n h = go (is_unset set n) (flag_of set) h
 length_fits : (set n : ℕ) → maybe_length_ok (length_of set n) ≡ true → maybe_fits set n ≡ true
 length_fits set n h = go (is_unset set n) (flag_of set) h
   where
-    go : (u s : Bool) → maybe_length_ok (cond u Length.Unset (Length.Set (record { 0 = or_outside s n }))) ≡ true → (u || s) ≡ true
+    go : (u s : Bool) → maybe_length_ok (cond u None (Some (record { 0 = or_outside s n }))) ≡ true → (u || s) ≡ true
     go true s h = refl
     go false true h = refl
     go false false h = h

@@ -12,12 +12,12 @@ use state::answers::{BandwidthRead, Flag, GainRead, LengthRead, MomentRead, Numb
 use state::bounds::{UNSET, bandwidth_ok, gain_ok};
 use state::faults::{bdp_fault, bdp1_fault};
 use state::{NetworkModel, Params};
-use units::{Bandwidth, MaybeBandwidth};
+use units::Bandwidth;
 
-fn estimate_of(lo: MaybeBandwidth, most: Bandwidth) -> Bandwidth
+fn estimate_of(lo: Option<Bandwidth>, most: Bandwidth) -> Bandwidth
     ensures { result ≡ estimate_of lo most }
 {
-    let MaybeBandwidth::Set(bandwidth) = lo else {
+    let Some(bandwidth) = lo else {
         return most;
     };
     bandwidth.min(most)

@@ -1,4 +1,5 @@
 -- The texts of a row, composed; and how long they are. Assumes nothing.
+use Rattle.std.specs.Prelude.{Option, None, Some}
 use Prim.Native.Nat.{ℕ, ◌≤◌}
 use mathlib.Core.Path.{◌≡◌, refl, sym}
 use mathlib.Core.Bool.{Bool, true, false, cond}
@@ -7,8 +8,6 @@ use native.Mathlib.Omega.{arith}
 use native.Mathlib.Nat.{add-zero}
 use lib.Dec.{eqb}
 use lib.ListN.{length, length-append}
-use Rattle.units.specs.declared.maybe.MaybeNumber.{MaybeNumber}
-use Rattle.units.specs.declared.maybe.MaybeNumber.TheVariants.{Unset, Set}
 use Rattle.rows.specs.declared.row.State.{State}
 use Rattle.rows.specs.declared.row.Row.{Row}
 use Rattle.rows.specs.Digits.{decimal, Put}
@@ -16,10 +15,10 @@ use Rattle.rows.specs.Entry.{entry_text}
 use Rattle.rows.specs.Row.{given_text, refusal_text, head_text, state_text, row_text}
 use Rattle.rows.proofs.Decimals.{decimal_few}
 
-pub given_few : (g : MaybeNumber) → length (given_text g) ≤ 20
+pub given_few : (g : Option ℕ) → length (given_text g) ≤ 20
 unfolding given_text
-given_few Unset = omega arith
-given_few (Set n) = decimal_few n
+given_few None = omega arith
+given_few (Some n) = decimal_few n
 
 pub refusal_few : (r p : ℕ) → length (refusal_text r p) ≤ 41
 unfolding refusal_text
@@ -42,7 +41,7 @@ state_few false s = omega arith
 pub put_as : {l m : List ℕ} {at r : ℕ} {a : List ℕ} (b : List ℕ) → a ≡ b → Put l m at a r → Put l m at b r
 put_as b e p = rw e at p
 
-pub nothing_put : (l : List ℕ) (at : ℕ) → Put l l at (given_text Unset) at
+pub nothing_put : (l : List ℕ) (at : ℕ) → Put l l at (given_text None) at
 unfolding given_text
 nothing_put l at = record { stored = refl; next = sym (add-zero at); kept = refl }
 

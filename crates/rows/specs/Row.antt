@@ -1,8 +1,6 @@
 -- A row of a replay: document 02, request j. Its fields are those of the output's header,
 -- `line,refusal,round,max_bw,lo,hi`, and it ends in CR LF: "lines ended by CR LF".
-use Rattle.std.specs.Prelude.{ℕ, Bool, cond, List, [], ◌∷◌, ◌++◌, eqb}
-use Rattle.units.specs.declared.maybe.MaybeNumber.{MaybeNumber}
-use Rattle.units.specs.declared.maybe.MaybeNumber.TheVariants.{Unset, Set}
+use Rattle.std.specs.Prelude.{ℕ, Bool, cond, List, [], ◌∷◌, ◌++◌, eqb, Option, None, Some}
 use Rattle.rows.specs.declared.row.State.{State}
 use Rattle.rows.specs.declared.row.Row.{Row}
 use Rattle.rows.specs.Digits.{decimal}
@@ -11,9 +9,9 @@ abbrev pub comma : List ℕ
 comma = 44 ∷ []
 
 -- "An unset bound is an empty field"
-unfoldable pub given_text : MaybeNumber → List ℕ
-given_text Unset = []
-given_text (Set n) = decimal n
+unfoldable pub given_text : Option ℕ → List ℕ
+given_text None = []
+given_text (Some n) = decimal n
 
 -- "2 is written 2.1 to 2.9": the kind of the bound is the part, 0 where there is none. 46 is a full stop
 unfoldable pub refusal_text : (refusal part : ℕ) → List ℕ

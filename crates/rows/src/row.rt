@@ -4,15 +4,14 @@ ghost use Rattle.rows.specs.Digits.{Put};
 ghost use Rattle.rows.specs.Row.{given_text, refusal_text, head_text, state_text, row_text};
 
 use crate::digits::{put_byte, put_decimal};
-use units::MaybeNumber;
 
 // What is shown of a state: its round count, the largest bandwidth, inflight_lo and inflight_hi.
 #[derive(Clone, Copy)]
 pub struct State {
     pub round: u64,
     pub maxbw: u64,
-    pub lo: MaybeNumber,
-    pub hi: MaybeNumber,
+    pub lo: Option<u64>,
+    pub hi: Option<u64>,
 }
 
 // The line's number, its refusal with the part of a 2, and the state, if it is shown.
@@ -26,13 +25,13 @@ pub struct Row {
 }
 
 // Unset, or a number.
-fn put_given(out: &mut [u8], at: usize, g: MaybeNumber) -> usize
+fn put_given(out: &mut [u8], at: usize, g: Option<u64>) -> usize
     requires { at + 20 ≤ length out.old }
     ensures { Put out.old out.new at (given_text g) result }
 {
     match g {
-        MaybeNumber::Unset => at,
-        MaybeNumber::Set(n) => put_decimal(out, at, n),
+        None => at,
+        Some(n) => put_decimal(out, at, n),
     }
 }
 

@@ -1,10 +1,11 @@
 -- Any two replies that the contract of a public function allows coincide: a line for each, about what its contract says (`Reads.Learnt`).
+use Rattle.std.specs.Prelude.{Option}
 use Prim.Native.Nat.{ℕ}
+use Rattle.units.specs.declared.time.Duration.{Duration}
 use mathlib.Core.Bool.{false, not}
 use mathlib.Core.Path.{◌≡◌, sym, ◌∙◌}
 use Rattle.numbers.specs.OneReply.{OneReply}
 use Rattle.units.specs.Reply as Replies
-use Rattle.units.specs.declared.maybe.MaybeDuration.{MaybeDuration}
 use Rattle.units.specs.declared.reply.Reply.{Reply}
 use Rattle.units.proofs.reply.Number.{number_injective, reply_injective}
 use Rattle.state.proofs.Determined.{lengthread, one_reply}
@@ -23,7 +24,7 @@ updated p q = cc
 taken : {a a' : ℕ} {b b' : RttStats} → a ≡ a' → b ≡ b' → ◌≡◌ {A = Taken} (record { row = a; stats = b }) (record { row = a'; stats = b' })
 taken p q = cc
 
-minimumread : {a a' : Reply} {b b' : MaybeDuration} → a ≡ a' → b ≡ b' → ◌≡◌ {A = MinimumRead} (record { reply = a; minimum = b }) (record { reply = a'; minimum = b' })
+minimumread : {a a' : Reply} {b b' : Option Duration} → a ≡ a' → b ≡ b' → ◌≡◌ {A = MinimumRead} (record { reply = a; minimum = b }) (record { reply = a'; minimum = b' })
 minimumread p q = cc
 
 by_stored : {r s : Reply} (t : RttStats) → Replies.number r ≡ stored_number t → Replies.number s ≡ stored_number t → r ≡ s

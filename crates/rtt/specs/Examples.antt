@@ -1,9 +1,7 @@
 -- The estimator worked out: request a's own example, and one for each point at which another reading of rtt.rs or of
 -- RFC 9002 would answer something else; then three runs in which the averages come near to their bounds, so that no
 -- smaller whole number would bound them. Statements only; Exact.antt says how to read them.
-use Rattle.std.specs.Prelude.{ℕ, zero, suc, ◌+◌, ◌*◌, ◌^◌, ◌<◌, Bool, true, false, not, List, [], ◌∷◌, ◌≡◌, eqb}
-use Rattle.units.specs.declared.maybe.MaybeDuration.{MaybeDuration}
-use Rattle.units.specs.declared.maybe.MaybeDuration.TheVariants.{Unset, Set}
+use Rattle.std.specs.Prelude.{ℕ, zero, suc, ◌+◌, ◌*◌, ◌^◌, ◌<◌, Bool, true, false, not, List, [], ◌∷◌, ◌≡◌, eqb, Option, None, Some}
 use Rattle.units.specs.declared.time.Duration.{Duration}
 use Rattle.state.specs.Answers.{zero_length}
 use Rattle.state.specs.Faults.{first}
@@ -30,9 +28,9 @@ with minimum smoothed variation limit =
       sampled = true;
     }
 
-abbrev is_unset : MaybeDuration → Bool
-is_unset Unset = true
-is_unset (Set d) = false
+abbrev is_unset : Option Duration → Bool
+is_unset None = true
+is_unset (Some d) = false
 
 -- the averages of an exact run; 0 where no sample was taken
 abbrev pub exact_of : List Sample → Exact

@@ -2,10 +2,8 @@
 -- `src/recovery/rtt.rs`: latest, minimum, smoothed and variation, in nanoseconds, the averages in the order of Appendix
 -- A.7". For each call the number of its reply, its faults and what it leaves. Sentences in quotes are request a's or,
 -- where a remark says so, rtt.rs's.
-use Rattle.std.specs.Prelude.{ℕ, min, ◌+◌, ◌-◌, ◌*◌, ◌/◌, Bool, true, false, cond, not, ◌&&◌, List, [], ◌∷◌, leb}
+use Rattle.std.specs.Prelude.{ℕ, min, ◌+◌, ◌-◌, ◌*◌, ◌/◌, Bool, true, false, cond, not, ◌&&◌, List, [], ◌∷◌, leb, Option, None, Some}
 use Rattle.units.specs.declared.time.Duration.{Duration}
-use Rattle.units.specs.declared.maybe.MaybeDuration.{MaybeDuration}
-use Rattle.units.specs.declared.maybe.MaybeDuration.TheVariants.{Unset, Set}
 use Rattle.state.specs.Answers.{settled, zero_length}
 use Rattle.state.specs.Bounds.{length_ok, all}
 use Rattle.state.specs.Faults.{a_length, list_length, unless}
@@ -162,5 +160,5 @@ unfoldable pub delay_left : RttStats → (limit : Duration) → RttStats
 delay_left s limit = settled (delay_number s limit) (delay_next s limit) s
 
 -- ---- min_rtt: rtt.rs answers `None` until the first sample
-unfoldable pub minimum_shown : RttStats → MaybeDuration
-minimum_shown s = cond s.sampled (Set s.minimum) Unset
+unfoldable pub minimum_shown : RttStats → Option Duration
+minimum_shown s = cond s.sampled (Some s.minimum) None

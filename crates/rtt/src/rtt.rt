@@ -1,7 +1,6 @@
 // The round-trip estimator of RFC 9002, section 5: rtt.rs, with the minimum over all samples.
-ghost use Rattle.std.specs.Prelude.{true, ◌≡◌, ◌^◌, ◌≤◌};
+ghost use Rattle.std.specs.Prelude.{true, ◌≡◌, ◌^◌, ◌≤◌, None};
 ghost use Rattle.units.specs.Reply.{number, fault};
-ghost use Rattle.units.specs.declared.maybe.MaybeDuration.TheVariants.{Unset};
 ghost use Rattle.state.specs.Answers.{settled, zero_length};
 ghost use Rattle.state.specs.Bounds.{length_ok};
 ghost use Rattle.state.specs.Faults.{first, named};
@@ -11,7 +10,7 @@ use state::answers::LengthRead;
 use state::bounds::length_ok;
 use state::faults::{LENGTH, LIST_LENGTH, first_of, unless};
 use state::refusals::{Rows, first_row, refusal};
-use units::{Duration, MaybeDuration, Reply};
+use units::{Duration, Reply};
 
 #[derive(Clone, Copy)]
 pub struct RttStats {
@@ -43,7 +42,7 @@ pub struct Taken {
 #[derive(Clone, Copy)]
 pub struct MinimumRead {
     pub reply: Reply,
-    pub minimum: MaybeDuration,
+    pub minimum: Option<Duration>,
 }
 
 impl RttStats {
@@ -291,7 +290,7 @@ impl RttStats {
     // The least sample; nothing before the first.
     pub fn min_rtt(self) -> MinimumRead
         ensures reply { number result.reply ≡ stored_number self }
-        ensures minimum { result.minimum ≡ settled (stored_number self) (minimum_shown self) Unset }
+        ensures minimum { result.minimum ≡ settled (stored_number self) (minimum_shown self) None }
     {
         let reply = self.stored();
         if reply.is_done() {
@@ -302,18 +301,18 @@ impl RttStats {
         }
         MinimumRead {
             reply,
-            minimum: MaybeDuration::Unset,
+            minimum: None,
         }
     }
 
-    fn minimum_shown(self) -> MaybeDuration
+    fn minimum_shown(self) -> Option<Duration>
         ensures { result ≡ minimum_shown self }
     {
         let minimum = self.minimum;
         if self.sampled {
-            return MaybeDuration::Set(minimum);
+            return Some(minimum);
         }
-        MaybeDuration::Unset
+        None
     }
 }
 

@@ -2,7 +2,7 @@
 ghost use Rattle.std.specs.Prelude.{◌≡◌, length};
 
 use filters::WindowedFilter;
-use filters::windowed_filter::{Estimates, Held, Sample, Updated};
+use filters::windowed_filter::{Estimates, Sample, Updated};
 use words::{get_words, put_words};
 
 // Words 1 to 3 of the call are the operation and its two numbers, 4 to 11 the filter. The answer is the reply, the reason
@@ -42,7 +42,7 @@ fn filter_of(n: &[u64; 12]) -> WindowedFilter {
     if n[5] != 1 {
         return WindowedFilter::new(window);
     }
-    let held = Held::Set(Estimates {
+    let held = Some(Estimates {
         best: sample(n[6], n[7]),
         second: sample(n[8], n[9]),
         third: sample(n[10], n[11]),
@@ -61,8 +61,8 @@ fn answer_words(reply: u64, reason: u64, filter: WindowedFilter) -> [u64; 18] {
     words[1] = reason;
     words[2] = filter.window;
     match held {
-        Held::Unset => words,
-        Held::Set(e) => with_estimates(words, e),
+        None => words,
+        Some(e) => with_estimates(words, e),
     }
 }
 

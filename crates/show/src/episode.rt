@@ -8,7 +8,7 @@ use state::congestion_event::{CongestionEvent, CongestionEventSample, SendTimeSt
 use state::network_model::Changed;
 use state::parts::Totals;
 use state::{NetworkModel, Params};
-use units::{Duration, MaybeBandwidth, MaybeDuration, Moment, Reply};
+use units::{Duration, Moment, Reply};
 
 const WINDOW: u64 = 1_300;
 
@@ -49,8 +49,8 @@ fn event_at(time: Moment) -> CongestionEvent {
         lost: 0,
         ended: false,
         probing: false,
-        bandwidth: MaybeBandwidth::Unset,
-        rtt: MaybeDuration::Unset,
+        bandwidth: None,
+        rtt: None,
         state: no_state(),
     }
 }
@@ -58,11 +58,11 @@ fn event_at(time: Moment) -> CongestionEvent {
 // A sampler's answer that knows no more than what was lost.
 fn lost_by(lost: u64) -> CongestionEventSample {
     CongestionEventSample {
-        bandwidth: MaybeBandwidth::Unset,
-        send: MaybeBandwidth::Unset,
-        ack: MaybeBandwidth::Unset,
+        bandwidth: None,
+        send: None,
+        ack: None,
         applimited: false,
-        rtt: MaybeDuration::Unset,
+        rtt: None,
         inflight: 0,
         extra: 0,
         state: no_state(),

@@ -7,7 +7,7 @@ mod table;
 
 use episode::episode;
 use filters::WindowedFilter;
-use filters::windowed_filter::{Held, Reason, Sample};
+use filters::windowed_filter::{Reason, Sample};
 use table::{column, text};
 use units::{Bandwidth, Reply};
 
@@ -51,10 +51,10 @@ fn estimate(rt: &impl Print, e: Sample) {
 fn estimates(rt: &impl Print, filter: WindowedFilter) {
     let held = filter.held;
     match held {
-        Held::Unset => {
+        None => {
             text(rt, b"  empty");
         }
-        Held::Set(e) => {
+        Some(e) => {
             let best = e.best;
             let second = e.second;
             let third = e.third;

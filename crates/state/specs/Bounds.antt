@@ -1,12 +1,10 @@
 -- document 01, "Replies and bounds": the bounds as tests.
-use Rattle.std.specs.Prelude.{ℕ, ◌-◌, ◌^◌, Bool, true, ◌&&◌, ◌||◌, List, [], ◌∷◌, leb, eqb, Float}
+use Rattle.std.specs.Prelude.{ℕ, ◌-◌, ◌^◌, Bool, true, ◌&&◌, ◌||◌, List, [], ◌∷◌, leb, eqb, Float, Option, None, Some}
 use Rattle.std.specs.Float.{binary32}
 use Rattle.std.specs.Float.Ieee.{of_bits, le}
 use Rattle.units.specs.declared.bandwidth.Bandwidth.{Bandwidth}
 use Rattle.units.specs.declared.time.Duration.{Duration}
 use Rattle.units.specs.declared.time.Moment.{Moment}
-use Rattle.units.specs.declared.maybe.MaybeBandwidth.{MaybeBandwidth}
-use Rattle.units.specs.declared.maybe.MaybeBandwidth.TheVariants.{Unset, Set}
 
 -- "byte counts 2^40"
 abbrev pub bytes_ok : ℕ → Bool
@@ -31,9 +29,9 @@ length_ok d = leb d.0 (2 ^ 36)
 abbrev pub bandwidth_ok : Bandwidth → Bool
 bandwidth_ok b = leb b.0 (2 ^ 40)
 
-abbrev pub maybe_ok : MaybeBandwidth → Bool
-maybe_ok Unset = true
-maybe_ok (Set b) = bandwidth_ok b
+abbrev pub maybe_ok : Option Bandwidth → Bool
+maybe_ok None = true
+maybe_ok (Some b) = bandwidth_ok b
 
 -- an f32 from one pattern to another. A NaN is in no range, and -0 counts as 0
 unfoldable pub within : ℕ → ℕ → Float → Bool

@@ -1,17 +1,16 @@
 -- An event's record and what the sampler says to it (src/congestion_event.rt): document 01, "Replies and bounds", the
 -- bounds of what is handed in. All numbers are tested, those of a send state that is not valid too.
-use Rattle.std.specs.Prelude.{Bool, true, ◌&&◌, List, [], ◌∷◌}
+use Rattle.std.specs.Prelude.{Bool, true, ◌&&◌, List, [], ◌∷◌, Option, None, Some}
+use Rattle.units.specs.declared.time.Duration.{Duration}
 use Rattle.state.specs.Bounds.{all, bytes_ok, total_ok, moment_ok, length_ok, maybe_ok}
 use Rattle.state.specs.Parts.{totals_ok}
-use Rattle.units.specs.declared.maybe.MaybeDuration.{MaybeDuration}
-use Rattle.units.specs.declared.maybe.MaybeDuration.TheVariants as Length
 use Rattle.state.specs.declared.congestion_event.CongestionEvent.{CongestionEvent}
 use Rattle.state.specs.declared.congestion_event.CongestionEventSample.{CongestionEventSample}
 use Rattle.state.specs.declared.congestion_event.SendTimeState.{SendTimeState}
 
-abbrev pub maybe_length_ok : MaybeDuration → Bool
-maybe_length_ok Length.Unset = true
-maybe_length_ok (Length.Set d) = length_ok d
+abbrev pub maybe_length_ok : Option Duration → Bool
+maybe_length_ok None = true
+maybe_length_ok (Some d) = length_ok d
 
 abbrev pub state_ok : SendTimeState → Bool
 state_ok t = total_ok t.acked && bytes_ok t.inflight

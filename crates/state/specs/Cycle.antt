@@ -1,5 +1,6 @@
 -- The cycle of probing for bandwidth: mode.rs, Cycle, with document 01's bounds, and what a fresh one is.
-use Rattle.std.specs.Prelude.{ℕ, ◌+◌, ◌^◌, Bool, true, false, not, List, [], ◌∷◌, leb}
+use Rattle.std.specs.Prelude.{ℕ, ◌+◌, ◌^◌, Bool, true, false, not, List, [], ◌∷◌, leb, Option, None, Some}
+use Rattle.units.specs.declared.time.Duration.{Duration}
 use Rattle.units.specs.declared.time.Moment.{Moment}
 use Rattle.state.specs.Answers.{settled, zero_moment}
 use Rattle.state.specs.Bounds.{all, bytes_ok, moment_ok}
@@ -7,23 +8,19 @@ use Rattle.state.specs.Refusals.{no_rows, argument, first_of}
 use Rattle.state.specs.declared.cycle.Cycle.{Cycle}
 use Rattle.state.specs.declared.cycle.CyclePhase.{CyclePhase}
 use Rattle.state.specs.declared.cycle.CyclePhase.TheVariants.{NotStarted}
-use Rattle.units.specs.declared.maybe.MaybeNumber.{MaybeNumber}
-use Rattle.units.specs.declared.maybe.MaybeNumber.TheVariants as Number
-use Rattle.units.specs.declared.maybe.MaybeDuration.{MaybeDuration}
-use Rattle.units.specs.declared.maybe.MaybeDuration.TheVariants as Length
 use Rattle.state.specs.declared.cycle.Stay.{Stay}
 use Rattle.state.specs.declared.refusals.Rows.{Rows}
 
 -- ---- the bounds: document 01, "Replies and bounds"
 -- "lengths of time 2^36 ns (the stored probe wait 500,000 ns more)"
-abbrev pub wait_ok : MaybeDuration → Bool
-wait_ok Length.Unset = true
-wait_ok (Length.Set d) = leb d.0 (2 ^ 36 + 500_000)
+abbrev pub wait_ok : Option Duration → Bool
+wait_ok None = true
+wait_ok (Some d) = leb d.0 (2 ^ 36 + 500_000)
 
 -- "byte counts 2^40"
-abbrev pub up_bytes_ok : MaybeNumber → Bool
-up_bytes_ok Number.Unset = true
-up_bytes_ok (Number.Set n) = bytes_ok n
+abbrev pub up_bytes_ok : Option ℕ → Bool
+up_bytes_ok None = true
+up_bytes_ok (Some n) = bytes_ok n
 
 -- "probe_up_rounds 30"
 abbrev pub rounds_ok : ℕ → Bool
@@ -53,8 +50,8 @@ unfoldable pub cycle_new : Moment → Cycle
 cycle_new now =
     record {
       stay = stay_from NotStarted now;
-      wait = record { start = now; rounds = 0; length = Length.Unset };
-      slope = record { rounds = 0; bytes = Number.Unset; acked = 0; applimited = false };
+      wait = record { start = now; rounds = 0; length = None };
+      slope = record { rounds = 0; bytes = None; acked = 0; applimited = false };
       advanced = false;
       probing = false;
       last = record { high = false; risky = false };

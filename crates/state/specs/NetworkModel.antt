@@ -1,7 +1,7 @@
 -- The network model: network_model.rs, BBRv2NetworkModel in BwLoMode::Default, with document 01's bounds and refusals.
 -- Which models are within their bounds, what a fresh one is (`new`), which rows of the table the calls share, and what
 -- those calls leave that several others make use of.
-use Rattle.std.specs.Prelude.{ℕ, ◌-◌, ◌^◌, Bool, true, false, ◌&&◌, not, List, [], ◌∷◌, Float}
+use Rattle.std.specs.Prelude.{ℕ, ◌-◌, ◌^◌, Bool, true, false, ◌&&◌, not, List, [], ◌∷◌, Float, None}
 use Rattle.std.specs.Float.{binary32}
 use Rattle.std.specs.Float.Ieee.{of_bits}
 use Rattle.units.specs.declared.bandwidth.Bandwidth.{Bandwidth}
@@ -15,7 +15,6 @@ use Rattle.state.specs.declared.parts.Gains.{Gains}
 use Rattle.state.specs.declared.parts.Growth.{Growth}
 use Rattle.state.specs.declared.parts.Lower.{Lower}
 use Rattle.state.specs.declared.parts.Round.{Round}
-use Rattle.units.specs.declared.maybe.MaybeBandwidth.TheVariants.{Unset}
 use Rattle.state.specs.declared.refusals.Rows.{Rows}
 use Rattle.state.specs.Bounds.{bytes_or_unset_ok, moment_ok, length_ok, bandwidth_ok, all}
 use Rattle.state.specs.Refusals.{no_rows, stored, argument, full, first_of}
@@ -253,12 +252,12 @@ model_new cwnd pacing ignore rtt now =
       minrtt = min_force rtt now;
       round = round_new;
       latest = record { bandwidth = record { 0 = 0 }; inflight = 0 };
-      lower = record { bandwidth = Unset; inflight = 2 ^ 64 - 1 };
+      lower = record { bandwidth = None; inflight = 2 ^ 64 - 1 };
       high = 2 ^ 64 - 1;
       gains = record { cwnd = cwnd; pacing = pacing };
       cwndlimited = false;
       growth = record { reached = false; baseline = record { 0 = 0 }; flat = 0; queueing = 0; ignore = ignore };
-      rates = record { send = Unset; ack = Unset };
+      rates = record { send = None; ack = None };
       totals = record { acked = 0; lost = 0 };
       moment = now;
       begun = false;
@@ -325,7 +324,7 @@ unfoldable pub clear_inflight_next : NetworkModel → NetworkModel
 clear_inflight_next m = with_lower m (record { bandwidth = m.lower.bandwidth; inflight = 2 ^ 64 - 1 })
 
 unfoldable pub clear_bandwidth_next : NetworkModel → NetworkModel
-clear_bandwidth_next m = with_lower m (record { bandwidth = Unset; inflight = m.lower.inflight })
+clear_bandwidth_next m = with_lower m (record { bandwidth = None; inflight = m.lower.inflight })
 
 unfoldable pub advance_next : NetworkModel → NetworkModel
 advance_next m = with_maxbw m (max_advance m.maxbw)

@@ -2,7 +2,7 @@
 ghost use Rattle.std.specs.Prelude.{◌≡◌};
 ghost use Rattle.state.specs.Bounds.{bytes_ok, bytes_or_unset_ok, total_ok, moment_ok, length_ok, bandwidth_ok, maybe_ok, fraction_ok, gain_ok};
 
-use units::{Bandwidth, Duration, MaybeBandwidth, Moment};
+use units::{Bandwidth, Duration, Moment};
 
 pub const MOST_BYTES: u64 = 0x100_0000_0000;
 
@@ -55,10 +55,10 @@ pub fn bandwidth_ok(b: Bandwidth) -> bool
 }
 
 // A bandwidth that may be missing.
-pub fn maybe_ok(b: MaybeBandwidth) -> bool
+pub fn maybe_ok(b: Option<Bandwidth>) -> bool
     ensures { result ≡ maybe_ok b }
 {
-    let MaybeBandwidth::Set(held) = b else {
+    let Some(held) = b else {
         return true;
     };
     bandwidth_ok(held)

@@ -4,7 +4,7 @@ ghost use Rattle.state.specs.CongestionEvent.{maybe_length_ok, state_ok, event_o
 
 use crate::bounds::{bytes_ok, length_ok, maybe_ok, moment_ok, total_ok};
 use crate::parts::Totals;
-use units::{MaybeBandwidth, MaybeDuration, Moment};
+use units::{Bandwidth, Duration, Moment};
 
 // SendTimeState: is_valid, is_app_limited, total_bytes_acked, bytes_in_flight.
 #[derive(Clone, Copy)]
@@ -28,8 +28,8 @@ pub struct CongestionEvent {
     pub lost: u64,
     pub ended: bool,
     pub probing: bool,
-    pub bandwidth: MaybeBandwidth,
-    pub rtt: MaybeDuration,
+    pub bandwidth: Option<Bandwidth>,
+    pub rtt: Option<Duration>,
     pub state: SendTimeState,
 }
 
@@ -38,11 +38,11 @@ pub struct CongestionEvent {
 // the totals after the event.
 #[derive(Clone, Copy)]
 pub struct CongestionEventSample {
-    pub bandwidth: MaybeBandwidth,
-    pub send: MaybeBandwidth,
-    pub ack: MaybeBandwidth,
+    pub bandwidth: Option<Bandwidth>,
+    pub send: Option<Bandwidth>,
+    pub ack: Option<Bandwidth>,
     pub applimited: bool,
-    pub rtt: MaybeDuration,
+    pub rtt: Option<Duration>,
     pub inflight: u64,
     pub extra: u64,
     pub state: SendTimeState,
@@ -50,10 +50,10 @@ pub struct CongestionEventSample {
 }
 
 // A length of time that may be unset.
-pub(crate) fn maybe_length_ok(length: MaybeDuration) -> bool
+pub(crate) fn maybe_length_ok(length: Option<Duration>) -> bool
     ensures { result ≡ maybe_length_ok length }
 {
-    let MaybeDuration::Set(held) = length else {
+    let Some(held) = length else {
         return true;
     };
     length_ok(held)

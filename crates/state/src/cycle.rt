@@ -7,7 +7,7 @@ ghost use Rattle.state.specs.Cycle.{wait_ok, up_bytes_ok, cycle_ok, stay_from, c
 use crate::bounds::{MOST_LENGTH, bytes_ok, moment_ok};
 use crate::faults::now_fault;
 use crate::refusals::{Rows, refusal};
-use units::{Duration, MaybeDuration, MaybeNumber, Moment, Reply};
+use units::{Duration, Moment, Reply};
 
 #[derive(Clone, Copy)]
 pub enum CyclePhase {
@@ -31,14 +31,14 @@ pub struct Stay {
 pub struct Wait {
     pub start: Moment,
     pub rounds: u64,
-    pub length: MaybeDuration,
+    pub length: Option<Duration>,
 }
 
 // probe_up_rounds, probe_up_bytes, probe_up_acked, probe_up_app_limited_since_inflight_hi_applimited.
 #[derive(Clone, Copy)]
 pub struct Slope {
     pub rounds: u64,
-    pub bytes: MaybeNumber,
+    pub bytes: Option<u64>,
     pub acked: u64,
     pub applimited: bool,
 }
@@ -70,20 +70,20 @@ pub struct CycleChanged {
 }
 
 // The stored wait is at most the longest length of time and the extra wait.
-fn wait_ok(wait: MaybeDuration) -> bool
+fn wait_ok(wait: Option<Duration>) -> bool
     ensures { result ≡ wait_ok wait }
 {
-    let MaybeDuration::Set(length) = wait else {
+    let Some(length) = wait else {
         return true;
     };
     length.0 <= MOST_LENGTH + Cycle::EXTRA_WAIT.0
 }
 
 // A byte count that may be missing.
-fn up_bytes_ok(bytes: MaybeNumber) -> bool
+fn up_bytes_ok(bytes: Option<u64>) -> bool
     ensures { result ≡ up_bytes_ok bytes }
 {
-    let MaybeNumber::Set(count) = bytes else {
+    let Some(count) = bytes else {
         return true;
     };
     bytes_ok(count)
@@ -142,11 +142,11 @@ impl Cycle {
             wait: Wait {
                 start: now,
                 rounds: 0,
-                length: MaybeDuration::Unset,
+                length: None,
             },
             slope: Slope {
                 rounds: 0,
-                bytes: MaybeNumber::Unset,
+                bytes: None,
                 acked: 0,
                 applimited: false,
             },

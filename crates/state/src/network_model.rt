@@ -11,7 +11,7 @@ use crate::faults::start_fault;
 use crate::parts::{Gains, Growth, Latest, Lower, Rates, Round, Totals};
 use crate::refusals::{Rows, refusal};
 use filters::{MaxBandwidthFilter, MinRttFilter, RoundTripCounter};
-use units::{Bandwidth, Duration, MaybeBandwidth, Moment, Reply};
+use units::{Bandwidth, Duration, Moment, Reply};
 
 #[derive(Clone, Copy)]
 pub struct NetworkModel {
@@ -115,7 +115,7 @@ impl NetworkModel {
                 inflight: 0,
             },
             lower: Lower {
-                bandwidth: MaybeBandwidth::Unset,
+                bandwidth: None,
                 inflight: UNSET,
             },
             high: UNSET,
@@ -129,8 +129,8 @@ impl NetworkModel {
                 ignore,
             },
             rates: Rates {
-                send: MaybeBandwidth::Unset,
-                ack: MaybeBandwidth::Unset,
+                send: None,
+                ack: None,
             },
             totals: Totals { acked: 0, lost: 0 },
             moment: now,
@@ -240,7 +240,7 @@ impl NetworkModel {
         ensures { result ≡ clear_bandwidth_next self }
     {
         let lower = Lower {
-            bandwidth: MaybeBandwidth::Unset,
+            bandwidth: None,
             inflight: self.lower.inflight,
         };
         let mut next = self;

@@ -6,7 +6,7 @@ use crate::bounds::{
     UNSET, bandwidth_ok, bytes_ok, bytes_or_unset_ok, gain_ok, maybe_ok, total_ok,
 };
 use numbers::smaller;
-use units::{Bandwidth, MaybeBandwidth};
+use units::Bandwidth;
 
 // bytes_lost_in_round, loss_events_in_round, max_bytes_delivered_in_round,
 // min_bytes_in_flight_in_round, inflight_hi_limited_in_round.
@@ -29,7 +29,7 @@ pub struct Latest {
 // bandwidth_lo, inflight_lo.
 #[derive(Clone, Copy)]
 pub struct Lower {
-    pub bandwidth: MaybeBandwidth,
+    pub bandwidth: Option<Bandwidth>,
     pub inflight: u64,
 }
 
@@ -54,8 +54,8 @@ pub struct Growth {
 // latest_send_rate, latest_ack_rate.
 #[derive(Clone, Copy)]
 pub struct Rates {
-    pub send: MaybeBandwidth,
-    pub ack: MaybeBandwidth,
+    pub send: Option<Bandwidth>,
+    pub ack: Option<Bandwidth>,
 }
 
 // The port's own: the last totals acked and lost.

@@ -1,4 +1,5 @@
 -- A line from its fields. Assumes nothing.
+use Rattle.std.specs.Prelude.{Option}
 use Prim.Native.Nat.{ℕ, suc, ◌+◌, ◌-◌, ◌<◌, ◌≤◌}
 use mathlib.Core.Path.{◌≡◌, refl, sym, ap, ◌∙◌}
 use mathlib.Core.Bool.{Bool, true, false, cond}
@@ -7,7 +8,6 @@ use native.Mathlib.Omega.{arith}
 use lib.Dec.{eqb, leb}
 use lib.ListN.{length, drop, take, get_or}
 use borrow.Author.Tests.{eq-eqb, ne_eqb, le-leb, lt-leb, leb-true, leb-false}
-use Rattle.units.specs.declared.maybe.MaybeNumber.{MaybeNumber}
 use Rattle.text.specs.declared.line.Line.{Line}
 use Rattle.text.specs.declared.line.Line.TheVariants.{Refused, Event}
 use Rattle.text.specs.declared.fields.Cells.{Cells}
@@ -20,7 +20,7 @@ use Rattle.text.proofs.Numbers.{before_le, both_false}
 use Rattle.text.proofs.Splits.{fields_last, fields_more}
 
 -- what an event's line makes
-pub made_event : (kind : ℕ) (ts vs : List ℕ) (number bw rtt : MaybeNumber) → (kind ≡ 1 → ⊥) → (kind ≡ 2 → ⊥) → number ≡ given (get_or ts 3 0) (get_or vs 3 0) → bw ≡ given (get_or ts 7 0) (get_or vs 7 0) → rtt ≡ given (get_or ts 8 0) (get_or vs 8 0) → Event record { time = get_or vs 0 0; cwnd = get_or vs 1 0; inflight = get_or vs 2 0; number = number; acked = get_or vs 5 0; lost = get_or vs 6 0; bw = bw; rtt = rtt; probing = eqb (get_or vs 9 0) 1 } ≡ made_of kind ts vs
+pub made_event : (kind : ℕ) (ts vs : List ℕ) (number bw rtt : Option ℕ) → (kind ≡ 1 → ⊥) → (kind ≡ 2 → ⊥) → number ≡ given (get_or ts 3 0) (get_or vs 3 0) → bw ≡ given (get_or ts 7 0) (get_or vs 7 0) → rtt ≡ given (get_or ts 8 0) (get_or vs 8 0) → Event record { time = get_or vs 0 0; cwnd = get_or vs 1 0; inflight = get_or vs 2 0; number = number; acked = get_or vs 5 0; lost = get_or vs 6 0; bw = bw; rtt = rtt; probing = eqb (get_or vs 9 0) 1 } ≡ made_of kind ts vs
 unfolding made_of
 made_event kind ts vs number bw rtt a b x y z = simp (ne_eqb kind 1 a, ne_eqb kind 2 b, x, y, z)
 

@@ -1,6 +1,5 @@
 -- Lines worked out: document 02's own, and one or more for each cause of 6 that a line alone can have.
-use Rattle.std.specs.Prelude.{ℕ, ◌-◌, ◌^◌, ◌<◌, false, List, [], ◌∷◌, ◌++◌, ◌≡◌, length}
-use Rattle.units.specs.declared.maybe.MaybeNumber.TheVariants.{Unset, Set}
+use Rattle.std.specs.Prelude.{ℕ, ◌-◌, ◌^◌, ◌<◌, false, List, [], ◌∷◌, ◌++◌, ◌≡◌, length, None, Some}
 use Rattle.text.specs.Text.{bytes, crlf, line}
 use Rattle.text.specs.Line.{line_of}
 use Rattle.text.specs.declared.line.Line.TheVariants.{Refused, Start, Sent, Event}
@@ -15,11 +14,11 @@ pub record LinesWorked : Type 0 where
         time = 1000;
         cwnd = 1300;
         inflight = 1300;
-        number = Set 1;
+        number = Some 1;
         acked = 0;
         lost = 1300;
-        bw = Unset;
-        rtt = Unset;
+        bw = None;
+        rtt = None;
         probing = false;
       }
   -- "without CR LF": LF alone, CR alone, nothing

@@ -2,9 +2,7 @@
 -- its end or without CR LF, a wrong field count, an unknown kind, probing other than 0 or 1, a number not in plain
 -- digits (no quotes, no leading zero but in 0 itself) or above 2^64 - 1, a field wrongly filled or empty, or a send
 -- or event before any accepted start." Of the last this page knows nothing: crates/trace.
-use Rattle.std.specs.Prelude.{ℕ, ◌+◌, ◌-◌, Bool, cond, ◌&&◌, List, [], ◌∷◌, map, eqb, leb, length, take, get_or}
-use Rattle.units.specs.declared.maybe.MaybeNumber.{MaybeNumber}
-use Rattle.units.specs.declared.maybe.MaybeNumber.TheVariants.{Unset, Set}
+use Rattle.std.specs.Prelude.{ℕ, ◌+◌, ◌-◌, Bool, cond, ◌&&◌, List, [], ◌∷◌, map, eqb, leb, length, take, get_or, Option, None, Some}
 use Rattle.text.specs.Number.{tag_of, number_of}
 use Rattle.text.specs.Word.{kind_of}
 use Rattle.text.specs.Fields.{fields, rules_of, fault_from}
@@ -12,8 +10,8 @@ use Rattle.text.specs.declared.line.Line.{Line}
 use Rattle.text.specs.declared.line.Line.TheVariants.{Refused, Start, Sent, Event}
 
 -- "empty for none"
-unfoldable pub given : (tag value : ℕ) → MaybeNumber
-given tag value = cond (eqb tag 0) Unset (Set value)
+unfoldable pub given : (tag value : ℕ) → Option ℕ
+given tag value = cond (eqb tag 0) None (Some value)
 
 -- what a line of a kind asks, by the tags and numbers of its ten fields: time, cwnd, inflight, number, bytes, acked,
 -- lost, bw, rtt, probing

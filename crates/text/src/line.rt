@@ -5,7 +5,6 @@ ghost use Rattle.text.specs.Line.{line_of, body_of, made_of, given};
 use crate::fields::{Cells, cells_from, fault, rules};
 use crate::find::end_of;
 use crate::word::kind;
-use units::MaybeNumber;
 
 // time, cwnd, inflight, number, acked, lost, bw, rtt, probing.
 #[derive(Clone, Copy)]
@@ -13,11 +12,11 @@ pub struct Event {
     pub time: u64,
     pub cwnd: u64,
     pub inflight: u64,
-    pub number: MaybeNumber,
+    pub number: Option<u64>,
     pub acked: u64,
     pub lost: u64,
-    pub bw: MaybeNumber,
-    pub rtt: MaybeNumber,
+    pub bw: Option<u64>,
+    pub rtt: Option<u64>,
     pub probing: bool,
 }
 
@@ -38,14 +37,10 @@ pub enum Line {
     Event(Event),
 }
 
-fn give(tag: u8, value: u64) -> MaybeNumber
+fn give(tag: u8, value: u64) -> Option<u64>
     ensures { result ≡ given tag value }
 {
-    if tag == 0 {
-        MaybeNumber::Unset
-    } else {
-        MaybeNumber::Set(value)
-    }
+    if tag == 0 { None } else { Some(value) }
 }
 
 fn made(kind: u8, tags: &[u8; 10], values: &[u64; 10]) -> Line

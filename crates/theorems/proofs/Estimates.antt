@@ -1,5 +1,7 @@
 -- What the exported filter run writes for a pair are samples of which the promises hold (crates/worth/specs/Worth.antt), of what the pairs up to it fed. Assumes nothing.
+use Rattle.std.specs.Prelude.{Option, None, Some}
 use Prim.Native.Nat.{ℕ, zero, suc, ◌+◌, ◌-◌, ◌*◌, ◌^◌, ◌≤◌, ◌<◌}
+use Rattle.filters.specs.declared.windowed_filter.Estimates.{Estimates}
 use mathlib.Core.Bool.{Bool, true, false, not, true≢false}
 use mathlib.Core.List.{List, [], ◌∷◌}
 use mathlib.Core.Path.{◌≡◌, refl, sym, ap, subst, ◌∙◌}
@@ -10,8 +12,6 @@ use lib.ListN.{length, get_or}
 use lib.Seq.{sets}
 use borrow.Author.Tests.{eq-eqb, ltb-false, not-false}
 use Rattle.units.specs.Reply.{row_in}
-use Rattle.filters.specs.declared.windowed_filter.Held.{Held}
-use Rattle.filters.specs.declared.windowed_filter.Held.TheVariants.{Unset, Set}
 use Rattle.filters.specs.declared.windowed_filter.Reason.{Reason}
 use Rattle.filters.specs.declared.windowed_filter.Reason.TheVariants.{AllReplaced, SecondRaised, ThirdRaised, PromotedOnce, PromotedTwice, QuarterRefresh, HalfRefresh, Unchanged}
 use Rattle.filters.specs.declared.windowed_filter.Sample.{Sample}
@@ -31,18 +31,18 @@ use Rattle.theorems.proofs.Exported.{filter_is, filter_done, filter_row}
 use Rattle.theorems.proofs.Left.{number_small}
 
 -- ---- samples that are written, by what is held
-shown : (w : ℕ) (new : Sample) (fed : List Sample) (h : Held) → Promised w (new ∷ fed) h → Shows w (new ∷ fed) h (sample_in (best_of h)) (sample_in (second_of h)) (sample_in (third_of h))
-shown w new fed Unset p = absurd (true≢false (ap is_some p))
+shown : (w : ℕ) (new : Sample) (fed : List Sample) (h : Option Estimates) → Promised w (new ∷ fed) h → Shows w (new ∷ fed) h (sample_in (best_of h)) (sample_in (second_of h)) (sample_in (third_of h))
+shown w new fed None p = absurd (true≢false (ap is_some p))
   where
     is_some : List Sample → Bool
     is_some [] = false
     is_some (x ∷ l) = true
-shown w new fed (Set e) p = (e, refl, p, refl, refl, refl)
+shown w new fed (Some e) p = (e, refl, p, refl, refl, refl)
 
 small : (n : ℕ) → n ≤ 2 ^ 64 - 1 → n < 2 ^ 64
 small n h = omega (arith, h)
 
-shown_small : (w : ℕ) (fed : List Sample) (h : Held) (a b c : ℕ) → NoneAbove fed (2 ^ 64 - 1) → Shows w fed h a b c → (a < 2 ^ 64) × (b < 2 ^ 64) × (c < 2 ^ 64)
+shown_small : (w : ℕ) (fed : List Sample) (h : Option Estimates) (a b c : ℕ) → NoneAbove fed (2 ^ 64 - 1) → Shows w fed h a b c → (a < 2 ^ 64) × (b < 2 ^ 64) × (c < 2 ^ 64)
 shown_small w fed h a b c all s =
     let p = s.2 in (
       small a (subst (λ (n : ℕ). n ≤ 2 ^ 64 - 1) (sym s.3) (stands_under (2 ^ 64 - 1) fed _ all p.best)),

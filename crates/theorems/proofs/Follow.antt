@@ -1,4 +1,5 @@
 -- The lower bounds in the bytes and in the answers follow the exact run. Assumes nothing.
+use Rattle.std.specs.Prelude.{Option, None, Some}
 use Prim.Native.Nat.{ℕ, ◌-◌, ◌^◌, ◌≤◌, ◌<◌}
 use mathlib.Core.Bool.{Bool, true, false, cond, not}
 use mathlib.Core.List.{List, [], ◌∷◌, ◌++◌}
@@ -31,8 +32,6 @@ use Rattle.dispatch.specs.Outcome.{ask_outcome, outcome_of}
 use Rattle.drift.specs.Calls as C
 use Rattle.drift.specs.Calls.{Call, State, after, run, started}
 use Rattle.drift.specs.Exact.{Effect, Exact, unset, inflight_effect, bandwidth_effect, exact_run}
-use Rattle.units.specs.declared.maybe.MaybeNumber.{MaybeNumber}
-use Rattle.units.specs.declared.maybe.MaybeNumber.TheVariants as Number
 use Rattle.drift.specs.Drift as D
 use Rattle.drift.specs.Drift.{low_of, inflight_low, bandwidth_low, Follows, Along, OfEvent, IsAny, IsBeta, usual_beta, usual_parts, Under}
 use Rattle.drift.proofs.Inflight.{inflight_drift}
@@ -49,7 +48,7 @@ use Rattle.theorems.proofs.Reached.{Reached, Made, all_made, of_reached}
 -- ---- the lower bounds in any bytes are those of the state that they encode
 inflight_in_lem : (bytes : List ℕ) → inflight_in bytes ≡ inflight_low (state_from bytes)
 unfolding low_word inflight_low state_from model_from
-inflight_in_lem bytes = ap (λ (n : ℕ). cond (eqb n (2 ^ 64 - 1)) Number.Unset (Number.Set n)) (sym (get_or_words_at bytes 0 51 17 (omega arith)))
+inflight_in_lem bytes = ap (λ (n : ℕ). cond (eqb n (2 ^ 64 - 1)) None (Some n)) (sym (get_or_words_at bytes 0 51 17 (omega arith)))
 
 bandwidth_in_lem : (bytes : List ℕ) → bandwidth_in bytes ≡ bandwidth_low (state_from bytes)
 unfolding bandwidth_in bandwidth_low state_from model_from
@@ -101,7 +100,7 @@ stored_small m = go (model_ok m)
     go false = omega arith
 
 -- ---- for any theorem of runs of calls, `Q` of the events in them
-module _ (effect : Call → State → Effect) (parts : ℕ) (P : List ℕ → Type 0) (Q : Params → CongestionEvent → CongestionEventSample → Type 0) (of_words : (w : List ℕ) → P w → Q (params_from w) (event_from w) (sample_from w)) (low : State → MaybeNumber) (Near : MaybeNumber → Exact → Type 0)
+module _ (effect : Call → State → Effect) (parts : ℕ) (P : List ℕ → Type 0) (Q : Params → CongestionEvent → CongestionEventSample → Type 0) (of_words : (w : List ℕ) → P w → Q (params_from w) (event_from w) (sample_from w)) (low : State → Option ℕ) (Near : Option ℕ → Exact → Type 0)
     (theorem : (p : Params) (rtt : Duration) (now : Moment) (y : Cycle) (calls : List Call) → Along (OfEvent Q) calls (started p rtt now y) → Near (low (run calls (started p rtt now y))) (exact_run effect parts calls (started p rtt now y) unset)) where
   made : (runs : List Run) (r : Run) → History (runs ++ (r ∷ [])) → Each (OfEvents P) (runs ++ (r ∷ [])) → Made effect parts (OfEvent Q) r (exact_runs effect parts runs unset)
   made runs r h e = all_made effect parts (OfEvent Q) runs r h.order (each_fair effect parts P Q of_words (runs ++ (r ∷ [])) h.ran h.bytes e)
@@ -109,17 +108,17 @@ module _ (effect : Call → State → Effect) (parts : ℕ) (P : List ℕ → Ty
   reached : (s : State) (x : Exact) → Reached effect parts (OfEvent Q) s x → Near (low s) x
   reached = of_reached effect parts (OfEvent Q) (λ s x. Near (low s) x) theorem
 
-  in_state : (find : List ℕ → MaybeNumber) → ((bytes : List ℕ) → find bytes ≡ low (state_from bytes)) → InState P find effect parts Near
+  in_state : (find : List ℕ → Option ℕ) → ((bytes : List ℕ) → find bytes ≡ low (state_from bytes)) → InState P find effect parts Near
   in_state find same runs r h e =
       let x = exact_after effect parts r (exact_runs effect parts runs unset) in
-      subst (λ (l : MaybeNumber). Near l x) (sym (same r.left)) (reached (state_from r.left) x (made runs r h e).after)
+      subst (λ (l : Option ℕ). Near l x) (sym (same r.left)) (reached (state_from r.left) x (made runs r h e).after)
 
 -- the last of some runs
 each_last : (P : Run → Type 0) (runs : List Run) (r : Run) → Each P (runs ++ (r ∷ [])) → P r
 each_last P [] r h = h.0
 each_last P (q ∷ runs) r h = each_last P runs r h.1
 
-module _ (parts : ℕ) (P : List ℕ → Type 0) (Q : Params → CongestionEvent → CongestionEventSample → Type 0) (of_words : (w : List ℕ) → P w → Q (params_from w) (event_from w) (sample_from w)) (Near : MaybeNumber → Exact → Type 0)
+module _ (parts : ℕ) (P : List ℕ → Type 0) (Q : Params → CongestionEvent → CongestionEventSample → Type 0) (of_words : (w : List ℕ) → P w → Q (params_from w) (event_from w) (sample_from w)) (Near : Option ℕ → Exact → Type 0)
     (theorem : (p : Params) (rtt : Duration) (now : Moment) (y : Cycle) (calls : List Call) → Along (OfEvent Q) calls (started p rtt now y) → Near (inflight_low (run calls (started p rtt now y))) (exact_run inflight_effect parts calls (started p rtt now y) unset)) where
   -- the word that call 35 answers
   answered_low : (runs : List Run) (r : Run) (i : ℕ) → History (runs ++ (r ∷ [])) → Accepted 35 r i → low_word (answer_word r i 1) ≡ inflight_low (before r i)
@@ -133,7 +132,7 @@ module _ (parts : ℕ) (P : List ℕ → Type 0) (Q : Params → CongestionEvent
       let small = stored_small s.model in
       let zero : stored_number s.model ≡ 0 = sym t.0 ∙ sym (reply_word_lem r ran a.done i a.made (subst (λ (n : ℕ). eqb n 2 ≡ false) (sym t.0) (stored_plain s.model)) (subst (λ (n : ℕ). n < 2 ^ 64) (sym t.0) small)) ∙ a.accepted in
       let value : (outcome_of_call r i).value ≡ s.model.lower.inflight = t.1 ∙ rw zero in
-      ap (λ (n : ℕ). cond (eqb n (2 ^ 64 - 1)) Number.Unset (Number.Set n))
+      ap (λ (n : ℕ). cond (eqb n (2 ^ 64 - 1)) None (Some n))
       (value_word r ran a.done i a.made (subst (λ (n : ℕ). n < 2 ^ 64) (sym value) form.bound.low_inflight) ∙ value)
 
   asks : (n : ℕ) → n ≡ 35 → n ≡ 0 → ⊥
@@ -142,7 +141,7 @@ module _ (parts : ℕ) (P : List ℕ → Type 0) (Q : Params → CongestionEvent
   in_answers : InAnswers P inflight_effect parts Near
   in_answers runs r i h e a =
       let x = exact_before inflight_effect parts r i (exact_runs inflight_effect parts runs unset) in
-      subst (λ (l : MaybeNumber). Near l x) (sym (answered_low runs r i h a))
+      subst (λ (l : Option ℕ). Near l x) (sym (answered_low runs r i h a))
       (reached inflight_effect parts P Q of_words inflight_low Near theorem (before r i) x
       ((made inflight_effect parts P Q of_words inflight_low Near theorem runs r h e).middle a.done i a.made (asks _ a.named)))
 

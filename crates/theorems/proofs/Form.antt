@@ -1,6 +1,9 @@
 -- A state in the form of the code's types: every number in 64 bits, the two gains f32. What is read from words is in form, and so is what is within document 01's bounds and has its other
 -- numbers so (`Free`). What is written of a state in form is read back. Assumes nothing.
+use Rattle.std.specs.Prelude.{Option, None, Some}
 use Prim.Native.Nat.{ℕ, zero, suc, ◌+◌, ◌-◌, ◌^◌, ◌<◌}
+use Rattle.units.specs.declared.time.Duration.{Duration}
+use Rattle.units.specs.declared.bandwidth.Bandwidth.{Bandwidth}
 use mathlib.Core.Bool.{Bool, true, false, ◌&&◌, ◌||◌}
 use mathlib.Core.List.{List, [], ◌∷◌, ◌++◌}
 use mathlib.Core.Path.{◌≡◌, refl, ◌∙◌}
@@ -10,13 +13,9 @@ use lib.Ieee.{Float, binary32, fits}
 use lib.Ieee.Bits.{to_bits-lt}
 use lib.ListN.{get_or}
 use borrow.Author.Tests.{leb-true, eqb-true}
-use Rattle.units.specs.declared.maybe.MaybeNumber.{MaybeNumber}
-use Rattle.units.specs.declared.maybe.MaybeNumber.TheVariants as Number
 use Rattle.filters.specs.declared.round_trip_counter.RoundTripCounter.{RoundTripCounter}
 use Rattle.state.specs.declared.network_model.NetworkModel.{NetworkModel}
 use Rattle.state.specs.declared.parts.Gains.{Gains}
-use Rattle.units.specs.declared.maybe.MaybeBandwidth.{MaybeBandwidth}
-use Rattle.units.specs.declared.maybe.MaybeBandwidth.TheVariants.{Unset, Set}
 use Rattle.state.specs.Bounds.{bytes_or_unset_ok, bandwidth_ok, length_ok, moment_ok, bytes_ok, total_ok, maybe_ok}
 use Rattle.state.specs.Parts.{round_ok}
 use Rattle.state.specs.NetworkModel.{model_tests, model_ok}
@@ -24,8 +23,6 @@ use Rattle.state.proofs.Rows.{and_left, and_right, all_at}
 use Rattle.state.specs.declared.cycle.Cycle.{Cycle}
 use Rattle.state.specs.declared.cycle.CyclePhase.{CyclePhase}
 use Rattle.state.specs.declared.cycle.CyclePhase.TheVariants.{NotStarted, Up, Down, Cruise, Refill}
-use Rattle.units.specs.declared.maybe.MaybeDuration.{MaybeDuration}
-use Rattle.units.specs.declared.maybe.MaybeDuration.TheVariants as Length
 use Rattle.state.specs.Cycle.{wait_ok, up_bytes_ok, cycle_tests, cycle_ok}
 use Rattle.words.proofs.Laws.{AllWords}
 use Rattle.words.specs.Word.{outside, flag_word, flag_of, float_word}
@@ -42,21 +39,21 @@ Word n = n < 2 ^ 64
 abbrev pub Single : Float → Type 0
 Single x = T (fits binary32 x)
 
-abbrev pub EndForm : MaybeNumber → Type 0
-EndForm Number.Unset = Unit {0}
-EndForm (Number.Set n) = Word n
+abbrev pub EndForm : Option ℕ → Type 0
+EndForm None = Unit {0}
+EndForm (Some n) = Word n
 
-abbrev pub BandwidthForm : MaybeBandwidth → Type 0
-BandwidthForm Unset = Unit {0}
-BandwidthForm (Set b) = Word b.0
+abbrev pub BandwidthForm : Option Bandwidth → Type 0
+BandwidthForm None = Unit {0}
+BandwidthForm (Some b) = Word b.0
 
-abbrev pub LengthForm : MaybeDuration → Type 0
-LengthForm Length.Unset = Unit {0}
-LengthForm (Length.Set d) = Word d.0
+abbrev pub LengthForm : Option Duration → Type 0
+LengthForm None = Unit {0}
+LengthForm (Some d) = Word d.0
 
-abbrev pub BytesForm : MaybeNumber → Type 0
-BytesForm Number.Unset = Unit {0}
-BytesForm (Number.Set n) = Word n
+abbrev pub BytesForm : Option ℕ → Type 0
+BytesForm None = Unit {0}
+BytesForm (Some n) = Word n
 
 -- "Counters and packet numbers are free"; the gains' range says nothing of their format
 pub record Free (rounds : RoundTripCounter) (l f q : ℕ) (gains : Gains) : Type 0 where
@@ -137,9 +134,9 @@ unset_word n h = go (leb n (2 ^ 40)) (eqb n (2 ^ 64 - 1)) refl refl h
     go false true p q k = omega (arith, eqb-true n (2 ^ 64 - 1) q)
     go false false p q k = bytes_word n (p ∙ k)
 
-maybe_word : (x : MaybeBandwidth) → maybe_ok x ≡ true → BandwidthForm x
-maybe_word Unset h = tt
-maybe_word (Set b) h = bytes_word b.0 h
+maybe_word : (x : Option Bandwidth) → maybe_ok x ≡ true → BandwidthForm x
+maybe_word None h = tt
+maybe_word (Some b) h = bytes_word b.0 h
 
 pub bound_ok : (m : NetworkModel) → model_ok m ≡ true → Bound m
 unfolding model_tests round_ok
@@ -176,13 +173,13 @@ bound_ok m h =
       moment = total_word _ (all_at (model_tests m) 10 h);
     }
 
-wait_word : (x : MaybeDuration) → wait_ok x ≡ true → LengthForm x
-wait_word Length.Unset h = tt
-wait_word (Length.Set d) h = word_of d.0 (2 ^ 36 + 500_000) (omega arith) h
+wait_word : (x : Option Duration) → wait_ok x ≡ true → LengthForm x
+wait_word None h = tt
+wait_word (Some d) h = word_of d.0 (2 ^ 36 + 500_000) (omega arith) h
 
-up_word : (x : MaybeNumber) → up_bytes_ok x ≡ true → BytesForm x
-up_word Number.Unset h = tt
-up_word (Number.Set n) h = bytes_word n h
+up_word : (x : Option ℕ) → up_bytes_ok x ≡ true → BytesForm x
+up_word None h = tt
+up_word (Some n) h = bytes_word n h
 
 pub bound_cycle_ok : (y : Cycle) → cycle_ok y ≡ true → BoundCycle y
 unfolding cycle_tests
@@ -207,7 +204,7 @@ module _ (w : List ℕ) (h : AllWords w) where
       record {
         count = h 0;
         sent = h 1;
-        end = either EndForm (is_unset (get_or w 2 0) (get_or w 3 0)) Number.Unset (Number.Set (number_in (get_or w 2 0) (get_or w 3 0))) tt (number_word (get_or w 2 0) (get_or w 3 0) (h 3));
+        end = either EndForm (is_unset (get_or w 2 0) (get_or w 3 0)) None (Some (number_in (get_or w 2 0) (get_or w 3 0))) tt (number_word (get_or w 2 0) (get_or w 3 0) (h 3));
         losses = h 9;
         flat = h 24;
         queueing = h 25;
@@ -216,7 +213,7 @@ module _ (w : List ℕ) (h : AllWords w) where
       }
 
   read_bandwidth : (i j : ℕ) → BandwidthForm (bandwidth_of (get_or w i 0) (get_or w j 0))
-  read_bandwidth i j = let set = get_or w i 0 in let n = get_or w j 0 in either BandwidthForm (is_unset set n) Unset (Set (record { 0 = number_in set n })) tt (number_word set n (h j))
+  read_bandwidth i j = let set = get_or w i 0 in let n = get_or w j 0 in either BandwidthForm (is_unset set n) None (Some (record { 0 = number_in set n })) tt (number_word set n (h j))
 
   read_bound : Bound (model_from w)
   unfolding model_from
@@ -252,9 +249,9 @@ module _ (w : List ℕ) (h : AllWords w) where
       record {
         entered = h 37;
         start = h 36;
-        length = either LengthForm (is_unset (get_or w 40 0) (get_or w 41 0)) Length.Unset (Length.Set (record { 0 = number_in (get_or w 40 0) (get_or w 41 0) })) tt (number_word (get_or w 40 0) (get_or w 41 0) (h 41));
+        length = either LengthForm (is_unset (get_or w 40 0) (get_or w 41 0)) None (Some (record { 0 = number_in (get_or w 40 0) (get_or w 41 0) })) tt (number_word (get_or w 40 0) (get_or w 41 0) (h 41));
         rounds = h 42;
-        bytes = either BytesForm (is_unset (get_or w 43 0) (get_or w 44 0)) Number.Unset (Number.Set (number_in (get_or w 43 0) (get_or w 44 0))) tt (number_word (get_or w 43 0) (get_or w 44 0) (h 44));
+        bytes = either BytesForm (is_unset (get_or w 43 0) (get_or w 44 0)) None (Some (number_in (get_or w 43 0) (get_or w 44 0))) tt (number_word (get_or w 43 0) (get_or w 44 0) (h 44));
         acked = h 45;
       }
 
@@ -276,21 +273,21 @@ phase_word_lem Down = omega arith
 phase_word_lem Cruise = omega arith
 phase_word_lem Refill = omega arith
 
-end_words : (x : MaybeNumber) → EndForm x → Word (plain_maybe x).set × Word (plain_maybe x).number
-end_words Number.Unset h = (omega arith, omega arith)
-end_words (Number.Set n) h = (omega arith, h)
+end_words : (x : Option ℕ) → EndForm x → Word (plain_maybe x).set × Word (plain_maybe x).number
+end_words None h = (omega arith, omega arith)
+end_words (Some n) h = (omega arith, h)
 
-bandwidth_words : (x : MaybeBandwidth) → BandwidthForm x → Word (bandwidth_maybe x).set × Word (bandwidth_maybe x).number
-bandwidth_words Unset h = (omega arith, omega arith)
-bandwidth_words (Set b) h = (omega arith, h)
+bandwidth_words : (x : Option Bandwidth) → BandwidthForm x → Word (bandwidth_maybe x).set × Word (bandwidth_maybe x).number
+bandwidth_words None h = (omega arith, omega arith)
+bandwidth_words (Some b) h = (omega arith, h)
 
-wait_words : (x : MaybeDuration) → LengthForm x → Word (length_maybe x).set × Word (length_maybe x).number
-wait_words Length.Unset h = (omega arith, omega arith)
-wait_words (Length.Set d) h = (omega arith, h)
+wait_words : (x : Option Duration) → LengthForm x → Word (length_maybe x).set × Word (length_maybe x).number
+wait_words None h = (omega arith, omega arith)
+wait_words (Some d) h = (omega arith, h)
 
-up_words : (x : MaybeNumber) → BytesForm x → Word (plain_maybe x).set × Word (plain_maybe x).number
-up_words Number.Unset h = (omega arith, omega arith)
-up_words (Number.Set n) h = (omega arith, h)
+up_words : (x : Option ℕ) → BytesForm x → Word (plain_maybe x).set × Word (plain_maybe x).number
+up_words None h = (omega arith, omega arith)
+up_words (Some n) h = (omega arith, h)
 
 pub at_words : (l : List ℕ) → Words l → AllWords l
 at_words [] none i = omega arith

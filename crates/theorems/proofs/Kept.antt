@@ -1,4 +1,5 @@
 -- Every step leaves a state in form, and within document 01's bounds where it was: by crates/laws, and its counters by row 5 of the refusals. Assumes nothing.
+use Rattle.std.specs.Prelude.{Some}
 use Prim.Native.Nat.{ℕ, ◌+◌, ◌-◌, ◌^◌, ◌<◌}
 use mathlib.Core.Bool.{Bool, true, false, cond, not, ◌&&◌}
 use mathlib.Core.List.{List}
@@ -10,7 +11,6 @@ use lib.Ieee as Ieee
 use lib.Ieee.{Float, binary32}
 use borrow.Author.Tests.{eqb-true, eqb-false}
 use Rattle.filters.specs.declared.round_trip_counter.RoundTripCounter.{RoundTripCounter}
-use Rattle.units.specs.declared.maybe.MaybeNumber.TheVariants as Number
 use Rattle.units.specs.declared.time.Duration.{Duration}
 use Rattle.units.specs.declared.time.Moment.{Moment}
 use Rattle.filters.specs.MaxBandwidthFilter.{max_get}
@@ -130,7 +130,7 @@ counted : (r : RoundTripCounter) (acked : List ℕ) → Counted r → Counted (r
 unfolding rounds_acked rounds_ended rounds_full
 counted r acked h = go (ends_round r.end acked) (eqb r.count (2 ^ 64 - 1)) refl
   where
-    go : (t u : Bool) → eqb r.count (2 ^ 64 - 1) ≡ u → Counted (cond (t && not (t && u)) (record { count = r.count + 1; sent = r.sent; end = Number.Set r.sent }) r)
+    go : (t u : Bool) → eqb r.count (2 ^ 64 - 1) ≡ u → Counted (cond (t && not (t && u)) (record { count = r.count + 1; sent = r.sent; end = Some r.sent }) r)
     go true true e = h
     go true false e = (one_more_lem r.count h.0 e, h.1, h.1)
     go false u e = h

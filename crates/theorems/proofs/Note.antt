@@ -1,4 +1,5 @@
 -- What a call of a run does to the note of whether anything was sent, and to the last sent number (specs/Steps.antt, `note_after`, `last_after`). Assumes nothing.
+use Rattle.std.specs.Prelude.{Some}
 use Prim.Native.Nat.{ℕ, zero, suc, ◌+◌}
 use mathlib.Core.Bool.{Bool, true, false, cond, ◌&&◌, true≢false}
 use mathlib.Core.List.{List}
@@ -10,7 +11,6 @@ use borrow.Author.Tests.{ne_eqb, eqb-true}
 use Rattle.units.specs.declared.time.Duration.{Duration}
 use Rattle.units.specs.declared.time.Moment.{Moment}
 use Rattle.filters.specs.declared.round_trip_counter.RoundTripCounter.{RoundTripCounter}
-use Rattle.units.specs.declared.maybe.MaybeNumber.TheVariants as Number
 use Rattle.filters.specs.RoundTripCounter.{rounds_sent, rounds_restart, rounds_ended, rounds_acked}
 use Rattle.state.specs.declared.network_model.NetworkModel.{NetworkModel}
 use Rattle.state.specs.declared.params.Params.{Params}
@@ -64,7 +64,7 @@ left_kept m c = keeps_either (is_down c.stay.phase) (exit_model m c) m m (exit_k
 -- an ack moves the count and the end
 acked_kept : (c : RoundTripCounter) (acked : List ℕ) → (rounds_acked c acked).sent ≡ c.sent
 unfolding rounds_acked
-acked_kept c acked = either (λ (x : RoundTripCounter). x.sent ≡ c.sent) (rounds_ended c acked) (record { count = c.count + 1; sent = c.sent; end = Number.Set c.sent }) c refl refl
+acked_kept c acked = either (λ (x : RoundTripCounter). x.sent ≡ c.sent) (rounds_ended c acked) (record { count = c.count + 1; sent = c.sent; end = Some c.sent }) c refl refl
 
 abbrev Kept : Step → Type 0
 Kept c = (n : ℕ) (s : State) → Numbered c n → eqb n 1 ≡ false → sent_in (after_step c s).model ≡ cond (eqb n 0) (false, 0) (sent_in s.model)

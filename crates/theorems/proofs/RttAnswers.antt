@@ -1,4 +1,5 @@
 -- What a run of the round-trip estimator writes into the answers' bytes: for each call its words, and where it is accepted, numbers of which the promises hold. Assumes nothing.
+use Rattle.std.specs.Prelude.{None, Some}
 use Prim.Native.Nat.{ℕ, zero, suc, ◌+◌, ◌*◌, ◌^◌, ◌≤◌, ◌<◌}
 use mathlib.Core.Bool.{Bool, true, false, cond, true≢false}
 use mathlib.Core.List.{List, [], ◌∷◌, ◌++◌}
@@ -10,7 +11,6 @@ use lib.Dec.{eqb}
 use lib.ListN.{length, get_or, length-append, get_or-append}
 use lib.Seq.{sets}
 use borrow.Author.Tests.{eq-eqb, eqb-true}
-use Rattle.units.specs.declared.maybe.MaybeDuration.TheVariants.{Unset, Set}
 use Rattle.state.specs.Answers.{settled, zero_length}
 use Rattle.state.specs.Bounds.{length_ok}
 use Rattle.state.specs.Faults.{unless, first, named, replied}
@@ -93,7 +93,7 @@ shown_word : (s : RttStats) → s.minimum.0 < 2 ^ 64 → length_shown (minimum_s
 unfolding minimum_shown
 shown_word s h = go s.sampled
   where
-    go : (t : Bool) → length_shown (cond t (Set s.minimum) Unset) < 2 ^ 64
+    go : (t : Bool) → length_shown (cond t (Some s.minimum) None) < 2 ^ 64
     go true = h
     go false = omega arith
 
@@ -269,7 +269,7 @@ unfolding minimum_shown
 shown_promised [] s h = rw h
 shown_promised (new ∷ older) s h = (h.latest, minimum_is s.sampled h.sampled, h.smoothed, h.variation)
   where
-    minimum_is : (t : Bool) → t ≡ true → length_shown (cond t (Set s.minimum) Unset) ≡ least new older
+    minimum_is : (t : Bool) → t ≡ true → length_shown (cond t (Some s.minimum) None) ≡ least new older
     minimum_is true e = h.minimum
     minimum_is false e = absurd (true≢false (sym e))
 

@@ -1,4 +1,5 @@
 -- The lo that a row shows follows the exact run. Assumes nothing.
+use Rattle.std.specs.Prelude.{Option, None, Some}
 use Prim.Native.Nat.{ℕ, ◌-◌, ◌^◌, ◌≤◌}
 use mathlib.Core.Bool.{Bool, true, false, cond, true≢false}
 use mathlib.Core.List.{List, [], ◌∷◌, ◌++◌}
@@ -8,8 +9,6 @@ use lib.Dec.{eqb}
 use borrow.Author.Tests.{eqb-true, eq-eqb}
 use Rattle.units.specs.declared.time.Duration.{Duration}
 use Rattle.units.specs.declared.time.Moment.{Moment}
-use Rattle.units.specs.declared.maybe.MaybeNumber.{MaybeNumber}
-use Rattle.units.specs.declared.maybe.MaybeNumber.TheVariants as Number
 use Rattle.state.specs.declared.network_model.NetworkModel.{NetworkModel}
 use Rattle.state.specs.declared.params.Params.{Params}
 use Rattle.state.specs.declared.cycle.Cycle.{Cycle}
@@ -218,11 +217,11 @@ module _ (parts : ℕ) where
       go false = refl
 
   -- ---- for any theorem of runs of calls
-  module _ (Near : MaybeNumber → Exact → Type 0) (none-set : Near Number.Unset unset)
+  module _ (Near : Option ℕ → Exact → Type 0) (none-set : Near None unset)
       (theorem : (p : Params) (rtt : Duration) (now : Moment) (y : Cycle) (calls : List Call) → Along P calls (started p rtt now y) → Near (inflight_low (run calls (started p rtt now y))) (exact_run inflight_effect parts calls (started p rtt now y) unset)) where
     near : (t : Bool) (m : NetworkModel) (x : Exact) → Inv t m x → Near (bound m.lower.inflight) x
     unfolding bound inflight_low
-    near t m x (idle f u e) = subst (λ (v : Exact). Near (cond (eqb m.lower.inflight (2 ^ 64 - 1)) Number.Unset (Number.Set m.lower.inflight)) v) (sym e) (rw (eq-eqb m.lower.inflight (2 ^ 64 - 1) u) none-set)
+    near t m x (idle f u e) = subst (λ (v : Exact). Near (cond (eqb m.lower.inflight (2 ^ 64 - 1)) None (Some m.lower.inflight)) v) (sym e) (rw (eq-eqb m.lower.inflight (2 ^ 64 - 1) u) none-set)
     near t m x (on y f r) = of_reached inflight_effect parts P (λ s x. Near (inflight_low s) x) theorem (pair m y) x r
 
     in_rows : InRows parts Near
@@ -230,7 +229,7 @@ module _ (parts : ℕ) where
         let q = after begin (lines ++ (last ∷ [])) in
         let x = exact_lines parts begin (lines ++ (last ∷ [])) unset in
         let inv = lines_inv (lines ++ (last ∷ [])) begin unset s begins_idle in
-        subst (λ (n : MaybeNumber). Near n x)
+        subst (λ (n : Option ℕ). Near n x)
         (sym (step_lo (after begin lines) last ∙ ap (λ (r : Replay). bound r.model.lower.inflight) (sym (after_last begin lines last))))
         (near q.started q.model x inv)
 

@@ -2,10 +2,9 @@
 -- and runs of it one after the other on the same estimator. Definitions only. Theorems.antt says how to read them,
 -- Runs.antt has the signs and words that are not explained there, and crates/rtt/specs/Exact.antt what the samples, the
 -- exact averages and `Holds` are. docs/LAYOUT.md has the words of an estimator, of a call and of an answer.
-use Rattle.std.specs.Prelude.{ℕ, zero, suc, ◌+◌, ◌-◌, ◌*◌, ◌%◌, ◌^◌, ◌<◌, Bool, false, true, cond, not, ◌&&◌, ◌||◌, List, [], ◌∷◌, ◌++◌, ◌≡◌, ltb, eqb, length}
+use Rattle.std.specs.Prelude.{ℕ, zero, suc, ◌+◌, ◌-◌, ◌*◌, ◌%◌, ◌^◌, ◌<◌, Bool, false, true, cond, not, ◌&&◌, ◌||◌, List, [], ◌∷◌, ◌++◌, ◌≡◌, ltb, eqb, length, None}
 use Rattle.units.specs.Outcomes.{Allowed}
 use Rattle.units.specs.Reply.{row_in}
-use Rattle.units.specs.declared.maybe.MaybeDuration.TheVariants.{Unset}
 use Rattle.units.specs.declared.time.Duration.{Duration}
 use Rattle.state.specs.Answers.{settled, zero_length}
 use Rattle.state.specs.Bounds.{length_ok}
@@ -118,7 +117,7 @@ pub record EveryRttReply : Type 0 where
       (λ x. Answered x.reply (stored (not (stats_ok s)) no_rows) x.length s.variation zero_length)
   pub minimum : (s : RttStats) →
       Every stats.min_rtt.Reads.Learnt (λ κ. (s, tt))
-      (λ x. Answered x.reply (stored (not (stats_ok s)) no_rows) x.minimum (minimum_shown s) Unset)
+      (λ x. Answered x.reply (stored (not (stats_ok s)) no_rows) x.minimum (minimum_shown s) None)
 
 -- ---- call i of a run: the estimator before it, and word j of its answer
 abbrev pub rtt_before : RttRun → ℕ → RttStats

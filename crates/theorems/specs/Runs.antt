@@ -4,7 +4,7 @@
 -- Theorems.antt says how to read them; besides, `A ↔ B` is "A exactly when B", `Unit` "nothing is asked", `cond t a
 -- b` is a where the test t is true and b elsewhere, and of tests `eqb` is "equals", `ltb` "is below", `&&` "and",
 -- `||` "or". `suc n` is the number after n, `zero` is 0. `{K : Type 0}` names what is left to the checker to find.
-use Rattle.std.specs.Prelude.{ℕ, zero, suc, ◌+◌, ◌-◌, ◌*◌, ◌%◌, ◌^◌, ◌≤◌, ◌<◌, Bool, true, false, cond, not, ◌&&◌, ◌||◌, List, [], ◌∷◌, ◌↔◌, ◌⊎◌, ◌≡◌, ltb, eqb, Float, length, get_or, take, drop}
+use Rattle.std.specs.Prelude.{ℕ, zero, suc, ◌+◌, ◌-◌, ◌*◌, ◌%◌, ◌^◌, ◌≤◌, ◌<◌, Bool, true, false, cond, not, ◌&&◌, ◌||◌, List, [], ◌∷◌, ◌↔◌, ◌⊎◌, ◌≡◌, ltb, eqb, Float, length, get_or, take, drop, Option, None, Some}
 use Rattle.state.specs.Answers.{settled}
 use Rattle.filters.specs.WindowedFilter.{windowed_new}
 use Rattle.worth.specs.Worth.{Step, update, ran, Shows}
@@ -31,8 +31,6 @@ use Rattle.drift.specs.Exact as X
 use Rattle.drift.specs.Exact.{Exact}
 use Rattle.units.specs.Outcomes.{Allowed}
 use Rattle.units.specs.Reply.{row_in}
-use Rattle.units.specs.declared.maybe.MaybeNumber.{MaybeNumber}
-use Rattle.units.specs.declared.maybe.MaybeNumber.TheVariants as Number
 use Rattle.drift.specs.Drift.{low_of}
 use Rattle.theorems.specs.Steps.{steps_from, walk, exact_walk}
 
@@ -286,14 +284,14 @@ exact_runs effect parts [] x = x
 exact_runs effect parts (r ∷ runs) x = exact_runs effect parts runs (exact_after effect parts r x)
 
 -- ---- the lower bounds in bytes. A word: 2^64 - 1 is unset
-unfoldable pub low_word : ℕ → MaybeNumber
-low_word n = cond (eqb n (2 ^ 64 - 1)) Number.Unset (Number.Set n)
+unfoldable pub low_word : ℕ → Option ℕ
+low_word n = cond (eqb n (2 ^ 64 - 1)) None (Some n)
 
 -- word 17 of a state; words 15 and 16
-abbrev pub inflight_in : List ℕ → MaybeNumber
+abbrev pub inflight_in : List ℕ → Option ℕ
 inflight_in bytes = low_word (Bytes.word_at bytes (8 * 17))
 
-unfoldable pub bandwidth_in : List ℕ → MaybeNumber
+unfoldable pub bandwidth_in : List ℕ → Option ℕ
 bandwidth_in bytes = low_of (bandwidth_of (Bytes.word_at bytes (8 * 15)) (Bytes.word_at bytes (8 * 16)))
 
 -- ---- of an event's words: word 38 is read as beta; the window, word 23, and the inflight sample, word 10, are at most

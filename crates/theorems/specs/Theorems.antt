@@ -27,7 +27,7 @@
 -- and Examples.antt has five runs worked out in bytes, so that one sees what the statements speak of.
 -- Any other name stands in the crate that its `use` line names; what the lower bounds, exact values and `Follows` are
 -- is explained in crates/drift/specs/Drift.antt.
-use Rattle.std.specs.Prelude.{ℕ, ◌*◌, ◌^◌, ◌≤◌, ◌<◌, true, false, List, [], ◌∷◌, ◌++◌, ◌⊎◌, ◌≡◌, Float, length}
+use Rattle.std.specs.Prelude.{ℕ, ◌*◌, ◌^◌, ◌≤◌, ◌<◌, true, false, List, [], ◌∷◌, ◌++◌, ◌⊎◌, ◌≡◌, Float, length, Option}
 use Rattle.std.specs.Float.Ieee.Exact.{HasValue}
 use Rattle.numbers.specs.Scaling.{complement, parts_of}
 use Rattle.numbers.specs.Examples.{all}
@@ -67,7 +67,6 @@ use Rattle.dispatch.specs.OneCall.{answer_words}
 use Rattle.guovssalu.specs.Slope.{slope_row, window_faults, slope_reply, slope_out}
 use Rattle.drift.specs.Calls.{Call, State}
 use Rattle.drift.specs.Exact.{Effect, Exact, unset, inflight_effect, bandwidth_effect}
-use Rattle.units.specs.declared.maybe.MaybeNumber.{MaybeNumber}
 use Rattle.drift.specs.Drift.{Follows, IsBeta, usual_beta, usual_parts, Under}
 use Rattle.text.specs.Examples.{LinesWorked}
 use Rattle.trace.specs.Laws.{TraceLaws}
@@ -85,28 +84,28 @@ use Rattle.theorems.specs.Runs.{Unasked, Run, Ran, FilterRun, Filtered, SlopeRun
 
 -- What demand 3 says, of any runs, the last of which is r, that begin with a start (`History`), and in which every
 -- accepted event has words of which P holds: the number that `low` finds in the bytes that r left is near the exact one
-abbrev pub InState : (P : List ℕ → Type 0) (low : List ℕ → MaybeNumber) (effect : Call → State → Effect) (parts : ℕ)
-    (Near : MaybeNumber → Exact → Type 0) → Type 0
+abbrev pub InState : (P : List ℕ → Type 0) (low : List ℕ → Option ℕ) (effect : Call → State → Effect) (parts : ℕ)
+    (Near : Option ℕ → Exact → Type 0) → Type 0
 InState P low effect parts Near =
     (runs : List Run) (r : Run) → History (runs ++ (r ∷ [])) → Each (OfEvents P) (runs ++ (r ∷ [])) →
     Near (low r.left) (exact_after effect parts r (exact_runs effect parts runs unset))
 
 -- and so is the answer to a call 35 of r, "inflight_lo", where i calls of r were made before it
 abbrev pub InAnswers : (P : List ℕ → Type 0) (effect : Call → State → Effect) (parts : ℕ)
-    (Near : MaybeNumber → Exact → Type 0) → Type 0
+    (Near : Option ℕ → Exact → Type 0) → Type 0
 InAnswers P effect parts Near =
     (runs : List Run) (r : Run) (i : ℕ) → History (runs ++ (r ∷ [])) → Each (OfEvents P) (runs ++ (r ∷ [])) →
     Accepted 35 r i →
     Near (low_word (answer_word r i 1)) (exact_before effect parts r i (exact_runs effect parts runs unset))
 
 -- inflight_lo, where P is: the event has this beta, and its window and its inflight sample are at most 2^24
-abbrev pub InflightNear : (beta : Float) (parts : ℕ) (Near : MaybeNumber → Exact → Type 0) → Type 0
+abbrev pub InflightNear : (beta : Float) (parts : ℕ) (Near : Option ℕ → Exact → Type 0) → Type 0
 InflightNear beta parts Near =
     InState (λ w. HasBetaWord beta w × HasSmallWords w) inflight_in inflight_effect parts Near
     × InAnswers (λ w. HasBetaWord beta w × HasSmallWords w) inflight_effect parts Near
 
 -- bandwidth_lo, where P is: the event has this beta
-abbrev pub BandwidthNear : (beta : Float) (parts : ℕ) (Near : MaybeNumber → Exact → Type 0) → Type 0
+abbrev pub BandwidthNear : (beta : Float) (parts : ℕ) (Near : Option ℕ → Exact → Type 0) → Type 0
 BandwidthNear beta parts Near = InState (HasBetaWord beta) bandwidth_in bandwidth_effect parts Near
 
 pub record Theorems : Type 0 where

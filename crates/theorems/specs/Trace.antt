@@ -2,9 +2,8 @@
 -- value of inflight_lo beside a replay (crates/trace/specs/Replay.antt), by the rules of
 -- crates/drift/specs/Exact.antt on the calls that the lines make. Definitions only; Theorems.antt says how to read
 -- them.
-use Rattle.std.specs.Prelude.{ℕ, ◌^◌, ◌≤◌, cond, List, [], ◌∷◌, ◌++◌, ◌≡◌, length}
+use Rattle.std.specs.Prelude.{ℕ, ◌^◌, ◌≤◌, cond, List, [], ◌∷◌, ◌++◌, ◌≡◌, length, Option}
 use Rattle.std.proofs.lemmas.List.Edits.{sets}
-use Rattle.units.specs.declared.maybe.MaybeNumber.{MaybeNumber}
 use Rattle.state.specs.declared.network_model.NetworkModel.{NetworkModel}
 use Rattle.state.specs.Answers.{settled, zero_moment}
 use Rattle.state.specs.NetworkModel.{start_number}
@@ -107,7 +106,7 @@ SmallLines r (l ∷ ls) =
     ((stepped r l).row.refusal ≡ 0 → window_of (line_of l) ≤ 2 ^ 24) × SmallLines (stepped r l).replay ls
 
 -- of any lines from the beginning of a replay, the lo that the row of the last one shows is near the exact one
-abbrev pub InRows : (parts : ℕ) (Near : MaybeNumber → Exact → Type 0) → Type 0
+abbrev pub InRows : (parts : ℕ) (Near : Option ℕ → Exact → Type 0) → Type 0
 InRows parts Near =
     (lines : List (List ℕ)) (last : List ℕ) → SmallLines begin (lines ++ (last ∷ [])) →
     Near (stepped (after begin lines) last).row.state.lo (exact_lines parts begin (lines ++ (last ∷ [])) unset)

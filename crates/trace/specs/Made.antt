@@ -1,17 +1,12 @@
 -- The call that a line of a trace makes: document 02, request j. Start: `BBRv2NetworkModel::new`. Send:
 -- `on_packet_sent`. Event: `on_congestion_event_start` and, "An accepted event is followed by its finish",
 -- `on_congestion_event_finish`, with the record as it came back.
-use Rattle.std.specs.Prelude.{ℕ, Bool, true, false, List, [], ◌∷◌, eqb}
+use Rattle.std.specs.Prelude.{ℕ, Bool, true, false, List, [], ◌∷◌, eqb, Option, None, Some}
+use Rattle.units.specs.declared.bandwidth.Bandwidth.{Bandwidth}
 use Rattle.std.specs.Float.{binary32}
 use Rattle.std.specs.Float.Ieee.{of_bits}
 use Rattle.units.specs.declared.time.Duration.{Duration}
 use Rattle.units.specs.declared.time.Moment.{Moment}
-use Rattle.units.specs.declared.maybe.MaybeNumber.{MaybeNumber}
-use Rattle.units.specs.declared.maybe.MaybeNumber.TheVariants as Number
-use Rattle.units.specs.declared.maybe.MaybeBandwidth.{MaybeBandwidth}
-use Rattle.units.specs.declared.maybe.MaybeBandwidth.TheVariants as Rate
-use Rattle.units.specs.declared.maybe.MaybeDuration.{MaybeDuration}
-use Rattle.units.specs.declared.maybe.MaybeDuration.TheVariants as Length
 use Rattle.state.specs.declared.network_model.NetworkModel.{NetworkModel}
 use Rattle.state.specs.declared.params.Params.{Params}
 use Rattle.state.specs.declared.congestion_event.CongestionEvent.{CongestionEvent}
@@ -52,18 +47,18 @@ unfoldable pub begins : (time rtt : ℕ) → Bool
 begins time rtt = eqb (start_number params (duration rtt) (moment time)) 0
 
 -- "empty for none"
-abbrev pub rate_of : MaybeNumber → MaybeBandwidth
-rate_of Number.Unset = Rate.Unset
-rate_of (Number.Set n) = Rate.Set (record { 0 = n })
+abbrev pub rate_of : Option ℕ → Option Bandwidth
+rate_of None = None
+rate_of (Some n) = Some (record { 0 = n })
 
-abbrev pub length_of : MaybeNumber → MaybeDuration
-length_of Number.Unset = Length.Unset
-length_of (Number.Set n) = Length.Set (duration n)
+abbrev pub length_of : Option ℕ → Option Duration
+length_of None = None
+length_of (Some n) = Some (duration n)
 
 -- "the one number acked"
-abbrev pub acked_by : MaybeNumber → List ℕ
-acked_by Number.Unset = []
-acked_by (Number.Set n) = n ∷ []
+abbrev pub acked_by : Option ℕ → List ℕ
+acked_by None = []
+acked_by (Some n) = n ∷ []
 
 -- "send state not valid"
 abbrev pub no_state : SendTimeState
@@ -82,8 +77,8 @@ record_of e =
       lost = 0;
       ended = false;
       probing = e.probing;
-      bandwidth = Rate.Unset;
-      rtt = Length.Unset;
+      bandwidth = None;
+      rtt = None;
       state = no_state;
     }
 
@@ -93,8 +88,8 @@ unfoldable pub sample_of : Event → CongestionEventSample
 sample_of e =
     record {
       bandwidth = rate_of e.bw;
-      send = Rate.Unset;
-      ack = Rate.Unset;
+      send = None;
+      ack = None;
       applimited = false;
       rtt = length_of e.rtt;
       inflight = 0;

@@ -1,8 +1,6 @@
 -- A replay: document 02, request j. "Each line shows the state after it, a refused line the unchanged one; the replay
 -- goes on. Before an accepted start, the state columns are empty. A second start begins afresh."
-use Rattle.std.specs.Prelude.{ℕ, ◌-◌, ◌^◌, Bool, true, false, cond, List, eqb}
-use Rattle.units.specs.declared.maybe.MaybeNumber.{MaybeNumber}
-use Rattle.units.specs.declared.maybe.MaybeNumber.TheVariants.{Unset, Set}
+use Rattle.std.specs.Prelude.{ℕ, ◌-◌, ◌^◌, Bool, true, false, cond, List, eqb, Option, None, Some}
 use Rattle.units.specs.Reply.{kind_in}
 use Rattle.filters.specs.MaxBandwidthFilter.{max_get}
 use Rattle.state.specs.declared.network_model.NetworkModel.{NetworkModel}
@@ -27,8 +25,8 @@ unfoldable pub begin : Replay
 begin = record { line = 0; started = false; model = start_model params zero_length zero_moment; tally = no_tally }
 
 -- ---- the row. "An unset bound is an empty field": inflight_lo and inflight_hi are unset where they are 2^64 - 1
-unfoldable pub bound : ℕ → MaybeNumber
-bound n = cond (eqb n (2 ^ 64 - 1)) Unset (Set n)
+unfoldable pub bound : ℕ → Option ℕ
+bound n = cond (eqb n (2 ^ 64 - 1)) None (Some n)
 
 unfoldable pub state_of : NetworkModel → State
 state_of m =

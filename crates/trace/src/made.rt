@@ -12,7 +12,7 @@ use state::congestion_event::{CongestionEvent, CongestionEventSample, SendTimeSt
 use state::parts::Totals;
 use state::{NetworkModel, Params};
 use text::line::Event;
-use units::{Bandwidth, Duration, MaybeBandwidth, MaybeDuration, MaybeNumber, Moment, Reply};
+use units::{Bandwidth, Duration, Moment, Reply};
 
 // The original's own.
 pub(crate) fn original_params() -> Params
@@ -42,21 +42,21 @@ pub fn is_begun(time: u64, rtt: u64) -> bool
     reply.is_done()
 }
 
-fn rate_of(number: MaybeNumber) -> MaybeBandwidth
+fn rate_of(number: Option<u64>) -> Option<Bandwidth>
     ensures { result ≡ rate_of number }
 {
     match number {
-        MaybeNumber::Unset => MaybeBandwidth::Unset,
-        MaybeNumber::Set(n) => MaybeBandwidth::Set(Bandwidth(n)),
+        None => None,
+        Some(n) => Some(Bandwidth(n)),
     }
 }
 
-fn length_of(number: MaybeNumber) -> MaybeDuration
+fn length_of(number: Option<u64>) -> Option<Duration>
     ensures { result ≡ length_of number }
 {
     match number {
-        MaybeNumber::Unset => MaybeDuration::Unset,
-        MaybeNumber::Set(n) => MaybeDuration::Set(Duration(n)),
+        None => None,
+        Some(n) => Some(Duration(n)),
     }
 }
 
@@ -85,8 +85,8 @@ fn record_of(e: Event) -> CongestionEvent
         lost: 0,
         ended: false,
         probing: e.probing,
-        bandwidth: MaybeBandwidth::Unset,
-        rtt: MaybeDuration::Unset,
+        bandwidth: None,
+        rtt: None,
         state,
     }
 }
@@ -102,8 +102,8 @@ fn sample_of(e: Event) -> CongestionEventSample
     let state = no_state();
     CongestionEventSample {
         bandwidth,
-        send: MaybeBandwidth::Unset,
-        ack: MaybeBandwidth::Unset,
+        send: None,
+        ack: None,
         applimited: false,
         rtt: length,
         inflight: 0,
@@ -121,7 +121,7 @@ fn told(
     model: NetworkModel,
     event: CongestionEvent,
     sample: CongestionEventSample,
-    acked: MaybeNumber,
+    acked: Option<u64>,
 ) -> Started
     ensures reply { number result.reply ≡ event_number model params event sample (acked_by acked) }
     ensures model { result.model ≡ settled (event_number model params event sample (acked_by acked))
@@ -135,8 +135,8 @@ fn told(
 {
     let params = original_params();
     match acked {
-        MaybeNumber::Unset => on_congestion_event_start(model, params, event, sample, &[]),
-        MaybeNumber::Set(n) => on_congestion_event_start(model, params, event, sample, &[n]),
+        None => on_congestion_event_start(model, params, event, sample, &[]),
+        Some(n) => on_congestion_event_start(model, params, event, sample, &[n]),
     }
 }
 

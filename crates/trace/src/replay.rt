@@ -10,7 +10,7 @@ use rows::row::{Row, State};
 use state::NetworkModel;
 use state::bounds::UNSET;
 use text::line::{Event, Line, parse};
-use units::{Duration, MaybeNumber, Moment, Reply};
+use units::{Duration, Moment, Reply};
 
 // How many lines were answered, whether a start was accepted, the model, and what a summary counts.
 #[derive(Clone, Copy)]
@@ -29,13 +29,13 @@ pub struct Stepped {
 }
 
 // A bound as it is shown.
-fn bound_of(n: u64) -> MaybeNumber
+fn bound_of(n: u64) -> Option<u64>
     ensures { result ≡ bound n }
 {
     if n == UNSET {
-        return MaybeNumber::Unset;
+        return None;
     }
-    MaybeNumber::Set(n)
+    Some(n)
 }
 
 // What a row shows of a model.

@@ -1,10 +1,10 @@
 -- What the public functions return is what the definitions say, so the promises hold of it. Assumes nothing.
+use Rattle.std.specs.Prelude.{None, Some}
 use Prim.Native.Nat.{ℕ}
 use mathlib.Core.Bool.{true}
 use mathlib.Core.List.{List, [], ◌∷◌}
 use mathlib.Core.Path.{◌≡◌, refl, sym, ap, subst, ◌∙◌}
 use Rattle.units.proofs.Outcomes.{said}
-use Rattle.units.specs.declared.maybe.MaybeDuration.TheVariants.{Unset, Set}
 use Rattle.units.specs.declared.time.Duration.{Duration}
 use Rattle.state.specs.Answers.{settled, zero_length}
 use Rattle.state.specs.Refusals.{row_of}
@@ -46,7 +46,7 @@ not_refused s h = rw h
 
 answers : (s : RttStats) (taken : List Sample) (l : LengthRead) (m : MinimumRead) (a v : LengthRead) → stored_number s ≡ 0 → Promised taken s →
     l.length ≡ settled (stored_number s) s.latest zero_length →
-    m.minimum ≡ settled (stored_number s) (minimum_shown s) Unset →
+    m.minimum ≡ settled (stored_number s) (minimum_shown s) None →
     a.length ≡ settled (stored_number s) s.smoothed zero_length →
     v.length ≡ settled (stored_number s) s.variation zero_length →
     Answers taken l m a v
@@ -54,7 +54,7 @@ unfolding settled minimum_shown
 answers s [] l m a v z h p q r t = q ∙ rw (z, h)
 answers s (new ∷ older) l m a v z h p q r t = (
   ap (λ (d : Duration). d.0) p ∙ rw z h.latest,
-  q ∙ rw (z, h.sampled) (ap (λ (n : ℕ). Set (record { 0 = n })) h.minimum),
+  q ∙ rw (z, h.sampled) (ap (λ (n : ℕ). Some (record { 0 = n })) h.minimum),
   rw (r, z) h.smoothed,
   rw (t, z) h.variation,
 )

@@ -2,10 +2,9 @@
 -- which no more is known than their contracts. Statements only. crates/units/specs/Outcomes.antt says how a statement
 -- speaks of a contract (`Leaves`), Exact.antt how to read the rest. crates/theorems/specs/Theorems.antt says more: it
 -- speaks of the bytes that the exported run leaves.
-use Rattle.std.specs.Prelude.{List, [], ◌∷◌, ◌≡◌}
+use Rattle.std.specs.Prelude.{List, [], ◌∷◌, ◌≡◌, None, Some}
 use Rattle.units.specs.Outcomes.{Leaves}
 use Rattle.units.specs.Reply.{number}
-use Rattle.units.specs.declared.maybe.MaybeDuration.TheVariants.{Unset, Set}
 use Rattle.units.specs.declared.time.Duration.{Duration}
 use Rattle.state.specs.declared.answers.LengthRead.{LengthRead}
 use Rattle.rtt.specs.declared.rtt.MinimumRead.{MinimumRead}
@@ -38,10 +37,10 @@ AllMade (c ∷ steps) r q = (u : Ran) × Made c r u × AllMade steps u q
 -- ---- what the four questions answer: they are not refused, and the promises hold of the answers
 abbrev pub Answers : List Sample → (latest : LengthRead) (minimum : MinimumRead) (smoothed variation : LengthRead) →
     Type 0
-Answers [] l m s v = m.minimum ≡ Unset
+Answers [] l m s v = m.minimum ≡ None
 Answers (new ∷ older) l m s v =
     (l.length.0 ≡ new.latest)
-    × (m.minimum ≡ Set (record { 0 = least new older }))
+    × (m.minimum ≡ Some (record { 0 = least new older }))
     × NearSmoothed (exactly new older) s.length.0
     × NearVariation (exactly new older) v.length.0
 

@@ -1,9 +1,7 @@
 -- A run of the round-trip estimator: calls, carried out in order on an estimator in lent bytes (docs/LAYOUT.md, "The
 -- round-trip estimator"). What one call does is crates/rtt/specs/Rtt.antt's; here stands how it is read from its words
 -- and answered in words. Definitions only.
-use Rattle.std.specs.Prelude.{ℕ, zero, suc, ◌+◌, ◌-◌, ◌*◌, ◌/◌, ◌%◌, ◌^◌, Bool, false, cond, not, ◌&&◌, ◌||◌, List, [], ◌∷◌, ◌++◌, ltb, eqb, length}
-use Rattle.units.specs.declared.maybe.MaybeDuration.{MaybeDuration}
-use Rattle.units.specs.declared.maybe.MaybeDuration.TheVariants.{Unset, Set}
+use Rattle.std.specs.Prelude.{ℕ, zero, suc, ◌+◌, ◌-◌, ◌*◌, ◌/◌, ◌%◌, ◌^◌, Bool, false, cond, not, ◌&&◌, ◌||◌, List, [], ◌∷◌, ◌++◌, ltb, eqb, length, Option, None, Some}
 use Rattle.units.specs.declared.time.Duration.{Duration}
 use Rattle.state.specs.Answers.{settled}
 use Rattle.state.specs.Faults.{list_length, unless, first, replied}
@@ -71,9 +69,9 @@ call_left s n a b c =
     s))
 
 -- a length that may be none: 2^64 - 1 where it is
-abbrev pub length_shown : MaybeDuration → ℕ
-length_shown Unset = 2 ^ 64 - 1
-length_shown (Set d) = d.0
+abbrev pub length_shown : Option Duration → ℕ
+length_shown None = 2 ^ 64 - 1
+length_shown (Some d) = d.0
 
 -- what is shown of an estimator: latest, minimum, smoothed, variation
 unfoldable pub shown : RttStats → List ℕ

@@ -3,12 +3,10 @@
 
 pub mod bandwidth;
 pub mod counter;
-pub mod maybe;
 pub mod reply;
 mod saturating;
 pub mod time;
 
 pub use bandwidth::Bandwidth;
-pub use maybe::{MaybeBandwidth, MaybeDuration, MaybeNumber};
 pub use reply::Reply;
 pub use time::{Duration, Moment};

@@ -1,17 +1,14 @@
 -- What is written for a flag, an f32 or a thing that may be unset is read back as it was. Assumes nothing.
+use Rattle.std.specs.Prelude.{Option, None, Some}
 use Prim.Native.Nat.{ℕ, ◌^◌}
+use Rattle.units.specs.declared.time.Duration.{Duration}
+use Rattle.units.specs.declared.bandwidth.Bandwidth.{Bandwidth}
 use mathlib.Core.Path.{◌≡◌, refl}
 use mathlib.Core.Bool.{Bool, true, false, cond}
 use lib.Dec.{T, ltb}
 use lib.Ieee.{Float, nan, binary32, of_bits, to_bits, fits}
 use lib.Ieee.Bits.{of_bits-to_bits, of_bits-fits, to_bits-lt}
 use borrow.Author.Tests.{lt-ltb}
-use Rattle.units.specs.declared.maybe.MaybeBandwidth.{MaybeBandwidth}
-use Rattle.units.specs.declared.maybe.MaybeBandwidth.TheVariants.{Unset, Set}
-use Rattle.units.specs.declared.maybe.MaybeDuration.{MaybeDuration}
-use Rattle.units.specs.declared.maybe.MaybeDuration.TheVariants as Length
-use Rattle.units.specs.declared.maybe.MaybeNumber.{MaybeNumber}
-use Rattle.units.specs.declared.maybe.MaybeNumber.TheVariants as Number
 use Rattle.words.specs.Word.{flag_word, flag_of, flag_fits, float_word, float_of}
 use Rattle.words.specs.Maybe.{bandwidth_maybe, bandwidth_of, length_maybe, length_of, plain_maybe, plain_of}
 
@@ -35,14 +32,14 @@ float_fits_lem w = go (ltb w (2 ^ 32))
     go true = of_bits-fits binary32 w
     go false = tt
 
-pub bandwidth_back : (x : MaybeBandwidth) → bandwidth_of (bandwidth_maybe x).set (bandwidth_maybe x).number ≡ x
-bandwidth_back Unset = refl
-bandwidth_back (Set b) = refl
+pub bandwidth_back : (x : Option Bandwidth) → bandwidth_of (bandwidth_maybe x).set (bandwidth_maybe x).number ≡ x
+bandwidth_back None = refl
+bandwidth_back (Some b) = refl
 
-pub length_back : (x : MaybeDuration) → length_of (length_maybe x).set (length_maybe x).number ≡ x
-length_back Length.Unset = refl
-length_back (Length.Set d) = refl
+pub length_back : (x : Option Duration) → length_of (length_maybe x).set (length_maybe x).number ≡ x
+length_back None = refl
+length_back (Some d) = refl
 
-pub plain_back : (x : MaybeNumber) → plain_of (plain_maybe x).set (plain_maybe x).number ≡ x
-plain_back Number.Unset = refl
-plain_back (Number.Set n) = refl
+pub plain_back : (x : Option ℕ) → plain_of (plain_maybe x).set (plain_maybe x).number ≡ x
+plain_back None = refl
+plain_back (Some n) = refl

@@ -1,12 +1,8 @@
 -- A thing that may be unset, as two words: 1 and the number, or 0 and 0. No writer writes anything else; such a pair is
 -- read as the number `outside`, which is out of bounds wherever a call is given one. Definitions only.
-use Rattle.std.specs.Prelude.{ℕ, Bool, cond, ◌&&◌, ◌||◌, List, [], ◌∷◌, eqb}
-use Rattle.units.specs.declared.maybe.MaybeBandwidth.{MaybeBandwidth}
-use Rattle.units.specs.declared.maybe.MaybeBandwidth.TheVariants.{Unset, Set}
-use Rattle.units.specs.declared.maybe.MaybeDuration.{MaybeDuration}
-use Rattle.units.specs.declared.maybe.MaybeDuration.TheVariants as Length
-use Rattle.units.specs.declared.maybe.MaybeNumber.{MaybeNumber}
-use Rattle.units.specs.declared.maybe.MaybeNumber.TheVariants as Number
+use Rattle.std.specs.Prelude.{ℕ, Bool, cond, ◌&&◌, ◌||◌, List, [], ◌∷◌, eqb, Option, None, Some}
+use Rattle.units.specs.declared.time.Duration.{Duration}
+use Rattle.units.specs.declared.bandwidth.Bandwidth.{Bandwidth}
 use Rattle.words.specs.declared.maybe.Maybe.{Maybe}
 use Rattle.words.specs.Word.{flag_of, or_outside}
 
@@ -34,25 +30,25 @@ abbrev pub maybe_of : {A : Type 0} → A → (ℕ → A) → (set n : ℕ) → A
 maybe_of none some set n = cond (is_unset set n) none (some (number_in set n))
 
 -- a bandwidth
-abbrev pub bandwidth_maybe : MaybeBandwidth → Maybe
-bandwidth_maybe Unset = unset
-bandwidth_maybe (Set b) = held b.0
+abbrev pub bandwidth_maybe : Option Bandwidth → Maybe
+bandwidth_maybe None = unset
+bandwidth_maybe (Some b) = held b.0
 
-abbrev pub bandwidth_of : ℕ → ℕ → MaybeBandwidth
-bandwidth_of set n = maybe_of Unset (λ n. Set (record { 0 = n })) set n
+abbrev pub bandwidth_of : ℕ → ℕ → Option Bandwidth
+bandwidth_of set n = maybe_of None (λ n. Some (record { 0 = n })) set n
 
 -- a length of time
-abbrev pub length_maybe : MaybeDuration → Maybe
-length_maybe Length.Unset = unset
-length_maybe (Length.Set d) = held d.0
+abbrev pub length_maybe : Option Duration → Maybe
+length_maybe None = unset
+length_maybe (Some d) = held d.0
 
-abbrev pub length_of : ℕ → ℕ → MaybeDuration
-length_of set n = maybe_of Length.Unset (λ n. Length.Set (record { 0 = n })) set n
+abbrev pub length_of : ℕ → ℕ → Option Duration
+length_of set n = maybe_of None (λ n. Some (record { 0 = n })) set n
 
 -- a plain number: a packet's, a byte count
-abbrev pub plain_maybe : MaybeNumber → Maybe
-plain_maybe Number.Unset = unset
-plain_maybe (Number.Set n) = held n
+abbrev pub plain_maybe : Option ℕ → Maybe
+plain_maybe None = unset
+plain_maybe (Some n) = held n
 
-abbrev pub plain_of : ℕ → ℕ → MaybeNumber
-plain_of set n = maybe_of Number.Unset (λ n. Number.Set n) set n
+abbrev pub plain_of : ℕ → ℕ → Option ℕ
+plain_of set n = maybe_of None (λ n. Some n) set n

@@ -3,7 +3,7 @@ ghost use Rattle.std.specs.Prelude.{◌≡◌};
 ghost use Rattle.words.specs.Maybe.{is_unset, maybe_fits, number_in, bandwidth_of, bandwidth_maybe, length_of, length_maybe, plain_of, plain_maybe};
 
 use crate::word::or_outside;
-use units::{Bandwidth, Duration, MaybeBandwidth, MaybeDuration, MaybeNumber};
+use units::{Bandwidth, Duration};
 
 // 1 and the number, or 0 and 0.
 #[derive(Clone, Copy)]
@@ -34,23 +34,23 @@ pub fn number_in(set: u64, number: u64) -> u64
 }
 
 // The bandwidth in two words.
-pub fn bandwidth_of(set: u64, number: u64) -> MaybeBandwidth
+pub fn bandwidth_of(set: u64, number: u64) -> Option<Bandwidth>
     ensures { result ≡ bandwidth_of set number }
 {
     if is_unset(set, number) {
-        MaybeBandwidth::Unset
+        None
     } else {
-        MaybeBandwidth::Set(Bandwidth(number_in(set, number)))
+        Some(Bandwidth(number_in(set, number)))
     }
 }
 
 // A bandwidth as two words.
-pub fn bandwidth_maybe(bandwidth: MaybeBandwidth) -> Maybe
+pub fn bandwidth_maybe(bandwidth: Option<Bandwidth>) -> Maybe
     ensures { result ≡ bandwidth_maybe bandwidth }
 {
     match bandwidth {
-        MaybeBandwidth::Unset => Maybe { set: 0, number: 0 },
-        MaybeBandwidth::Set(held) => Maybe {
+        None => Maybe { set: 0, number: 0 },
+        Some(held) => Maybe {
             set: 1,
             number: held.0,
         },
@@ -58,23 +58,23 @@ pub fn bandwidth_maybe(bandwidth: MaybeBandwidth) -> Maybe
 }
 
 // The length of time in two words.
-pub fn length_of(set: u64, number: u64) -> MaybeDuration
+pub fn length_of(set: u64, number: u64) -> Option<Duration>
     ensures { result ≡ length_of set number }
 {
     if is_unset(set, number) {
-        MaybeDuration::Unset
+        None
     } else {
-        MaybeDuration::Set(Duration(number_in(set, number)))
+        Some(Duration(number_in(set, number)))
     }
 }
 
 // A length of time as two words.
-pub fn length_maybe(length: MaybeDuration) -> Maybe
+pub fn length_maybe(length: Option<Duration>) -> Maybe
     ensures { result ≡ length_maybe length }
 {
     match length {
-        MaybeDuration::Unset => Maybe { set: 0, number: 0 },
-        MaybeDuration::Set(held) => Maybe {
+        None => Maybe { set: 0, number: 0 },
+        Some(held) => Maybe {
             set: 1,
             number: held.0,
         },
@@ -82,22 +82,22 @@ pub fn length_maybe(length: MaybeDuration) -> Maybe
 }
 
 // The plain number in two words.
-pub fn plain_of(set: u64, number: u64) -> MaybeNumber
+pub fn plain_of(set: u64, number: u64) -> Option<u64>
     ensures { result ≡ plain_of set number }
 {
     if is_unset(set, number) {
-        MaybeNumber::Unset
+        None
     } else {
-        MaybeNumber::Set(number_in(set, number))
+        Some(number_in(set, number))
     }
 }
 
 // A plain number as two words.
-pub fn plain_maybe(plain: MaybeNumber) -> Maybe
+pub fn plain_maybe(plain: Option<u64>) -> Maybe
     ensures { result ≡ plain_maybe plain }
 {
     match plain {
-        MaybeNumber::Unset => Maybe { set: 0, number: 0 },
-        MaybeNumber::Set(number) => Maybe { set: 1, number },
+        None => Maybe { set: 0, number: 0 },
+        Some(number) => Maybe { set: 1, number },
     }
 }

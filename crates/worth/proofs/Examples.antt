@@ -1,4 +1,5 @@
 -- The runs worked out, and two that miss a sample, at any window. Assumes nothing.
+use Rattle.std.specs.Prelude.{Some}
 use Prim.Native.Nat.{ℕ, ◌+◌, ◌-◌, ◌/◌, ◌^◌, ◌≤◌, ◌<◌}
 use mathlib.Core.Bool.{Bool, true, false}
 use mathlib.Core.List.{List, [], ◌∷◌}
@@ -8,7 +9,6 @@ use native.Mathlib.Omega.{arith}
 use lib.Dec.{leb, eqb}
 use borrow.Author.Tests.{lt-ltb, le-ltb, leb-true, leb-false}
 use Rattle.filters.specs.declared.windowed_filter.Estimates.{Estimates}
-use Rattle.filters.specs.declared.windowed_filter.Held.TheVariants.{Set}
 use Rattle.filters.specs.declared.windowed_filter.Sample.{Sample}
 use Rattle.filters.specs.WindowedFilter.{sample_at, estimates, is_replaced, raised, shifted, lingers, renewed, aged, windowed_new, windowed_number, windowed_update}
 use Rattle.worth.specs.Worth.{Step, update, Ran, fed_by, step, go_on, ran, Stands, latest}
@@ -17,7 +17,7 @@ use Rattle.worth.proofs.Worth.{among}
 
 -- ---- an accepted update by the tests of the steps
 abbrev at : (w : ℕ) (a b c : Sample) → List Sample → Ran
-at w a b c fed = record { filter = record { window = w; held = Set (estimates a b c) }; fed = fed }
+at w a b c fed = record { filter = record { window = w; held = Some (estimates a b c) }; fed = fed }
 
 module _ (w s t : ℕ) (a b c : Sample) (fed : List Sample) where
   abbrev new : Sample
@@ -34,7 +34,7 @@ module _ (w s t : ℕ) (a b c : Sample) (fed : List Sample) where
       × (s ≤ c.sample)
       × (t - c.time ≤ w)
 
-  taken : Quiet → step (at w a b c fed) (update s t) ≡ record { filter = record { window = w; held = Set (aged (estimates a b c) new w) }; fed = new ∷ fed }
+  taken : Quiet → step (at w a b c fed) (update s t) ≡ record { filter = record { window = w; held = Some (aged (estimates a b c) new w) }; fed = new ∷ fed }
   unfolding fed_by windowed_number windowed_update is_replaced raised
   taken q =
       rw (le-ltb t a.time q.0, le-ltb t b.time q.1, le-ltb t c.time q.2, le-ltb a.sample s q.3, le-ltb b.sample s q.4, le-ltb c.sample s q.5, le-ltb w (t - c.time) q.6)

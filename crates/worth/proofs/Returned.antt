@@ -1,10 +1,10 @@
 -- What the public functions return is what the definitions say, so the promises hold of it. Assumes nothing.
+use Rattle.std.specs.Prelude.{Option, None, Some}
 use Prim.Native.Nat.{ℕ}
+use Rattle.filters.specs.declared.windowed_filter.Estimates.{Estimates}
 use mathlib.Core.List.{List, [], ◌∷◌}
 use mathlib.Core.Path.{◌≡◌, refl, sym, ap, subst, ◌∙◌}
 use Rattle.units.proofs.Outcomes.{said}
-use Rattle.filters.specs.declared.windowed_filter.Held.{Held}
-use Rattle.filters.specs.declared.windowed_filter.Held.TheVariants.{Unset, Set}
 use Rattle.filters.specs.declared.windowed_filter.Sample.{Sample}
 use Rattle.filters.specs.declared.windowed_filter.WindowedFilter.{WindowedFilter}
 use Rattle.filters.specs.WindowedFilter.{sample_at, best_of, second_of, third_of}
@@ -33,10 +33,10 @@ returned window steps r q b m =
     let begun = x.4 ∙ made_of x.3 refl in
     subst (Holds window) (sym (all_made steps r q m ∙ ap (λ (u : Ran). go_on u steps) begun)) (every_run.run window steps)
 
-answers : (window : ℕ) (fed : List Sample) (h : Held) → Promised window fed h → Answers window fed h (best_of h) (second_of h) (third_of h)
-answers window fed Unset p = subst (λ (l : List Sample). Answers window l Unset (best_of Unset) (second_of Unset) (third_of Unset)) (sym p) (refl, refl, refl)
-answers window [] (Set e) p = absurd p.newest
-answers window (new ∷ fed) (Set e) p = (e.best.sample, e.second.sample, e.third.sample, refl, refl, refl, (e, refl, p, refl, refl, refl))
+answers : (window : ℕ) (fed : List Sample) (h : Option Estimates) → Promised window fed h → Answers window fed h (best_of h) (second_of h) (third_of h)
+answers window fed None p = subst (λ (l : List Sample). Answers window l None (best_of None) (second_of None) (third_of None)) (sym p) (refl, refl, refl)
+answers window [] (Some e) p = absurd p.newest
+answers window (new ∷ fed) (Some e) p = (e.best.sample, e.second.sample, e.third.sample, refl, refl, refl, (e, refl, p, refl, refl, refl))
 
 pub every_returned : EveryReturned
 every_returned =

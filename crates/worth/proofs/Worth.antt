@@ -1,4 +1,5 @@
 -- What the estimates are worth: an update keeps the promises, step by step. Assumes nothing.
+use Rattle.std.specs.Prelude.{Option, None, Some}
 use Prim.Native.Nat.{ℕ, ◌+◌, ◌-◌, ◌/◌, ◌≤◌}
 use mathlib.Core.Bool.{Bool, true, false, cond, ◌||◌}
 use mathlib.Core.List.{List, [], ◌∷◌, ◌++◌}
@@ -9,8 +10,6 @@ use native.Mathlib.Omega.{arith}
 use lib.Dec.{ltb, eqb}
 use borrow.Author.Tests.{ltb-false, le-ltb}
 use Rattle.filters.specs.declared.windowed_filter.Estimates.{Estimates}
-use Rattle.filters.specs.declared.windowed_filter.Held.{Held}
-use Rattle.filters.specs.declared.windowed_filter.Held.TheVariants.{Unset, Set}
 use Rattle.filters.specs.declared.windowed_filter.Sample.{Sample}
 use Rattle.filters.specs.declared.windowed_filter.WindowedFilter.{WindowedFilter}
 use Rattle.filters.specs.WindowedFilter.{sample_at, estimates, all_three, is_older, is_replaced, raised, shifted, lingers, renewed, aged, updated, is_after, windowed_reset, windowed_number, windowed_update}
@@ -176,7 +175,7 @@ module _ (w : ℕ) (fed : List Sample) (s t : ℕ) where
       (λ _. (k, fine))))
 
   -- an update of three estimates whose times are not later
-  updated_worth : (e : Estimates) → Worth w fed e → e.third.time ≤ t → Worth w (new ∷ fed) (updated (Set e) new w)
+  updated_worth : (e : Estimates) → Worth w fed e → e.third.time ≤ t → Worth w (new ∷ fed) (updated (Some e) new w)
   unfolding is_replaced
   updated_worth e p past =
       let best-past = le_trans p.second_time (le_trans p.third_time past) in
@@ -189,24 +188,24 @@ module _ (w : ℕ) (fed : List Sample) (s t : ℕ) where
       (aged_good (raised e new) (raised_kept e p past (ltb-false e.best.sample s tests.0)) (raised_young e tests.1)))
 
 -- ---- a run
-third_past : (e : Estimates) (t : ℕ) → is_after (Set e) t ≡ false → e.third.time ≤ t
+third_past : (e : Estimates) (t : ℕ) → is_after (Some e) t ≡ false → e.third.time ≤ t
 third_past e t h =
     let last = ltb t e.third.time in
     ltb-false t e.third.time (neither (ltb t e.best.time || ltb t e.second.time) last h).1
 
-updated_promised : (w : ℕ) (fed : List Sample) (h : Held) (s t : ℕ) → Promised w fed h → is_after h t ≡ false → Worth w (sample_at s t ∷ fed) (updated h (sample_at s t) w)
-updated_promised w fed Unset s t empty in_order =
+updated_promised : (w : ℕ) (fed : List Sample) (h : Option Estimates) (s t : ℕ) → Promised w fed h → is_after h t ≡ false → Worth w (sample_at s t ∷ fed) (updated h (sample_at s t) w)
+updated_promised w fed None s t empty in_order =
     let new = sample_at s t in
     worth w fed s t t (all_three new) (both_new w fed s t new (le_refl t) (le_refl t) (le_refl s) (here new fed))
     (subst (λ (l : List Sample). latest l ≤ t + w) (sym empty) (omega arith)) (le-add_right t w)
-updated_promised w fed (Set e) s t p in_order = updated_worth w fed s t e p (third_past e t in_order)
+updated_promised w fed (Some e) s t p in_order = updated_worth w fed s t e p (third_past e t in_order)
 
 updated_holds : (w : ℕ) (r : Ran) (s t : ℕ) → Holds w r → Holds w (step r (update s t))
 unfolding fed_by windowed_update windowed_number
 updated_holds w r s t p = go (is_after r.filter.held t) refl
   where
     after : WindowedFilter
-    after = record { window = r.filter.window; held = Set (updated r.filter.held (sample_at s t) r.filter.window) }
+    after = record { window = r.filter.window; held = Some (updated r.filter.held (sample_at s t) r.filter.window) }
 
     go :
         (b : Bool) → is_after r.filter.held t ≡ b →

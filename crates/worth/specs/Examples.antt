@@ -2,18 +2,16 @@
 -- missed in two ways. A quarter refresh, step 4 of document 01, puts the new sample in the place of the second and of
 -- the third, and a larger third is lost. And a sample that is not above the third is not held at all.
 -- Statements only; Worth.antt says how to read them, and `take n l` is the first n of the list l.
-use Rattle.std.specs.Prelude.{ℕ, ◌+◌, ◌-◌, ◌^◌, ◌≤◌, ◌<◌, List, [], ◌∷◌, ◌≡◌, take}
+use Rattle.std.specs.Prelude.{ℕ, ◌+◌, ◌-◌, ◌^◌, ◌≤◌, ◌<◌, List, [], ◌∷◌, ◌≡◌, take, Option, None, Some}
 use Rattle.filters.specs.declared.windowed_filter.Estimates.{Estimates}
-use Rattle.filters.specs.declared.windowed_filter.Held.{Held}
-use Rattle.filters.specs.declared.windowed_filter.Held.TheVariants.{Unset, Set}
 use Rattle.filters.specs.declared.windowed_filter.Sample.{Sample}
 use Rattle.filters.specs.WindowedFilter.{sample_at, estimates}
 use Rattle.worth.specs.Worth.{Step, update, reset, clear, ran, largest, in_window}
 
 -- "the best is at least every sample of the window": not promised
-abbrev pub IsMost : (window : ℕ) → List Sample → Held → Type 0
-IsMost window fed Unset = Unit {0}
-IsMost window fed (Set e) = largest (in_window window fed) ≤ e.best.sample
+abbrev pub IsMost : (window : ℕ) → List Sample → Option Estimates → Type 0
+IsMost window fed None = Unit {0}
+IsMost window fed (Some e) = largest (in_window window fed) ≤ e.best.sample
 
 -- ---- a sample of age 1 is missed
 -- at window 8: 3 at 0, 2 at 8, 1 at 16, 0 at 16, 0 at 17
@@ -30,13 +28,13 @@ unheld w = update 5 0 ∷ update 4 1 ∷ update 3 (w + 1) ∷ []
 
 -- what is held after a run, and what was fed
 abbrev pub Ends : (window : ℕ) → List Step → Estimates → List Sample → Type 0
-Ends w steps e fed = ran w steps ≡ record { filter = record { window = w; held = Set e }; fed = fed }
+Ends w steps e fed = ran w steps ≡ record { filter = record { window = w; held = Some e }; fed = fed }
 
 -- a row of the table in docs/ESTIMATE.md: after the first n of the five, the three estimates and the window's maximum
 abbrev pub Row : (n : ℕ) → (best second third : Sample) → (most : ℕ) → Type 0
 Row n a b c most =
     let r = ran 8 (take n five_updates) in
-    (r.filter.held ≡ Set (estimates a b c)) × (largest (in_window 8 r.fed) ≡ most)
+    (r.filter.held ≡ Some (estimates a b c)) × (largest (in_window 8 r.fed) ≡ most)
 
 -- numbers of 64 bits, as the code takes
 abbrev pub AreWords : List Step → Type 0

@@ -2,12 +2,10 @@
 -- is known than their contracts. Statements only. crates/units/specs/Outcomes.antt says how a statement speaks of a
 -- contract (`Leaves`), Worth.antt how to read the rest. crates/theorems/specs/Theorems.antt says more: it speaks of the
 -- bytes that the exported filter run writes.
-use Rattle.std.specs.Prelude.{ℕ, List, [], ◌∷◌, ◌≡◌}
+use Rattle.std.specs.Prelude.{ℕ, List, [], ◌∷◌, ◌≡◌, Option, None, Some}
+use Rattle.filters.specs.declared.windowed_filter.Estimates.{Estimates}
 use Rattle.units.specs.Outcomes.{Leaves}
 use Rattle.units.specs.Reply.{number}
-use Rattle.units.specs.declared.maybe.MaybeNumber.{MaybeNumber}
-use Rattle.units.specs.declared.maybe.MaybeNumber.TheVariants as Number
-use Rattle.filters.specs.declared.windowed_filter.Held.{Held}
 use Rattle.filters.specs.declared.windowed_filter.Sample.{Sample}
 use Rattle.filters.specs.WindowedFilter.{sample_at}
 use Rattle.filters.proofs.windowed_filter.WindowedFilter as windowed
@@ -37,13 +35,13 @@ AllMade [] r q = q ≡ r
 AllMade (c ∷ steps) r q = (u : Ran) × Made c r u × AllMade steps u q
 
 -- ---- what the three questions answer: nothing where nothing was fed, else samples of which the promises hold
-abbrev pub Answers : (window : ℕ) → List Sample → Held → (best second third : MaybeNumber) → Type 0
-Answers window [] h a b c = (a ≡ Number.Unset) × (b ≡ Number.Unset) × (c ≡ Number.Unset)
+abbrev pub Answers : (window : ℕ) → List Sample → Option Estimates → (best second third : Option ℕ) → Type 0
+Answers window [] h a b c = (a ≡ None) × (b ≡ None) × (c ≡ None)
 Answers window (new ∷ fed) h a b c =
     (best : ℕ) × (second : ℕ) × (third : ℕ)
-    × (a ≡ Number.Set best)
-    × (b ≡ Number.Set second)
-    × (c ≡ Number.Set third)
+    × (a ≡ Some best)
+    × (b ≡ Some second)
+    × (c ≡ Some third)
     × Shows window (new ∷ fed) h best second third
 
 pub record EveryReturned : Type 0 where
@@ -51,7 +49,7 @@ pub record EveryReturned : Type 0 where
   pub run : (window : ℕ) (steps : List Step) (r q : Ran) → Begun window r → AllMade steps r q → Holds window q
   -- and its answers: get_best, get_second_best, get_third_best
   pub asked : (window : ℕ) (steps : List Step) (r q : Ran) → Begun window r → AllMade steps r q →
-      (a b c : MaybeNumber) →
+      (a b c : Option ℕ) →
       Leaves windowed.get_best.Reads.Learnt (λ κ. (q.filter, tt)) (λ x. x) a →
       Leaves windowed.get_second_best.Reads.Learnt (λ κ. (q.filter, tt)) (λ x. x) b →
       Leaves windowed.get_third_best.Reads.Learnt (λ κ. (q.filter, tt)) (λ x. x) c →

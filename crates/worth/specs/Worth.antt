@@ -12,10 +12,8 @@
 -- B` is B, in which x stands for a. `cond t a b` is a where the test t holds and b elsewhere, and `eqb a b` the test
 -- whether a equals b. `[]` is the empty list, `x ∷ l` the list l with x before it, `k ++ l` the list k and then the
 -- list l. `abbrev`, `unfoldable`, `pub` and `use` add nothing to what is said.
-use Rattle.std.specs.Prelude.{ℕ, max, ◌+◌, ◌≤◌, cond, List, [], ◌∷◌, ◌++◌, ◌≡◌, eqb}
+use Rattle.std.specs.Prelude.{ℕ, max, ◌+◌, ◌≤◌, cond, List, [], ◌∷◌, ◌++◌, ◌≡◌, eqb, Option, None, Some}
 use Rattle.filters.specs.declared.windowed_filter.Estimates.{Estimates}
-use Rattle.filters.specs.declared.windowed_filter.Held.{Held}
-use Rattle.filters.specs.declared.windowed_filter.Held.TheVariants.{Unset, Set}
 use Rattle.filters.specs.declared.windowed_filter.Sample.{Sample}
 use Rattle.filters.specs.declared.windowed_filter.WindowedFilter.{WindowedFilter}
 use Rattle.filters.specs.WindowedFilter.{sample_at, is_older, windowed_new, windowed_reset, windowed_number, windowed_update}
@@ -106,19 +104,19 @@ pub record Worth (window : ℕ) (fed : List Sample) (e : Estimates) : Type 0 whe
   pub in_window_lem : e.best.sample ≤ largest (in_window window fed)
 
 -- a filter is empty exactly where nothing was fed since the last clear
-abbrev pub Promised : (window : ℕ) → List Sample → Held → Type 0
-Promised window fed Unset = fed ≡ []
-Promised window fed (Set e) = Worth window fed e
+abbrev pub Promised : (window : ℕ) → List Sample → Option Estimates → Type 0
+Promised window fed None = fed ≡ []
+Promised window fed (Some e) = Worth window fed e
 
 pub record Holds (window : ℕ) (r : Ran) : Type 0 where
   pub window_kept : r.filter.window ≡ window
   pub promised : Promised window r.fed r.filter.held
 
 -- three estimates are held, of which the promises hold, and three numbers are their samples
-abbrev pub Shows : (window : ℕ) → List Sample → Held → (best second third : ℕ) → Type 0
+abbrev pub Shows : (window : ℕ) → List Sample → Option Estimates → (best second third : ℕ) → Type 0
 Shows window fed h best second third =
     (e : Estimates)
-    × (h ≡ Set e)
+    × (h ≡ Some e)
     × Worth window fed e
     × (best ≡ e.best.sample)
     × (second ≡ e.second.sample)

@@ -1,4 +1,5 @@
 -- `adapt_lower_bounds` meets its contract: part by part where the bounds are cut, and as they were elsewhere.
+use Rattle.std.specs.Prelude.{Some}
 use mathlib.Core.Path.{ap, ap₂, ◌∙◌}
 use Prim.Native.Nat.{ℕ, max}
 use lib.Ieee.{of_bits}
@@ -7,12 +8,11 @@ use Rattle.units.specs.Bandwidth.{larger_of, times_f32}
 use Rattle.numbers.specs.Scaling.{scaled, complement}
 use Rattle.state.specs.declared.parts.Latest.{Latest}
 use Rattle.state.specs.declared.parts.Lower.{Lower}
-use Rattle.units.specs.declared.maybe.MaybeBandwidth.TheVariants.{Set}
 use Rattle.events.specs.Event.{seed_of, lower_reduced, lower_after, adapt_lower_bounds}
 use Rattle.events.proofs.event.adapt_lower_bounds.Goals as goal
 
 abbrev made : Bandwidth → ℕ → Lower
-made x y = record { bandwidth = Set x; inflight = y }
+made x y = record { bandwidth = Some x; inflight = y }
 
 pub returns-then-after-lost : goal.returns-then-after-lost
 unfolding adapt_lower_bounds lower_after lower_reduced of_bits

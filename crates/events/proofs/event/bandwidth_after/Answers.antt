@@ -2,4 +2,4 @@
 use Rattle.events.proofs.event.bandwidth_after.Goals as goal
 
 pub returns-then-changed : goal.returns-then-changed
-returns-then-changed c = rw (c.in-Set.is, c.if-changed.true)
+returns-then-changed c = rw (c.in-Some.is, c.if-changed.true)

@@ -1,16 +1,17 @@
 -- `event_after` meets its contract: part by part.
+use Rattle.std.specs.Prelude.{Option}
 use mathlib.Core.Path.{ap, ap₂, ◌∙◌}
+use Rattle.units.specs.declared.time.Duration.{Duration}
+use Rattle.units.specs.declared.bandwidth.Bandwidth.{Bandwidth}
 use mathlib.Core.Bool.{Bool}
 use Prim.Native.Nat.{ℕ, ◌-◌}
-use Rattle.units.specs.declared.maybe.MaybeBandwidth.{MaybeBandwidth}
-use Rattle.units.specs.declared.maybe.MaybeDuration.{MaybeDuration}
 use Rattle.state.specs.declared.congestion_event.CongestionEvent.{CongestionEvent}
 use Rattle.state.specs.declared.congestion_event.SendTimeState.{SendTimeState}
 use Rattle.events.specs.Event.{event_after, bandwidth_after}
 use Rattle.state.proofs.Settling.{ap6}
 use Rattle.events.proofs.event.event_after.Goals as goal
 
-abbrev made : CongestionEvent → Bool → ℕ → ℕ → ℕ → MaybeBandwidth → MaybeDuration → SendTimeState → CongestionEvent
+abbrev made : CongestionEvent → Bool → ℕ → ℕ → ℕ → Option Bandwidth → Option Duration → SendTimeState → CongestionEvent
 made e ended acked lost inflight bandwidth rtt state =
     record {
       time = e.time;

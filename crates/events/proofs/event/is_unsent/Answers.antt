@@ -8,4 +8,4 @@ unfolding is_unsent
 returns-in_default c = rw c.in_default.is
 
 pub returns : goal.returns
-returns c = rw c.in-Set.is (one_unsent c.args.model _)
+returns c = rw c.in-Some.is (one_unsent c.args.model _)

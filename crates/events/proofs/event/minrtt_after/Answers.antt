@@ -2,4 +2,4 @@
 use Rattle.events.proofs.event.minrtt_after.Goals as goal
 
 pub returns : goal.returns
-returns c = rw c.in-Set.is c.update.ensures
+returns c = rw c.in-Some.is c.update.ensures

@@ -2,4 +2,4 @@
 use Rattle.events.proofs.event.raised_bandwidth.Goals as goal
 
 pub returns : goal.returns
-returns c = rw c.in-Set.is c.max.ensures
+returns c = rw c.in-Some.is c.max.ensures

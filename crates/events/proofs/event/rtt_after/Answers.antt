@@ -2,4 +2,4 @@
 use Rattle.events.proofs.event.rtt_after.Goals as goal
 
 pub returns : goal.returns
-returns c = rw c.in-Set.is
+returns c = rw c.in-Some.is

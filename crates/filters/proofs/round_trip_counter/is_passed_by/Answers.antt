@@ -17,4 +17,4 @@ returns-in_default c = search rules
 
 pub returns : goal.returns
 unfolding ends_round
-returns c = rw c.in-Set.is c.is_past.ensures
+returns c = rw c.in-Some.is c.is_past.ensures

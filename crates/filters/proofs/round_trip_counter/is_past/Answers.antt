@@ -2,4 +2,4 @@
 use Rattle.filters.proofs.round_trip_counter.is_past.Goals as goal
 
 pub returns : goal.returns
-returns c = rw c.in-Set.is
+returns c = rw c.in-Some.is

@@ -42,8 +42,8 @@ loop-i-preserved c =
     let count = length src / 16 in
     let more = c.loop-i-test.true in
     let pair = c.pair_at.ensures in
-    let update = c.updated-stepped.ensures in
-    let words = c.words_of.ensures ∙ stepped_words_lem src c.args.window loop.held (16 * loop.i) c.updated-stepped.result _ pair update.estimates update.reason in (
+    let update = c.step-stepped.ensures in
+    let words = c.words_of.ensures ∙ stepped_words_lem src c.args.window loop.held (16 * loop.i) c.step-stepped.result _ pair update.estimates update.reason in (
       omega arith,
       search rules,
       rw (update.estimates, pair) (taken_later src loop.i count more c.args.window loop.held loop.invariant.2),

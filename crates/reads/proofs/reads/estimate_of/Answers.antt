@@ -2,4 +2,4 @@
 use Rattle.reads.proofs.reads.estimate_of.Goals as goal
 
 pub returns : goal.returns
-returns c = rw c.in-Set.is c.min.ensures
+returns c = rw c.in-Some.is c.min.ensures

@@ -3,9 +3,9 @@ use Rattle.rows.proofs.Rows.{nothing_put}
 use Rattle.rows.specs.Row.{given_text}
 use Rattle.rows.proofs.row.put_given.Goals as goal
 
-pub returns-in-Unset : goal.returns-in-Unset
-returns-in-Unset c = rw c.in-Unset.is (nothing_put c.args.out.now c.args.at)
+pub returns-in-None : goal.returns-in-None
+returns-in-None c = rw c.in-None.is (nothing_put c.args.out.now c.args.at)
 
-pub returns-in-Set : goal.returns-in-Set
+pub returns-in-Some : goal.returns-in-Some
 unfolding given_text
-returns-in-Set c = rw c.in-Set.is c.put_decimal.ensures
+returns-in-Some c = rw c.in-Some.is c.put_decimal.ensures

@@ -2,4 +2,4 @@
 use Rattle.state.proofs.bounds.maybe_ok.Goals as goal
 
 pub returns : goal.returns
-returns c = rw c.in-Set.is c.bandwidth_ok.ensures
+returns c = rw c.in-Some.is c.bandwidth_ok.ensures

@@ -2,4 +2,4 @@
 use Rattle.state.proofs.congestion_event.maybe_length_ok.Goals as goal
 
 pub returns : goal.returns
-returns c = rw c.in-Set.is c.length_ok.ensures
+returns c = rw c.in-Some.is c.length_ok.ensures

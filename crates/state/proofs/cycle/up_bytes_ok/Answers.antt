@@ -2,4 +2,4 @@
 use Rattle.state.proofs.cycle.up_bytes_ok.Goals as goal
 
 pub returns : goal.returns
-returns c = rw c.in-Set.is c.bytes_ok.ensures
+returns c = rw c.in-Some.is c.bytes_ok.ensures

@@ -2,4 +2,4 @@
 use Rattle.state.proofs.cycle.wait_ok.Goals as goal
 
 pub returns : goal.returns
-returns c = rw c.in-Set.is
+returns c = rw c.in-Some.is

@@ -1,5 +1,5 @@
 -- `WindowedFilter::get_second_best` follows the filter's case.
 use Rattle.filters.proofs.windowed_filter.WindowedFilter.get_second_best.Goals as goal
 
-pub returns-in-Set : goal.returns-in-Set
-returns-in-Set c = rw c.in-Set.is
+pub returns-in-Some : goal.returns-in-Some
+returns-in-Some c = rw c.in-Some.is

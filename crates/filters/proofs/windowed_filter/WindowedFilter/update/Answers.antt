@@ -13,7 +13,7 @@ unfolding windowed_number windowed_update windowed_reason
 returns c = rw (
   ← c.is_after.ensures,
   c.if-is_after.false,
-  c.updated-stepped.ensures.estimates,
-  c.updated-stepped.ensures.reason,
+  c.step-stepped.ensures.estimates,
+  c.step-stepped.ensures.reason,
 )
     record { reply = refl; filter = refl; reason = refl }

@@ -1,5 +1,0 @@
--- `Held::is_after` follows the filter's case.
-use Rattle.filters.proofs.windowed_filter.Held.is_after.Goals as goal
-
-pub returns : goal.returns
-returns c = rw c.in-Set.is
