@@ -3,16 +3,14 @@ use Prim.Native.Nat.{ℕ}
 use mathlib.Core.List.{List}
 use mathlib.Core.Path.{◌≡◌, refl, sym, ◌∙◌}
 use lib.Dec.{eqb}
-use Rattle.numbers.specs.OneReply.{OneReply}
-use Rattle.units.proofs.reply.Number.{number_injective, no_argument}
+use Rattle.filters.specs.declared.windowed_filter.Reason.TheVariants.{Unchanged}
+use Rattle.numbers.specs.OneReply.{OneReply, OneOutcome}
+use Rattle.units.proofs.refusal.Number.{number_injective, no_argument}
 use Rattle.filters.specs.declared.windowed_filter.Estimates.{Estimates}
 use Rattle.filters.specs.declared.windowed_filter.Reason.{Reason}
 use Rattle.filters.specs.declared.windowed_filter.Stepped.{Stepped}
-use Rattle.filters.specs.declared.windowed_filter.Updated.{Updated}
-use Rattle.units.specs.declared.reply.Reply.{Reply}
 use Rattle.filters.specs.declared.windowed_filter.WindowedFilter.{WindowedFilter}
 use Rattle.filters.specs.declared.round_trip_counter.RoundTripCounter.{RoundTripCounter}
-use Rattle.filters.specs.declared.round_trip_counter.Acked.{Acked}
 use mathlib.Core.Bool.{Bool, false}
 use Rattle.filters.specs.RoundTripCounter.{listed, rounds_full, rounds_number}
 use Rattle.filters.specs.WindowedFilter.{is_after, windowed_number}
@@ -24,22 +22,11 @@ use Rattle.filters.proofs.windowed_filter.step as windowed-filter-step
 use Rattle.filters.proofs.windowed_filter.Reason as windowed-filter-reason
 use Rattle.filters.proofs.windowed_filter.WindowedFilter as windowed-filter-windowedfilter
 
-pub updated :
-    {a a' : Reply} {b b' : WindowedFilter} {c c' : Reason} → a ≡ a' → b ≡ b' → c ≡ c' →
-    ◌≡◌ {A = Updated} (record { reply = a; filter = b; reason = c }) (record { reply = a'; filter = b'; reason = c' })
-updated p q r = cc
-
 pub stepped :
     {a a' : Estimates} {b b' : Reason} → a ≡ a' → b ≡ b' →
     ◌≡◌ {A = Stepped} (record { estimates = a; reason = b }) (record { estimates = a'; reason = b' })
 stepped p q = cc
 
-pub acked :
-    {a a' : Reply} {b b' : RoundTripCounter} {c c' : Bool} → a ≡ a' → b ≡ b' → c ≡ c' →
-    ◌≡◌ {A = Acked} (record { reply = a; counter = b; ended = c }) (record { reply = a'; counter = b'; ended = c' })
-acked p q r = cc
-
--- neither replies with a 2
 no_full : (c : RoundTripCounter) (acked : List ℕ) → eqb (rounds_number c acked) 2 ≡ false
 unfolding rounds_number
 no_full c acked = no_argument (rounds_full c acked) 5 refl
@@ -81,11 +68,11 @@ one_round_trip_counter_roundtripcounter_new κ a x y s t p q = p ∙ sym q
 pub one_round_trip_counter_roundtripcounter_on_packet_sent : OneReply round-trip-counter-roundtripcounter.on_packet_sent.Reads.Learnt
 one_round_trip_counter_roundtripcounter_on_packet_sent κ a x y s t p q = p ∙ sym q
 
-pub one_round_trip_counter_roundtripcounter_on_packets_acked : OneReply round-trip-counter-roundtripcounter.on_packets_acked.Reads.Learnt
-one_round_trip_counter_roundtripcounter_on_packets_acked κ a x y s t p q = acked (number_injective _ _ _ (no_full a.0 a.1.0.now) p.0 q.0) (p.1.0 ∙ sym q.1.0) (p.1.1 ∙ sym q.1.1)
+pub one_round_trip_counter_roundtripcounter_on_packets_acked : OneOutcome round-trip-counter-roundtripcounter.on_packets_acked.Reads.Learnt (λ κ e. e.0.now)
+one_round_trip_counter_roundtripcounter_on_packets_acked κ a x y s t p q = (number_injective x y false _ (no_full a.0.now a.1.0.now) p.0 q.0 (p.1.1 ∙ sym q.1.1), p.1.0 ∙ sym q.1.0)
 
-pub one_round_trip_counter_roundtripcounter_on_greatest_acked : OneReply round-trip-counter-roundtripcounter.on_greatest_acked.Reads.Learnt
-one_round_trip_counter_roundtripcounter_on_greatest_acked κ a x y s t p q = acked (number_injective _ _ _ (no_full a.0 (listed a.1.0)) p.0 q.0) (p.1.0 ∙ sym q.1.0) (p.1.1 ∙ sym q.1.1)
+pub one_round_trip_counter_roundtripcounter_on_greatest_acked : OneOutcome round-trip-counter-roundtripcounter.on_greatest_acked.Reads.Learnt (λ κ e. e.0.now)
+one_round_trip_counter_roundtripcounter_on_greatest_acked κ a x y s t p q = (number_injective x y false _ (no_full a.0.now (listed a.1.0)) p.0 q.0 (p.1.1 ∙ sym q.1.1), p.1.0 ∙ sym q.1.0)
 
 pub one_round_trip_counter_greatest_of : OneReply round-trip-counter-greatest-of.Reads.Learnt
 one_round_trip_counter_greatest_of κ a x y s t p q = p ∙ sym q
@@ -111,8 +98,8 @@ one_windowed_filter_windowedfilter_get_second_best κ a x y s t p q = p ∙ sym 
 pub one_windowed_filter_windowedfilter_get_third_best : OneReply windowed-filter-windowedfilter.get_third_best.Reads.Learnt
 one_windowed_filter_windowedfilter_get_third_best κ a x y s t p q = p ∙ sym q
 
-pub one_windowed_filter_windowedfilter_update : OneReply windowed-filter-windowedfilter.update.Reads.Learnt
-one_windowed_filter_windowedfilter_update κ a x y s t p q = updated (number_injective _ _ _ (no_earlier a.0 a.1.1.0) p.0 q.0) (p.1.0 ∙ sym q.1.0) (p.1.1 ∙ sym q.1.1)
+pub one_windowed_filter_windowedfilter_update : OneOutcome windowed-filter-windowedfilter.update.Reads.Learnt (λ κ e. e.0.now)
+one_windowed_filter_windowedfilter_update κ a x y s t p q = (number_injective x y Unchanged _ (no_earlier a.0.now a.1.1.0) p.0 q.0 (p.1.1 ∙ sym q.1.1), p.1.0 ∙ sym q.1.0)
 
 pub one_windowed_filter_step : OneReply windowed-filter-step.Reads.Learnt
 one_windowed_filter_step κ a x y s t p q = stepped (p.0 ∙ sym q.0) (p.1 ∙ sym q.1)

@@ -23,35 +23,34 @@ impl MaxBandwidthFilter {
     }
 
     // The larger of both slots.
+    #[tactic(auto, unfolding(crate::specs::MaxBandwidthFilter::max_get))]
     pub fn get(self) -> Bandwidth
         ensures { result ≡ max_get self }
     {
-        let slot0 = self.slot0;
-        slot0.max(self.slot1)
+        self.slot0.max(self.slot1)
     }
 
     // The filter whose slot 1 is raised to the sample.
+    #[tactic(auto, unfolding(crate::specs::MaxBandwidthFilter::max_update))]
     pub fn update(self, sample: Bandwidth) -> MaxBandwidthFilter
         ensures { result ≡ max_update self sample }
     {
-        let slot0 = self.slot0;
-        let slot1 = self.slot1;
         MaxBandwidthFilter {
-            slot0,
-            slot1: slot1.max(sample),
+            slot1: self.slot1.max(sample),
+            ..self
         }
     }
 
     // The filter whose slot 1, unless it is zero, has moved to slot 0.
+    #[tactic(auto, unfolding(crate::specs::MaxBandwidthFilter::max_advance))]
     pub fn advance(self) -> MaxBandwidthFilter
         ensures { result ≡ max_advance self }
     {
-        let slot1 = self.slot1;
-        if slot1.0 == Bandwidth::ZERO.0 {
+        if self.slot1 == Bandwidth::ZERO {
             return self;
         }
         MaxBandwidthFilter {
-            slot0: slot1,
+            slot0: self.slot1,
             slot1: Bandwidth::ZERO,
         }
     }

@@ -36,10 +36,11 @@ impl MinRttFilter {
     }
 
     // The filter after a sample, which counts only if it is smaller.
+    #[tactic(auto, unfolding(crate::specs::MinRttFilter::min_update))]
     pub fn update(self, sample: Duration, now: Moment) -> MinRttFilter
         ensures { result ≡ min_update self sample now }
     {
-        if sample.0 < self.rtt.0 {
+        if sample < self.rtt {
             self.force_update(sample, now)
         } else {
             self

@@ -1,11 +1,9 @@
 // Round trips, counted by packet numbers.
-ghost use Rattle.std.specs.Prelude.{◌≡◌};
-ghost use Rattle.units.specs.Reply.{number};
-ghost use Rattle.filters.specs.RoundTripCounter.{rounds_new, rounds_sent, rounds_restart, is_past, most_of, greatest, listed, ends_round, rounds_number, rounds_acked, rounds_ended};
+ghost use Rattle.std.specs.Prelude.{◌≡◌, false};
+ghost use Rattle.units.specs.Reply.{number, kept};
+ghost use Rattle.filters.specs.RoundTripCounter.{rounds_new, rounds_sent, rounds_restart, most_of, greatest, listed, ends_round, rounds_number, rounds_acked, rounds_ended};
 
-use numbers::larger;
-use units::Reply;
-use units::counter::FULL;
+use units::Refusal;
 
 // So many numbers are gone through one after the other, without halving them.
 const AT_ONCE: usize = 64;
@@ -15,13 +13,6 @@ pub struct RoundTripCounter {
     pub count: u64,
     pub sent: u64,
     pub end: Option<u64>,
-}
-
-#[derive(Clone, Copy)]
-pub struct Acked {
-    pub reply: Reply,
-    pub counter: RoundTripCounter,
-    pub ended: bool,
 }
 
 impl RoundTripCounter {
@@ -40,54 +31,37 @@ impl RoundTripCounter {
     pub fn on_packet_sent(self, packet: u64) -> RoundTripCounter
         ensures { result ≡ rounds_sent self packet }
     {
-        let end = self.end;
         RoundTripCounter {
-            count: self.count,
             sent: packet,
-            end,
+            ..self
         }
     }
 
-    // Whether the acked packets end a round, with the counter after it; a full count is refused.
-    pub fn on_packets_acked(self, acked: &[u64]) -> Acked
-        ensures reply { number result.reply ≡ rounds_number self acked.now }
-        ensures counter { result.counter ≡ rounds_acked self acked.now }
-        ensures ended { result.ended ≡ rounds_ended self acked.now }
+    // Whether the acked packets end a round, which is counted; a full count is refused.
+    pub fn on_packets_acked(&mut self, acked: &[u64]) -> Result<bool, Refusal>
+        ensures reply { number result ≡ rounds_number self.old acked.now }
+        ensures counter { self.new ≡ rounds_acked self.old acked.now }
+        ensures ended { kept result false ≡ rounds_ended self.old acked.now }
     {
         self.on_greatest_acked(greatest_of(acked))
     }
 
     // The same, where the greatest of the acked numbers is known.
-    pub fn on_greatest_acked(self, most: Option<u64>) -> Acked
-        ensures reply { number result.reply ≡ rounds_number self (listed most) }
-        ensures counter { result.counter ≡ rounds_acked self (listed most) }
-        ensures ended { result.ended ≡ rounds_ended self (listed most) }
+    #[tactic(auto, unfolding(crate::specs::RoundTripCounter::rounds_full, crate::specs::RoundTripCounter::rounds_number, crate::specs::RoundTripCounter::rounds_acked, crate::specs::RoundTripCounter::rounds_ended, crate::specs::RoundTripCounter::rounds_restart))]
+    pub fn on_greatest_acked(&mut self, most: Option<u64>) -> Result<bool, Refusal>
+        ensures reply { number result ≡ rounds_number self.old (listed most) }
+        ensures counter { self.new ≡ rounds_acked self.old (listed most) }
+        ensures ended { kept result false ≡ rounds_ended self.old (listed most) }
     {
-        let end = self.end;
-        if !is_passed_by(end, most) {
-            return Acked {
-                reply: Reply::Done,
-                counter: self,
-                ended: false,
-            };
+        if !is_passed_by(self.end, most) {
+            return Ok(false);
         }
-        if self.count == FULL {
-            return Acked {
-                reply: Reply::FullCounter,
-                counter: self,
-                ended: false,
-            };
+        if self.count == u64::MAX {
+            return Err(Refusal::FullCounter);
         }
-        let next = RoundTripCounter {
-            count: self.count + 1,
-            sent: self.sent,
-            end: Some(self.sent),
-        };
-        Acked {
-            reply: Reply::Done,
-            counter: next,
-            ended: true,
-        }
+        self.count += 1;
+        self.end = Some(self.sent);
+        Ok(true)
     }
 
     // The counter whose round starts anew, uncounted.
@@ -95,41 +69,26 @@ impl RoundTripCounter {
         ensures { result ≡ rounds_restart self }
     {
         RoundTripCounter {
-            count: self.count,
-            sent: self.sent,
             end: Some(self.sent),
+            ..self
         }
     }
 }
 
-// Whether a packet number lies past the end of the round.
-fn is_past(end: Option<u64>, packet: u64) -> bool
-    ensures { result ≡ is_past end packet }
-{
-    let Some(last) = end else {
-        return true;
-    };
-    last < packet
-}
-
 // Whether there is a number, and it lies past the end: where no end is set, every number does.
+#[tactic(auto, unfolding(crate::specs::RoundTripCounter::ends_round))]
 fn is_passed_by(end: Option<u64>, most: Option<u64>) -> bool
     ensures { result ≡ ends_round end (listed most) }
 {
-    let Some(packet) = most else {
-        return false;
-    };
-    is_past(end, packet)
+    most.is_some_and(|packet| end.is_none_or(|last| last < packet))
 }
 
 // The greatest of some numbers, if there are any.
 pub fn greatest_of(numbers: &[u64]) -> Option<u64>
     ensures { result ≡ greatest numbers.now }
 {
-    if numbers.len() == 0 {
-        return None;
-    }
-    Some(most_of(numbers[0], &numbers[1..]))
+    let (&first, others) = numbers.split_first()?;
+    Some(most_of(first, others))
 }
 
 // The greatest of a number and of others; many go by halves. It calls itself so that it is not compiled into the loop of
@@ -150,10 +109,8 @@ fn most_of_few(first: u64, numbers: &[u64]) -> u64
     ensures { result ≡ most_of first numbers.now }
 {
     let mut most = first;
-    let mut i: usize = 0;
-    while i < numbers.len() {
-        most = larger(most, numbers[i]);
-        i += 1;
+    for &number in numbers {
+        most = most.max(number);
     }
     most
 }

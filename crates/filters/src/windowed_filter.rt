@@ -1,11 +1,11 @@
 // The largest sample of a window of time, with two estimates to follow it.
 ghost use Rattle.std.specs.Prelude.{◌≡◌};
-ghost use Rattle.units.specs.Reply.{number};
-ghost use Rattle.filters.specs.declared.windowed_filter.Reason.TheVariants.{AllReplaced};
+ghost use Rattle.units.specs.Reply.{number, kept};
+ghost use Rattle.filters.specs.declared.windowed_filter.Reason.TheVariants.{AllReplaced, Unchanged};
 ghost use Rattle.filters.specs.Reason.{reason_number, raised_reason, shifted_reason, renewed_reason, aged_reason, reason_of, windowed_reason};
 ghost use Rattle.filters.specs.WindowedFilter.{all_three, is_older, lingers, is_after, is_replaced, raised, shifted, renewed, aged, updated, windowed_new, windowed_reset, best_of, second_of, third_of, windowed_number, windowed_update};
 
-use units::Reply;
+use units::Refusal;
 
 #[derive(Clone, Copy)]
 pub struct Sample {
@@ -39,13 +39,6 @@ pub enum Reason {
     Unchanged,
 }
 
-#[derive(Clone, Copy)]
-pub struct Updated {
-    pub reply: Reply,
-    pub filter: WindowedFilter,
-    pub reason: Reason,
-}
-
 // The estimates that some of the steps leave, and which of them acted last.
 #[derive(Clone, Copy)]
 pub struct Stepped {
@@ -58,16 +51,7 @@ impl Reason {
     pub fn number(self) -> u64
         ensures { result ≡ reason_number self }
     {
-        match self {
-            Reason::AllReplaced => 0,
-            Reason::SecondRaised => 1,
-            Reason::ThirdRaised => 2,
-            Reason::PromotedOnce => 3,
-            Reason::PromotedTwice => 4,
-            Reason::QuarterRefresh => 5,
-            Reason::HalfRefresh => 6,
-            Reason::Unchanged => 7,
-        }
+        self as u64
     }
 }
 
@@ -101,62 +85,36 @@ impl WindowedFilter {
     pub fn get_best(self) -> Option<u64>
         ensures { result ≡ best_of self.held }
     {
-        let held = self.held;
-        match held {
-            None => None,
-            Some(e) => Some(e.best.sample),
-        }
+        self.held.map(|e| e.best.sample)
     }
 
     // The second best estimate.
     pub fn get_second_best(self) -> Option<u64>
         ensures { result ≡ second_of self.held }
     {
-        let held = self.held;
-        match held {
-            None => None,
-            Some(e) => Some(e.second.sample),
-        }
+        self.held.map(|e| e.second.sample)
     }
 
     // The third best estimate.
     pub fn get_third_best(self) -> Option<u64>
         ensures { result ≡ third_of self.held }
     {
-        let held = self.held;
-        match held {
-            None => None,
-            Some(e) => Some(e.third.sample),
-        }
+        self.held.map(|e| e.third.sample)
     }
 
-    // The filter after a sample and why it moved, or the refusal of a time before a stored one.
-    pub fn update(self, sample: u64, time: u64) -> Updated
-        ensures reply { number result.reply ≡ windowed_number self time }
-        ensures filter { result.filter ≡ windowed_update self sample time }
-        ensures reason { result.reason ≡ windowed_reason self sample time }
+    // Takes a sample, and says which step acted last, or refuses a time before a stored one.
+    #[tactic(auto, unfolding(crate::specs::WindowedFilter::windowed_number, crate::specs::WindowedFilter::windowed_update, crate::specs::Reason::windowed_reason))]
+    pub fn update(&mut self, sample: u64, time: u64) -> Result<Reason, Refusal>
+        ensures reply { number result ≡ windowed_number self.old time }
+        ensures filter { self.new ≡ windowed_update self.old sample time }
+        ensures reason { kept result Unchanged ≡ windowed_reason self.old sample time }
     {
-        let held = self.held;
-        if is_after(held, time) {
-            return Updated {
-                reply: Reply::EarlierMoment,
-                filter: self,
-                reason: Reason::Unchanged,
-            };
+        if is_after(self.held, time) {
+            return Err(Refusal::EarlierMoment);
         }
-        let new = Sample { sample, time };
-        let stepped = step(held, new, self.window);
-        let estimates = stepped.estimates;
-        let reason = stepped.reason;
-        let filter = WindowedFilter {
-            window: self.window,
-            held: Some(estimates),
-        };
-        Updated {
-            reply: Reply::Done,
-            filter,
-            reason,
-        }
+        let stepped = step(self.held, Sample { sample, time }, self.window);
+        self.held = Some(stepped.estimates);
+        Ok(stepped.reason)
     }
 }
 
@@ -201,33 +159,27 @@ impl Estimates {
     fn is_replaced(self, new: Sample, window: u64) -> bool
         ensures { result ≡ is_replaced self new window }
     {
-        let third = self.third;
-        (self.best.sample < new.sample) | third.is_older(window, new.time)
+        (self.best.sample < new.sample) | self.third.is_older(window, new.time)
     }
 
     // Step 2: the new sample takes the place of what it exceeds.
+    #[tactic(auto, unfolding(crate::specs::WindowedFilter::raised, crate::specs::Reason::raised_reason))]
     fn raised(self, new: Sample) -> Stepped
         ensures estimates { result.estimates ≡ raised self new }
         ensures reason { result.reason ≡ raised_reason self new }
     {
-        let best = self.best;
-        let second = self.second;
-        if second.sample < new.sample {
+        if self.second.sample < new.sample {
             Stepped {
                 estimates: Estimates {
-                    best,
                     second: new,
                     third: new,
+                    ..self
                 },
                 reason: Reason::SecondRaised,
             }
         } else if self.third.sample < new.sample {
             Stepped {
-                estimates: Estimates {
-                    best,
-                    second,
-                    third: new,
-                },
+                estimates: Estimates { third: new, ..self },
                 reason: Reason::ThirdRaised,
             }
         } else {
@@ -252,13 +204,12 @@ impl Stepped {
     }
 
     // Steps 3 to 5 after step 2: the first that applies is the last, and gives its name.
+    #[tactic(auto, unfolding(crate::specs::WindowedFilter::aged, crate::specs::Reason::aged_reason))]
     fn aged(self, new: Sample, window: u64) -> Stepped
         ensures estimates { result.estimates ≡ aged self.estimates new window }
         ensures reason { result.reason ≡ aged_reason self.estimates new window self.reason }
     {
-        let e = self.estimates;
-        let best = e.best;
-        if best.is_older(window, new.time) {
+        if self.estimates.best.is_older(window, new.time) {
             self.shifted(new, window)
         } else {
             self.renewed(new, window)
@@ -266,19 +217,17 @@ impl Stepped {
     }
 
     // Step 3: the estimates move up once, and the upper two again where the new best is too old.
+    #[tactic(auto, unfolding(crate::specs::WindowedFilter::shifted, crate::specs::Reason::shifted_reason))]
     fn shifted(self, new: Sample, window: u64) -> Stepped
         ensures estimates { result.estimates ≡ shifted self.estimates new window }
         ensures reason { result.reason ≡ shifted_reason self.estimates new window }
     {
-        let e = self.estimates;
-        let second = e.second;
-        let third = e.third;
+        let Estimates { second, third, .. } = self.estimates;
         if second.is_older(window, new.time) {
             Stepped {
                 estimates: Estimates {
                     best: third,
-                    second: new,
-                    third: new,
+                    ..Estimates::all(new)
                 },
                 reason: Reason::PromotedTwice,
             }
@@ -295,30 +244,24 @@ impl Stepped {
     }
 
     // Steps 4 and 5: an estimate that has long repeated the better one gives way to the new sample.
+    #[tactic(auto, unfolding(crate::specs::WindowedFilter::renewed, crate::specs::Reason::renewed_reason))]
     fn renewed(self, new: Sample, window: u64) -> Stepped
         ensures estimates { result.estimates ≡ renewed self.estimates new window }
         ensures reason { result.reason ≡ renewed_reason self.estimates new window self.reason }
     {
         let e = self.estimates;
-        let best = e.best;
-        let second = e.second;
-        let third = e.third;
-        if second.lingers(best, window / 4, new.time) {
+        if e.second.lingers(e.best, window / 4, new.time) {
             Stepped {
                 estimates: Estimates {
-                    best,
                     second: new,
                     third: new,
+                    ..e
                 },
                 reason: Reason::QuarterRefresh,
             }
-        } else if third.lingers(second, window / 2, new.time) {
+        } else if e.third.lingers(e.second, window / 2, new.time) {
             Stepped {
-                estimates: Estimates {
-                    best,
-                    second,
-                    third: new,
-                },
+                estimates: Estimates { third: new, ..e },
                 reason: Reason::HalfRefresh,
             }
         } else {

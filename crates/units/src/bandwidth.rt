@@ -1,41 +1,20 @@
 // Bandwidth, in whole bits per second.
 ghost use Rattle.std.specs.Prelude.{◌≡◌, ◌*◌, ◌/◌, ◌<◌};
-ghost use Rattle.units.specs.Bandwidth.{times_f32, nanos_per_byte, larger_of, smaller_of, is_less, bytes_per_period};
+ghost use Rattle.units.specs.Bandwidth.{times_f32, nanos_per_byte, bytes_per_period};
 
-use crate::{Duration, saturating};
+use crate::Duration;
 use numbers::scale_f64;
 
 // Bits in a byte times nanoseconds in a second.
 const NANOS_PER_BYTE: u64 = 8_000_000_000;
 
-#[derive(Clone, Copy)]
+#[derive(Clone, Copy, PartialEq, Eq, PartialOrd, Ord)]
 pub struct Bandwidth(pub u64);
 
 impl Bandwidth {
     pub const ZERO: Bandwidth = Bandwidth(0);
 
-    pub const INFINITE: Bandwidth = Bandwidth(saturating::MOST);
-
-    // The larger of two bandwidths.
-    pub fn max(self, other: Bandwidth) -> Bandwidth
-        ensures { result ≡ larger_of self other }
-    {
-        if self.0 < other.0 { other } else { self }
-    }
-
-    // The smaller of two bandwidths.
-    pub fn min(self, other: Bandwidth) -> Bandwidth
-        ensures { result ≡ smaller_of self other }
-    {
-        if other.0 < self.0 { other } else { self }
-    }
-
-    // Whether this bandwidth is below the other.
-    pub fn lt(self, other: Bandwidth) -> bool
-        ensures { result ≡ is_less self other }
-    {
-        self.0 < other.0
-    }
+    pub const INFINITE: Bandwidth = Bandwidth(u64::MAX);
 
     // This bandwidth times a factor, by way of an `f64`, to the nearest whole number.
     pub fn mul_f32(self, factor: f32) -> Bandwidth
@@ -55,12 +34,12 @@ impl Bandwidth {
             return bits * nanos / NANOS_PER_BYTE;
         }
         if bits == Bandwidth::INFINITE.0 {
-            return if nanos == 0 { 0 } else { saturating::MOST };
+            return if nanos == 0 { 0 } else { u64::MAX };
         }
         let rest = bits % NANOS_PER_BYTE;
-        let whole = saturating::product(bits / NANOS_PER_BYTE, nanos);
+        let whole = (bits / NANOS_PER_BYTE).saturating_mul(nanos);
         let part = nanos / NANOS_PER_BYTE * rest + mul_div(nanos % NANOS_PER_BYTE, rest);
-        saturating::sum(whole, part)
+        whole.saturating_add(part)
     }
 }
 

@@ -1,13 +1,11 @@
 // A moment and a length of time, in nanoseconds, never mixed.
 ghost use Rattle.std.specs.Prelude.{◌≡◌};
-ghost use Rattle.units.specs.Time.{plus, since, is_before};
+ghost use Rattle.units.specs.Time.{plus, since};
 
-use crate::saturating;
-
-#[derive(Clone, Copy)]
+#[derive(Clone, Copy, PartialEq, Eq, PartialOrd, Ord)]
 pub struct Moment(pub u64);
 
-#[derive(Clone, Copy)]
+#[derive(Clone, Copy, PartialEq, Eq, PartialOrd, Ord)]
 pub struct Duration(pub u64);
 
 impl Moment {
@@ -15,24 +13,13 @@ impl Moment {
     pub fn plus(self, period: Duration) -> Moment
         ensures { result ≡ plus self period }
     {
-        Moment(saturating::sum(self.0, period.0))
+        Moment(self.0.saturating_add(period.0))
     }
 
     // How long ago the other moment was: 0 where it is later.
     pub fn since(self, earlier: Moment) -> Duration
         ensures { result ≡ since self earlier }
     {
-        if self.0 < earlier.0 {
-            Duration(0)
-        } else {
-            Duration(self.0 - earlier.0)
-        }
-    }
-
-    // Whether this moment is earlier than the other.
-    pub fn is_before(self, other: Moment) -> bool
-        ensures { result ≡ is_before self other }
-    {
-        self.0 < other.0
+        Duration(self.0.saturating_sub(earlier.0))
     }
 }

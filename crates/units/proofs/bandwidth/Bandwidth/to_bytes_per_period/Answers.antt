@@ -36,4 +36,4 @@ overflow_add-part c = omega (
 pub returns : goal.returns
 unfolding bytes_per_period
 returns c = rw (ne_eqb _ _ c.if-bits.false)
-    (saturated nanos_per_byte (2 ^ 64 - 1) _ _ (omega arith) c.product-whole.ensures c.mul_div.ensures c.sum.ensures)
+    (saturated nanos_per_byte (2 ^ 64 - 1) _ _ (omega arith) c.saturating_mul-whole.ensures c.mul_div.ensures c.saturating_add.ensures)
