@@ -300,6 +300,6 @@ pub record Theorems : Type 0 where
 -- which are only read, share bytes. The page docs/LAYOUT.md. And the definitions that this page is made of, written
 -- from documents 01 and 02, the original and docs/LAYOUT.md: all files of specs/ to which `use` lines lead from here,
 -- with their remarks. A script of the gate counts their lines (tests/contracts.py):
---   numbers 245, units 120, filters 426, words 129, text 223, rows 72, state 922, worth 265, rtt 467, layout 208,
---   events 453, phases 205, changes 59, judge 193, arguments 208, reads 17, places 139, pairs 59, trips 183,
---   calls 192, laws 639, dispatch 233, trace 570, guovssalu 193, drift 370, mending 419, theorems 1307: together 8516
+--   numbers 245, units 120, filters 414, words 125, text 220, rows 70, state 915, worth 259, rtt 463, layout 208,
+--   events 449, phases 200, changes 59, judge 189, arguments 208, reads 15, places 139, pairs 57, trips 180, calls
+--   192, laws 638, dispatch 233, trace 563, guovssalu 193, drift 367, mending 419, theorems 1302: together 8442
