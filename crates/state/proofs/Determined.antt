@@ -1,35 +1,24 @@
 -- Any two replies that the contract of a public function allows coincide: a line for each, about what its contract says (`Reads.Learnt`).
-use mathlib.Core.Path.{◌≡◌, sym, ◌∙◌}
+use mathlib.Core.Path.{◌≡◌, refl, sym, ◌∙◌}
 use Rattle.numbers.specs.OneReply.{OneReply}
-use Rattle.units.proofs.reply.Number.{number_injective, reply_injective}
+use Rattle.units.proofs.refusal.Number.{number_injective, reply_injective, refusal_injective, only_reply}
 use Rattle.state.specs.declared.network_model.NetworkModel.{NetworkModel}
-use Rattle.units.specs.declared.reply.Reply.{Reply}
-use Rattle.state.specs.declared.network_model.Changed.{Changed}
+use Rattle.std.specs.Prelude.{Result}
+use Rattle.units.specs.declared.refusal.Refusal.{Refusal}
 use Rattle.state.specs.declared.cycle.Cycle.{Cycle}
-use Rattle.state.specs.declared.cycle.CycleChanged.{CycleChanged}
-use Rattle.state.specs.declared.answers.Number.{Number}
 use Prim.Native.Nat.{ℕ}
-use Rattle.state.specs.declared.answers.Flag.{Flag}
 use mathlib.Core.Bool.{Bool, false, not, ◌&&◌}
 use Rattle.units.specs.Reply as Replies
 use Rattle.state.specs.declared.params.Params.{Params}
-use Rattle.state.specs.NetworkModel.{model_ok, stored_number, headroom_number}
+use Rattle.state.specs.NetworkModel.{model_ok, model_new, one, stored_number, headroom_number}
+use Rattle.state.specs.Cycle.{cycle_new}
+use Rattle.state.specs.Answers.{zero_length, zero_moment}
 use Rattle.state.specs.Params.{params_ok}
 use Rattle.state.proofs.FirstFault.{no_two}
 use lib.Ieee.{Float}
-use Rattle.state.specs.declared.answers.GainRead.{GainRead}
 use Rattle.units.specs.declared.bandwidth.Bandwidth.{Bandwidth}
-use Rattle.state.specs.declared.answers.BandwidthRead.{BandwidthRead}
-use Rattle.state.specs.declared.answers.LengthRead.{LengthRead}
 use Rattle.units.specs.declared.time.Duration.{Duration}
 use Rattle.units.specs.declared.time.Moment.{Moment}
-use Rattle.state.specs.declared.answers.MomentRead.{MomentRead}
-use Rattle.state.proofs.answers.Number as Answers-number
-use Rattle.state.proofs.answers.Flag as answers-flag
-use Rattle.state.proofs.answers.GainRead as answers-gainread
-use Rattle.state.proofs.answers.BandwidthRead as answers-bandwidthread
-use Rattle.state.proofs.answers.LengthRead as answers-lengthread
-use Rattle.state.proofs.answers.MomentRead as answers-momentread
 use Rattle.state.proofs.bounds as bounds
 use Rattle.state.proofs.congestion_event.CongestionEvent as congestion-event-record
 use Rattle.state.proofs.congestion_event.CongestionEventSample as congestion-event-sample
@@ -41,76 +30,24 @@ use Rattle.state.proofs.params.Params as params-params
 use Rattle.state.proofs.parts.Round as parts-round
 use Rattle.state.proofs.parts.Totals as parts-totals
 use Rattle.state.proofs.refusals as refusals
+use Rattle.state.proofs.refusals.Rows as refusals-rows
+use Rattle.state.proofs.refusals.Cause as refusals-cause
+use Rattle.state.proofs.Causes.{only_cause}
 
-pub changed :
-    {a a' : Reply} {b b' : NetworkModel} → a ≡ a' → b ≡ b' →
-    ◌≡◌ {A = Changed} (record { reply = a; model = b }) (record { reply = a'; model = b' })
-changed p q = cc
+-- a reply by its number, its fault and what it answers; by its number alone where that is of a call that is given nothing
+pub one_answer : {A : Type 0} (x y : Result A Refusal) (d v : A) (n f : ℕ) → Replies.number x ≡ n → Replies.number y ≡ n →
+    Replies.fault x ≡ f → Replies.fault y ≡ f → Replies.kept x d ≡ v → Replies.kept y d ≡ v → x ≡ y
+one_answer x y d v n f p q e g h k = reply_injective x y d (p ∙ sym q) (e ∙ sym g) (h ∙ sym k)
 
-pub cyclechanged :
-    {a a' : Reply} {b b' : Cycle} → a ≡ a' → b ≡ b' →
-    ◌≡◌ {A = CycleChanged} (record { reply = a; cycle = b }) (record { reply = a'; cycle = b' })
-cyclechanged p q = cc
-
-pub number :
-    {a a' : Reply} {b b' : ℕ} → a ≡ a' → b ≡ b' →
-    ◌≡◌ {A = Number} (record { reply = a; value = b }) (record { reply = a'; value = b' })
-number p q = cc
-
-pub flag :
-    {a a' : Reply} {b b' : Bool} → a ≡ a' → b ≡ b' →
-    ◌≡◌ {A = Flag} (record { reply = a; yes = b }) (record { reply = a'; yes = b' })
-flag p q = cc
-
-pub gainread :
-    {a a' : Reply} {b b' : Float} → a ≡ a' → b ≡ b' →
-    ◌≡◌ {A = GainRead} (record { reply = a; gain = b }) (record { reply = a'; gain = b' })
-gainread p q = cc
-
-pub bandwidthread :
-    {a a' : Reply} {b b' : Bandwidth} → a ≡ a' → b ≡ b' →
-    ◌≡◌ {A = BandwidthRead} (record { reply = a; bandwidth = b }) (record { reply = a'; bandwidth = b' })
-bandwidthread p q = cc
-
-pub lengthread :
-    {a a' : Reply} {b b' : Duration} → a ≡ a' → b ≡ b' →
-    ◌≡◌ {A = LengthRead} (record { reply = a; length = b }) (record { reply = a'; length = b' })
-lengthread p q = cc
-
-pub momentread :
-    {a a' : Reply} {b b' : Moment} → a ≡ a' → b ≡ b' →
-    ◌≡◌ {A = MomentRead} (record { reply = a; moment = b }) (record { reply = a'; moment = b' })
-momentread p q = cc
-
--- a reply by its number and its fault; by its number alone where that is of a call that is given nothing
-pub one_reply : {r s : Reply} {n f : ℕ} → Replies.number r ≡ n → Replies.number s ≡ n → Replies.fault r ≡ f → Replies.fault s ≡ f → r ≡ s
-one_reply {r} {s} p q e g = reply_injective r s (p ∙ sym q) (e ∙ sym g)
-
-pub by_stored : {r s : Reply} (m : NetworkModel) → Replies.number r ≡ stored_number m → Replies.number s ≡ stored_number m → r ≡ s
+pub by_stored : {A : Type 0} (x y : Result A Refusal) (d v : A) (m : NetworkModel) → Replies.number x ≡ stored_number m →
+    Replies.number y ≡ stored_number m → Replies.kept x d ≡ v → Replies.kept y d ≡ v → x ≡ y
 unfolding stored_number
-by_stored {r} {s} m p q = number_injective r s (stored_number m) (no_two (not (model_ok m)) false false false false) p q
+by_stored x y d v m p q h k = number_injective x y d (stored_number m) (no_two (not (model_ok m)) false false false false) p q (h ∙ sym k)
 
-pub by_stored_with : {r s : Reply} (m : NetworkModel) (p : Params) → Replies.number r ≡ headroom_number m p → Replies.number s ≡ headroom_number m p → r ≡ s
+pub by_stored_with : {A : Type 0} (x y : Result A Refusal) (d v : A) (m : NetworkModel) (ps : Params) → Replies.number x ≡ headroom_number m ps →
+    Replies.number y ≡ headroom_number m ps → Replies.kept x d ≡ v → Replies.kept y d ≡ v → x ≡ y
 unfolding headroom_number
-by_stored_with {r} {s} m p h k = number_injective r s (headroom_number m p) (no_two (not (model_ok m && params_ok p)) false false false false) h k
-
-pub one_answers_number_of : OneReply Answers-number.of.Reads.Learnt
-one_answers_number_of κ a x y s t p q = number (p.0 ∙ sym q.0) (p.1 ∙ sym q.1)
-
-pub one_answers_flag_of : OneReply answers-flag.of.Reads.Learnt
-one_answers_flag_of κ a x y s t p q = flag (p.0 ∙ sym q.0) (p.1 ∙ sym q.1)
-
-pub one_answers_gainread_of : OneReply answers-gainread.of.Reads.Learnt
-one_answers_gainread_of κ a x y s t p q = gainread (p.0 ∙ sym q.0) (p.1 ∙ sym q.1)
-
-pub one_answers_bandwidthread_of : OneReply answers-bandwidthread.of.Reads.Learnt
-one_answers_bandwidthread_of κ a x y s t p q = bandwidthread (p.0 ∙ sym q.0) (p.1 ∙ sym q.1)
-
-pub one_answers_lengthread_of : OneReply answers-lengthread.of.Reads.Learnt
-one_answers_lengthread_of κ a x y s t p q = lengthread (p.0 ∙ sym q.0) (p.1 ∙ sym q.1)
-
-pub one_answers_momentread_of : OneReply answers-momentread.of.Reads.Learnt
-one_answers_momentread_of κ a x y s t p q = momentread (p.0 ∙ sym q.0) (p.1 ∙ sym q.1)
+by_stored_with x y d v m ps p q h k = number_injective x y d (headroom_number m ps) (no_two (not (model_ok m && params_ok ps)) false false false false) p q (h ∙ sym k)
 
 pub one_bounds_bytes_ok : OneReply bounds.bytes_ok.Reads.Learnt
 one_bounds_bytes_ok κ a x y s t p q = p ∙ sym q
@@ -137,13 +74,19 @@ pub one_bounds_gain_ok : OneReply bounds.gain_ok.Reads.Learnt
 one_bounds_gain_ok κ a x y s t p q = p ∙ sym q
 
 pub one_refusals_or_short : OneReply refusals.or_short.Reads.Learnt
-one_refusals_or_short κ a x y s t p q = reply_injective x y (p.0 ∙ sym q.0) (p.1 ∙ sym q.1)
-
-pub one_refusals_first_row : OneReply refusals.first_row.Reads.Learnt
-one_refusals_first_row κ a x y s t p q = p ∙ sym q
+one_refusals_or_short κ a x y s t p q = only_reply x y (p.0 ∙ sym q.0) (p.1 ∙ sym q.1)
 
 pub one_refusals_refusal : OneReply refusals.refusal.Reads.Learnt
-one_refusals_refusal κ a x y s t p q = reply_injective x y (p.0 ∙ sym q.0) (p.1 ∙ sym q.1)
+one_refusals_refusal κ a x y s t p q = only_reply x y (p.0 ∙ sym q.0) (p.1 ∙ sym q.1)
+
+pub one_refusals_rows_first : OneReply refusals-rows.first.Reads.Learnt
+one_refusals_rows_first κ a x y s t p q = only_cause x y (p ∙ sym q)
+
+pub one_refusals_cause_row : OneReply refusals-cause.row.Reads.Learnt
+one_refusals_cause_row κ a x y s t p q = p ∙ sym q
+
+pub one_refusals_cause_named : OneReply refusals-cause.named.Reads.Learnt
+one_refusals_cause_named κ a x y s t p q = refusal_injective x y (p.0 ∙ sym q.0) (p.1 ∙ sym q.1)
 
 pub one_congestion_event_record_ok : OneReply congestion-event-record.ok.Reads.Learnt
 one_congestion_event_record_ok κ a x y s t p q = p ∙ sym q
@@ -206,7 +149,7 @@ pub one_cycle_stay_from : OneReply cycle-stay.from.Reads.Learnt
 one_cycle_stay_from κ a x y s t p q = p ∙ sym q
 
 pub one_cycle_cycle_new : OneReply cycle-cycle.new.Reads.Learnt
-one_cycle_cycle_new κ a x y s t p q = cyclechanged (one_reply p.0 q.0 p.1.1 q.1.1) (p.1.0 ∙ sym q.1.0)
+one_cycle_cycle_new κ a x y s t p q = one_answer x y (cycle_new zero_moment) _ _ _ p.0 q.0 p.1.1 q.1.1 p.1.0 q.1.0
 
 pub one_cycle_cycle_ok : OneReply cycle-cycle.ok.Reads.Learnt
 one_cycle_cycle_ok κ a x y s t p q = p ∙ sym q
@@ -215,19 +158,16 @@ pub one_network_model_networkmodel_ok : OneReply network-model-networkmodel.ok.R
 one_network_model_networkmodel_ok κ a x y s t p q = p ∙ sym q
 
 pub one_network_model_networkmodel_new : OneReply network-model-networkmodel.new.Reads.Learnt
-one_network_model_networkmodel_new κ a x y s t p q = changed (one_reply p.0 q.0 p.1.1 q.1.1) (p.1.0 ∙ sym q.1.0)
+one_network_model_networkmodel_new κ a x y s t p q = one_answer x y (model_new one one false zero_length zero_moment) _ _ _ p.0 q.0 p.1.1 q.1.1 p.1.0 q.1.0
 
 pub one_network_model_networkmodel_stored : OneReply network-model-networkmodel.stored.Reads.Learnt
-one_network_model_networkmodel_stored κ a x y s t p q = by_stored a.0 p q
+one_network_model_networkmodel_stored κ a x y s t p q = by_stored x y tt tt a.0 p q refl refl
 
 pub one_network_model_networkmodel_stored_with : OneReply network-model-networkmodel.stored_with.Reads.Learnt
-one_network_model_networkmodel_stored_with κ a x y s t p q = by_stored_with a.0 a.1.0 p q
+one_network_model_networkmodel_stored_with κ a x y s t p q = by_stored_with x y tt tt a.0 a.1.0 p q refl refl
 
 pub one_network_model_networkmodel_given : OneReply network-model-networkmodel.given.Reads.Learnt
-one_network_model_networkmodel_given κ a x y s t p q = reply_injective x y (p.0 ∙ sym q.0) (p.1 ∙ sym q.1)
-
-pub one_network_model_networkmodel_settle : OneReply network-model-networkmodel.settle.Reads.Learnt
-one_network_model_networkmodel_settle κ a x y s t p q = changed (p.0 ∙ sym q.0) (p.1 ∙ sym q.1)
+one_network_model_networkmodel_given κ a x y s t p q = only_reply x y (p.0 ∙ sym q.0) (p.1 ∙ sym q.1)
 
 pub one_network_model_networkmodel_restart_next : OneReply network-model-networkmodel.restart_next.Reads.Learnt
 one_network_model_networkmodel_restart_next κ a x y s t p q = p ∙ sym q

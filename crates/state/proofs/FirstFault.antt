@@ -5,31 +5,13 @@ use mathlib.Core.List.{List, [], ◌∷◌}
 use mathlib.Core.Path.{◌≡◌, refl, sym, ap, ap₂, ◌∙◌}
 use native.Mathlib.Omega.{arith}
 use lib.Dec.{eqb}
-use lib.ListN.{length, get_or, drop, drop_of_length-le}
-use lib.Seq.{drop-cons}
 use borrow.Author.Tests.{eq-eqb, ne_eqb, eqb-true}
-use Rattle.units.specs.declared.reply.Reply.{Reply}
+use Rattle.std.specs.Prelude.{Result}
+use Rattle.units.specs.declared.refusal.Refusal.{Refusal}
 use Rattle.units.specs.Reply.{number, fault}
 use Rattle.state.specs.Faults.{first, named}
 use Rattle.state.specs.Refusals.{row_of, up_to_four, asked_of, or_short}
 use Rattle.state.proofs.Rows.{in_turn}
-
--- ---- one turn of the search, which has passed the first i
-turn : (l : List ℕ) (i : ℕ) → i < length l → first (drop i l) ≡ first (get_or l i 0 ∷ drop (i + 1) l)
-turn l i h = let next : suc i ≡ i + 1 = omega arith in ap first (drop-cons l i 0 h) ∙ ap (λ (k : ℕ). first (get_or l i 0 ∷ drop k l)) next
-
-pub passed : (l : List ℕ) (i : ℕ) → i < length l → get_or l i 0 ≡ 0 → first (drop i l) ≡ first (drop (i + 1) l)
-unfolding first
-passed l i h e = turn l i h ∙ rw (eq-eqb _ 0 e)
-
-pub found : (l : List ℕ) (i : ℕ) → i < length l → (get_or l i 0 ≡ 0 → ⊥) → first (drop i l) ≡ get_or l i 0
-unfolding first
-found l i h e = turn l i h ∙ rw (ne_eqb _ 0 e)
-
--- after the last
-pub none_left : (l : List ℕ) (i : ℕ) → length l ≤ i → first (drop i l) ≡ 0
-unfolding first
-none_left l i h = ap first (drop_of_length-le l h)
 
 -- ---- what a reply names: nothing where row 2 does not hold
 pub no_two : (s e l u f : Bool) → eqb (asked_of s false e l u f) 2 ≡ false
@@ -45,11 +27,11 @@ no_two s e l u f = rw (in_turn s false e l u f) (go s e l u f)
     go false false false false false = refl
 
 -- a reply's number and its fault, each put for its equal
-pub asked : (r : Reply) (k n x y : ℕ) → (number r ≡ k) × (fault r ≡ named k x) → k ≡ n → x ≡ y → (number r ≡ n) × (fault r ≡ named n y)
+pub asked : {A : Type 0} (r : Result A Refusal) (k n x y : ℕ) → (number r ≡ k) × (fault r ≡ named k x) → k ≡ n → x ≡ y → (number r ≡ n) × (fault r ≡ named n y)
 asked r k n x y h p q = (h.0 ∙ p, h.1 ∙ ap₂ (λ (i j : ℕ). named i j) p q)
 
 -- the same where every argument is within its bounds: there is no fault to be named, whatever would be the first
-pub all_fine : (r : Reply) (s a e l u f : Bool) (n y : ℕ) → a ≡ false → (number r ≡ asked_of s a e l u f) × (fault r ≡ named (asked_of s a e l u f) 0) →
+pub all_fine : {A : Type 0} (r : Result A Refusal) (s a e l u f : Bool) (n y : ℕ) → a ≡ false → (number r ≡ asked_of s a e l u f) × (fault r ≡ named (asked_of s a e l u f) 0) →
     asked_of s a e l u f ≡ n → (number r ≡ n) × (fault r ≡ named n y)
 unfolding named
 all_fine r s a e l u f n y h k p =
@@ -57,7 +39,7 @@ all_fine r s a e l u f n y h k p =
     let none : eqb n 2 ≡ false = sym (ap (λ (i : ℕ). eqb i 2) p) ∙ no in
     (k.0 ∙ p, k.1 ∙ simp (no, none))
 
-pub fine : (r : Reply) (s a e l f : Bool) (n y : ℕ) → a ≡ false → (number r ≡ row_of s a e l f) × (fault r ≡ named (row_of s a e l f) 0) →
+pub fine : {A : Type 0} (r : Result A Refusal) (s a e l f : Bool) (n y : ℕ) → a ≡ false → (number r ≡ row_of s a e l f) × (fault r ≡ named (row_of s a e l f) 0) →
     row_of s a e l f ≡ n → (number r ≡ n) × (fault r ≡ named n y)
 fine r s a e l f n y h k p = all_fine r s a e l false f n y h k p
 
@@ -81,6 +63,6 @@ alone f = go (eqb f 0) refl
     go false e = refl
 
 -- the reply of an exported run: that of its rows, or 7
-pub or_short_lem : (r s : Reply) (row x : ℕ) (short : Bool) → (number r ≡ row) × (fault r ≡ named row x) →
+pub or_short_lem : {A B : Type 0} (r : Result A Refusal) (s : Result B Refusal) (row x : ℕ) (short : Bool) → (number r ≡ row) × (fault r ≡ named row x) →
     (number s ≡ or_short (number r) short) × (fault s ≡ fault r) → (number s ≡ or_short row short) × (fault s ≡ named (or_short row short) x)
 or_short_lem r s row x short p q = (q.0 ∙ ap (λ (n : ℕ). or_short n short) p.0, q.1 ∙ p.1 ∙ short_named row short x)

@@ -1,4 +1,5 @@
 -- Laws, and theorems about the contracts.
+pub mod Causes
 pub mod Complete
 pub mod FirstFault
 pub mod Laws

@@ -10,6 +10,9 @@ use Rattle.std.specs.Prelude.{ℕ, ◌+◌, ◌*◌, Bool, true, cond, List, [],
 use Rattle.units.specs.declared.bandwidth.Bandwidth.{Bandwidth}
 use Rattle.units.specs.declared.time.Duration.{Duration}
 use Rattle.units.specs.declared.time.Moment.{Moment}
+use Rattle.state.specs.declared.faults.Kind.{Kind}
+use Rattle.state.specs.declared.faults.Kind.TheVariants.{Window, ByteCount, Length, Total, ProbeRounds, Gain, ListLength}
+use Rattle.state.specs.declared.faults.Kind.TheVariants as Kind
 use Rattle.units.specs.Reply.{reply_word}
 use Rattle.state.specs.Bounds.{bytes_ok, bytes_or_unset_ok, total_ok, moment_ok, length_ok, bandwidth_ok, maybe_ok, gain_ok}
 use Rattle.state.specs.CongestionEvent.{maybe_length_ok}
@@ -48,6 +51,18 @@ list_length = 8
 
 abbrev pub a_moment : ℕ
 a_moment = 9
+
+-- the names that the code has for them
+abbrev pub kind_number : Kind → ℕ
+kind_number Window = a_window
+kind_number ByteCount = a_byte_count
+kind_number Kind.Bandwidth = a_bandwidth
+kind_number Length = a_length
+kind_number Total = a_total
+kind_number ProbeRounds = probe_rounds
+kind_number Gain = a_gain
+kind_number ListLength = list_length
+kind_number Kind.Moment = a_moment
 
 -- ---- a fault: 0 where the test holds, else the kind, and 256 times the place
 abbrev pub unless : (test : Bool) (place kind : ℕ) → ℕ

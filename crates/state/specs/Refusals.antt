@@ -1,7 +1,9 @@
 -- document 01, "Replies and bounds": the table of refusals, with the row that document 02 adds. A call says by name
 -- which of its rows hold (`Rows`, src/refusals.rt), and the first of them, in the order in which they are asked, is its
 -- reply's number.
-use Rattle.std.specs.Prelude.{ℕ, ◌-◌, ◌^◌, Bool, false, cond, ◌&&◌, eqb}
+use Rattle.std.specs.Prelude.{ℕ, ◌-◌, ◌^◌, Bool, false, cond, ◌&&◌, eqb, Result, Ok, Err}
+use Rattle.state.specs.declared.refusals.Cause.{Cause}
+use Rattle.state.specs.declared.refusals.Cause.TheVariants.{Stored, Argument, Earlier, Lower, Full, Unsent}
 use Rattle.state.specs.declared.refusals.Rows.{Rows}
 
 -- a call has only some of the rows; the others never hold
@@ -111,6 +113,20 @@ asked_of stored argument earlier lower unsent full =
 
 abbrev pub first_of : Rows → ℕ
 first_of r = asked_of r.stored r.argument r.earlier r.lower r.unsent r.full
+
+-- the rows by the names that the code has for them
+abbrev pub cause_row : Cause → ℕ
+cause_row Stored = 1
+cause_row Argument = 2
+cause_row Earlier = 3
+cause_row Lower = 4
+cause_row Full = 5
+cause_row Unsent = 10
+
+-- the number of what a call of a run gives back: 0 where it is done
+abbrev pub caused : {A : Type 0} → Result A Cause → ℕ
+caused (Ok a) = 0
+caused (Err c) = cause_row c
 
 -- row 7, "the lent output is shorter than the answer", after the rows that `first_of` decides: "If several refusals
 -- apply, the lowest number is given"

@@ -10,7 +10,7 @@ pub const MOST_TOTAL: u64 = 0x4000_0000_0000_0000;
 
 pub const MOST_LENGTH: u64 = 0x10_0000_0000;
 
-pub const UNSET: u64 = 0xffff_ffff_ffff_ffff;
+pub const UNSET: u64 = u64::MAX;
 
 // A byte count is at most 2^40.
 pub fn bytes_ok(n: u64) -> bool
@@ -58,13 +58,11 @@ pub fn bandwidth_ok(b: Bandwidth) -> bool
 pub fn maybe_ok(b: Option<Bandwidth>) -> bool
     ensures { result ≡ maybe_ok b }
 {
-    let Some(held) = b else {
-        return true;
-    };
-    bandwidth_ok(held)
+    b.is_none_or(|held| bandwidth_ok(held))
 }
 
 // A threshold or a headroom is from 0 to 1; a NaN is not.
+#[tactic(auto, unfolding(crate::specs::Bounds::within))]
 pub(crate) fn fraction_ok(x: f32) -> bool
     ensures { result ≡ fraction_ok x }
 {
@@ -72,6 +70,7 @@ pub(crate) fn fraction_ok(x: f32) -> bool
 }
 
 // A gain is from 1/1024 to 8.
+#[tactic(auto, unfolding(crate::specs::Bounds::within))]
 pub fn gain_ok(x: f32) -> bool
     ensures { result ≡ gain_ok x }
 {

@@ -53,10 +53,7 @@ pub struct CongestionEventSample {
 pub(crate) fn maybe_length_ok(length: Option<Duration>) -> bool
     ensures { result ≡ maybe_length_ok length }
 {
-    let Some(held) = length else {
-        return true;
-    };
-    length_ok(held)
+    length.is_none_or(|held| length_ok(held))
 }
 
 impl SendTimeState {
@@ -69,43 +66,35 @@ impl SendTimeState {
 
 impl CongestionEvent {
     // Whether every number is within its bounds.
+    #[tactic(auto, unfolding(crate::specs::CongestionEvent::event_tests))]
     pub fn ok(self) -> bool
         ensures { result ≡ event_ok self }
     {
-        let time = self.time;
-        let bandwidth = self.bandwidth;
-        let rtt = self.rtt;
-        let state = self.state;
-        moment_ok(time)
+        moment_ok(self.time)
             & bytes_ok(self.window)
             & bytes_ok(self.prior)
             & bytes_ok(self.inflight)
             & total_ok(self.acked)
             & total_ok(self.lost)
-            & maybe_ok(bandwidth)
-            & maybe_length_ok(rtt)
-            & state.ok()
+            & maybe_ok(self.bandwidth)
+            & maybe_length_ok(self.rtt)
+            & self.state.ok()
     }
 }
 
 impl CongestionEventSample {
     // Whether every number is within its bounds.
+    #[tactic(auto, unfolding(crate::specs::CongestionEvent::sample_tests))]
     pub fn ok(self) -> bool
         ensures { result ≡ sample_ok self }
     {
-        let bandwidth = self.bandwidth;
-        let send = self.send;
-        let ack = self.ack;
-        let rtt = self.rtt;
-        let state = self.state;
-        let totals = self.totals;
-        maybe_ok(bandwidth)
-            & maybe_ok(send)
-            & maybe_ok(ack)
-            & maybe_length_ok(rtt)
+        maybe_ok(self.bandwidth)
+            & maybe_ok(self.send)
+            & maybe_ok(self.ack)
+            & maybe_length_ok(self.rtt)
             & bytes_ok(self.inflight)
             & bytes_ok(self.extra)
-            & state.ok()
-            & totals.ok()
+            & self.state.ok()
+            & self.totals.ok()
     }
 }

@@ -1,15 +1,16 @@
 // The cycle of probing for bandwidth, by concern.
 ghost use Rattle.std.specs.Prelude.{◌≡◌};
-ghost use Rattle.units.specs.Reply.{number, fault};
+ghost use Rattle.units.specs.Reply.{number, fault, kept};
+ghost use Rattle.state.specs.Answers.{zero_moment};
 ghost use Rattle.state.specs.Faults.{first, named, now_faults};
 ghost use Rattle.state.specs.Cycle.{wait_ok, up_bytes_ok, cycle_ok, stay_from, cycle_new, fresh_number, fresh_cycle};
 
 use crate::bounds::{MOST_LENGTH, bytes_ok, moment_ok};
 use crate::faults::now_fault;
 use crate::refusals::{Rows, refusal};
-use units::{Duration, Moment, Reply};
+use units::{Duration, Moment, Refusal};
 
-#[derive(Clone, Copy)]
+#[derive(Clone, Copy, PartialEq, Eq)]
 pub enum CyclePhase {
     NotStarted,
     Up,
@@ -62,35 +63,23 @@ pub struct Cycle {
     pub last: Last,
 }
 
-// A call's reply, and the cycle after it.
-#[derive(Clone, Copy)]
-pub struct CycleChanged {
-    pub reply: Reply,
-    pub cycle: Cycle,
-}
-
 // The stored wait is at most the longest length of time and the extra wait.
 fn wait_ok(wait: Option<Duration>) -> bool
     ensures { result ≡ wait_ok wait }
 {
-    let Some(length) = wait else {
-        return true;
-    };
-    length.0 <= MOST_LENGTH + Cycle::EXTRA_WAIT.0
+    wait.is_none_or(|length| length.0 <= MOST_LENGTH + Cycle::EXTRA_WAIT.0)
 }
 
 // A byte count that may be missing.
 fn up_bytes_ok(bytes: Option<u64>) -> bool
     ensures { result ≡ up_bytes_ok bytes }
 {
-    let Some(count) = bytes else {
-        return true;
-    };
-    bytes_ok(count)
+    bytes.is_none_or(|count| bytes_ok(count))
 }
 
 impl Stay {
     // A phase that begins now.
+    #[tactic(auto, unfolding(crate::specs::Cycle::stay_from))]
     pub fn from(phase: CyclePhase, now: Moment) -> Stay
         ensures { result ≡ stay_from phase now }
     {
@@ -102,38 +91,27 @@ impl Stay {
     }
 }
 
-fn fresh_reply(now: Moment) -> Reply
-    ensures reply { number result ≡ fresh_number now }
-    ensures fault { fault result ≡ named (fresh_number now) (first (now_faults now)) }
-{
-    let rows = Rows {
-        argument: !moment_ok(now),
-        ..Rows::NONE
-    };
-    refusal(rows, now_fault(now))
-}
-
 impl Cycle {
     pub const MOST_ROUNDS: u64 = 30;
 
     pub const EXTRA_WAIT: Duration = Duration(500_000);
 
     // A cycle that has not started, with the start's moment.
-    pub fn new(now: Moment) -> CycleChanged
-        ensures reply { number result.reply ≡ fresh_number now }
-        ensures cycle { result.cycle ≡ fresh_cycle now }
-        ensures fault { fault result.reply ≡ named (fresh_number now) (first (now_faults now)) }
+    #[tactic(auto, unfolding(crate::specs::Cycle::fresh_number, crate::specs::Cycle::fresh_cycle, crate::specs::Answers::settled))]
+    pub fn new(now: Moment) -> Result<Cycle, Refusal>
+        ensures reply { number result ≡ fresh_number now }
+        ensures cycle { kept result (cycle_new zero_moment) ≡ fresh_cycle now }
+        ensures fault { fault result ≡ named (fresh_number now) (first (now_faults now)) }
     {
-        let reply = fresh_reply(now);
-        if reply.is_done() {
-            let cycle = Cycle::fresh(now);
-            CycleChanged { reply, cycle }
-        } else {
-            let cycle = Cycle::fresh(Moment(0));
-            CycleChanged { reply, cycle }
-        }
+        let rows = Rows {
+            argument: !moment_ok(now),
+            ..Rows::NONE
+        };
+        refusal(rows, now_fault(now))?;
+        Ok(Cycle::fresh(now))
     }
 
+    #[tactic(auto, unfolding(crate::specs::Cycle::cycle_new))]
     fn fresh(now: Moment) -> Cycle
         ensures { result ≡ cycle_new now }
     {
@@ -160,21 +138,24 @@ impl Cycle {
     }
 
     // Whether every stored number is within its bounds.
+    #[tactic(auto, unfolding(crate::specs::Cycle::cycle_tests))]
     pub fn ok(self) -> bool
         ensures { result ≡ cycle_ok self }
     {
-        let stay = self.stay;
-        let wait = self.wait;
-        let slope = self.slope;
-        let entered = stay.entered;
-        let start = wait.start;
-        let length = wait.length;
-        let bytes = slope.bytes;
-        moment_ok(entered)
-            & moment_ok(start)
-            & wait_ok(length)
-            & (slope.rounds <= Cycle::MOST_ROUNDS)
-            & up_bytes_ok(bytes)
-            & bytes_ok(slope.acked)
+        moment_ok(self.stay.entered)
+            & moment_ok(self.wait.start)
+            & wait_ok(self.wait.length)
+            & (self.slope.rounds <= Cycle::MOST_ROUNDS)
+            & up_bytes_ok(self.slope.bytes)
+            & bytes_ok(self.slope.acked)
+    }
+}
+
+// Document 01's cycle of a start that is refused: one at moment 0.
+impl Default for Cycle {
+    ghost is_default = { λ c. c ≡ cycle_new zero_moment };
+
+    fn default() -> Cycle {
+        Cycle::fresh(Moment(0))
     }
 }

@@ -1,30 +1,28 @@
 // Which number was out of range: for each call that can give 2, the first of its arguments that is at fault, in the
 // order of their places. A fault is the kind of the bound that was passed, and 256 times the place; 0 is none.
 ghost use Rattle.std.specs.Prelude.{◌≡◌};
-ghost use Rattle.state.specs.Faults.{unless, first, record_faults, sample_faults, start_faults, sent_faults, started_faults, gain_faults, bdp_faults, bdp1_faults, limit_faults, postpone_faults, down_faults, now_faults, refill_faults, up_faults, slope_faults};
+ghost use Rattle.state.specs.Faults.{kind_number, unless, first, record_faults, sample_faults, start_faults, sent_faults, started_faults, gain_faults, bdp_faults, bdp1_faults, limit_faults, postpone_faults, down_faults, now_faults, refill_faults, up_faults, slope_faults};
 
-use crate::bounds::{MOST_BYTES, MOST_LENGTH, MOST_TOTAL, bytes_or_unset_ok, gain_ok, maybe_ok};
+use crate::bounds::{
+    bandwidth_ok, bytes_ok, bytes_or_unset_ok, gain_ok, length_ok, maybe_ok, moment_ok, total_ok,
+};
 use crate::congestion_event::{CongestionEvent, CongestionEventSample, maybe_length_ok};
 use crate::cycle::Cycle;
 use units::{Bandwidth, Duration, Moment};
 
-pub const WINDOW: u8 = 1;
-
-pub const BYTE_COUNT: u8 = 2;
-
-pub const BANDWIDTH: u8 = 3;
-
-pub const LENGTH: u8 = 4;
-
-pub const TOTAL: u8 = 5;
-
-pub const PROBE_ROUNDS: u8 = 6;
-
-pub const GAIN: u8 = 7;
-
-pub const LIST_LENGTH: u8 = 8;
-
-pub const MOMENT: u8 = 9;
+// The kinds of bounds, from 2.1 to 2.9.
+#[derive(Clone, Copy, PartialEq, Eq)]
+pub enum Kind {
+    Window = 1,
+    ByteCount = 2,
+    Bandwidth = 3,
+    Length = 4,
+    Total = 5,
+    ProbeRounds = 6,
+    Gain = 7,
+    ListLength = 8,
+    Moment = 9,
+}
 
 // A number that is no call's: a list length, at place 0.
 pub const NO_CALL: u32 = 8;
@@ -78,33 +76,25 @@ impl SampleFits {
 }
 
 // No fault where the test holds; this kind at this place where it fails.
-pub fn unless(test: bool, place: u8, kind: u8) -> u32
-    ensures { result ≡ unless test place kind }
+pub fn unless(test: bool, place: u8, kind: Kind) -> u32
+    ensures { result ≡ unless test place (kind_number kind) }
 {
     if test {
         0
     } else {
-        wide(kind) + 256 * wide(place)
+        kind as u32 + 256 * u32::from(place)
     }
 }
 
-fn wide(x: u8) -> u32
-    ensures { result ≡ x }
-{
-    x as u32
-}
-
 // The first of faults, 0 where there is none.
+#[tactic(auto, unfolding(crate::specs::Faults::first))]
 pub fn first_of(faults: &[u32]) -> u32
     ensures { result ≡ first faults.now }
 {
-    let mut i: usize = 0;
-    while i < faults.len() {
-        let fault = faults[i];
+    for &fault in faults {
         if fault != 0 {
             return fault;
         }
-        i += 1;
     }
     0
 }
@@ -113,29 +103,27 @@ pub fn first_of(faults: &[u32]) -> u32
 
 impl CongestionEvent {
     // The record at a place.
+    #[tactic(auto, unfolding(crate::specs::Faults::record_faults))]
     pub fn fault(self, place: u8, fits: RecordFits) -> u32
         ensures { result ≡ first (record_faults place fits self) }
     {
-        let time = self.time;
-        let bandwidth = self.bandwidth;
-        let rtt = self.rtt;
         first_of(&[
-            unless(time.0 <= MOST_TOTAL, place, MOMENT),
-            unless(self.window <= MOST_BYTES, place, WINDOW),
-            unless(self.prior <= MOST_BYTES, place, BYTE_COUNT),
-            unless(self.inflight <= MOST_BYTES, place, BYTE_COUNT),
-            unless(self.acked <= MOST_TOTAL, place, TOTAL),
-            unless(self.lost <= MOST_TOTAL, place, TOTAL),
-            unless(fits.ended, place, LIST_LENGTH),
-            unless(fits.probing, place, LIST_LENGTH),
-            unless(fits.bandwidth, place, LIST_LENGTH),
-            unless(maybe_ok(bandwidth), place, BANDWIDTH),
-            unless(fits.rtt, place, LIST_LENGTH),
-            unless(maybe_length_ok(rtt), place, LENGTH),
-            unless(fits.valid, place, LIST_LENGTH),
-            unless(fits.applimited, place, LIST_LENGTH),
-            unless(self.state.acked <= MOST_TOTAL, place, TOTAL),
-            unless(self.state.inflight <= MOST_BYTES, place, BYTE_COUNT),
+            unless(moment_ok(self.time), place, Kind::Moment),
+            unless(bytes_ok(self.window), place, Kind::Window),
+            unless(bytes_ok(self.prior), place, Kind::ByteCount),
+            unless(bytes_ok(self.inflight), place, Kind::ByteCount),
+            unless(total_ok(self.acked), place, Kind::Total),
+            unless(total_ok(self.lost), place, Kind::Total),
+            unless(fits.ended, place, Kind::ListLength),
+            unless(fits.probing, place, Kind::ListLength),
+            unless(fits.bandwidth, place, Kind::ListLength),
+            unless(maybe_ok(self.bandwidth), place, Kind::Bandwidth),
+            unless(fits.rtt, place, Kind::ListLength),
+            unless(maybe_length_ok(self.rtt), place, Kind::Length),
+            unless(fits.valid, place, Kind::ListLength),
+            unless(fits.applimited, place, Kind::ListLength),
+            unless(total_ok(self.state.acked), place, Kind::Total),
+            unless(bytes_ok(self.state.inflight), place, Kind::ByteCount),
         ])
     }
 }
@@ -145,54 +133,53 @@ impl CongestionEventSample {
     pub fn fault(self, fits: SampleFits) -> u32
         ensures { result ≡ first (sample_faults fits self) }
     {
-        let bandwidth = self.bandwidth;
-        let send = self.send;
-        let ack = self.ack;
-        let rtt = self.rtt;
         first_of(&[
-            unless(fits.bandwidth, 3, LIST_LENGTH),
-            unless(maybe_ok(bandwidth), 3, BANDWIDTH),
-            unless(fits.send, 3, LIST_LENGTH),
-            unless(maybe_ok(send), 3, BANDWIDTH),
-            unless(fits.ack, 3, LIST_LENGTH),
-            unless(maybe_ok(ack), 3, BANDWIDTH),
-            unless(fits.applimited, 3, LIST_LENGTH),
-            unless(fits.rtt, 3, LIST_LENGTH),
-            unless(maybe_length_ok(rtt), 3, LENGTH),
-            unless(self.inflight <= MOST_BYTES, 3, BYTE_COUNT),
-            unless(self.extra <= MOST_BYTES, 3, BYTE_COUNT),
-            unless(fits.valid, 3, LIST_LENGTH),
-            unless(fits.limited, 3, LIST_LENGTH),
-            unless(self.state.acked <= MOST_TOTAL, 3, TOTAL),
-            unless(self.state.inflight <= MOST_BYTES, 3, BYTE_COUNT),
-            unless(self.totals.acked <= MOST_TOTAL, 3, TOTAL),
-            unless(self.totals.lost <= MOST_TOTAL, 3, TOTAL),
+            unless(fits.bandwidth, 3, Kind::ListLength),
+            unless(maybe_ok(self.bandwidth), 3, Kind::Bandwidth),
+            unless(fits.send, 3, Kind::ListLength),
+            unless(maybe_ok(self.send), 3, Kind::Bandwidth),
+            unless(fits.ack, 3, Kind::ListLength),
+            unless(maybe_ok(self.ack), 3, Kind::Bandwidth),
+            unless(fits.applimited, 3, Kind::ListLength),
+            unless(fits.rtt, 3, Kind::ListLength),
+            unless(maybe_length_ok(self.rtt), 3, Kind::Length),
+            unless(bytes_ok(self.inflight), 3, Kind::ByteCount),
+            unless(bytes_ok(self.extra), 3, Kind::ByteCount),
+            unless(fits.valid, 3, Kind::ListLength),
+            unless(fits.limited, 3, Kind::ListLength),
+            unless(total_ok(self.state.acked), 3, Kind::Total),
+            unless(bytes_ok(self.state.inflight), 3, Kind::ByteCount),
+            unless(total_ok(self.totals.acked), 3, Kind::Total),
+            unless(total_ok(self.totals.lost), 3, Kind::Total),
         ])
     }
 }
 
 // ---- the calls
 
+#[tactic(auto, unfolding(crate::specs::Faults::start_faults))]
 pub fn start_fault(rtt: Duration, now: Moment) -> u32
     ensures { result ≡ first (start_faults rtt now) }
 {
     first_of(&[
-        unless(rtt.0 <= MOST_LENGTH, 1, LENGTH),
-        unless(now.0 <= MOST_TOTAL, 2, MOMENT),
+        unless(length_ok(rtt), 1, Kind::Length),
+        unless(moment_ok(now), 2, Kind::Moment),
     ])
 }
 
+#[tactic(auto, unfolding(crate::specs::Faults::sent_faults))]
 pub fn sent_fault(now: Moment, inflight: u64, bytes: u64) -> u32
     ensures { result ≡ first (sent_faults now inflight bytes) }
 {
     first_of(&[
-        unless(now.0 <= MOST_TOTAL, 1, MOMENT),
-        unless(inflight <= MOST_BYTES, 2, BYTE_COUNT),
-        unless(bytes <= MOST_BYTES, 4, BYTE_COUNT),
+        unless(moment_ok(now), 1, Kind::Moment),
+        unless(bytes_ok(inflight), 2, Kind::ByteCount),
+        unless(bytes_ok(bytes), 4, Kind::ByteCount),
     ])
 }
 
 // An event's start, whose acked numbers are there or not.
+#[tactic(auto, unfolding(crate::specs::Faults::started_faults))]
 pub fn started_fault(
     acked: bool,
     whole: RecordFits,
@@ -203,87 +190,100 @@ pub fn started_fault(
     ensures { result ≡ first (started_faults acked whole event complete sample) }
 {
     first_of(&[
-        unless(acked, 1, LIST_LENGTH),
+        unless(acked, 1, Kind::ListLength),
         event.fault(2, whole),
         sample.fault(complete),
     ])
 }
 
+#[tactic(auto, unfolding(crate::specs::Faults::gain_faults))]
 pub fn gain_fault(fits: bool, gain: f32) -> u32
     ensures { result ≡ first (gain_faults fits gain) }
 {
-    first_of(&[unless(fits, 1, LIST_LENGTH), unless(gain_ok(gain), 1, GAIN)])
+    first_of(&[
+        unless(fits, 1, Kind::ListLength),
+        unless(gain_ok(gain), 1, Kind::Gain),
+    ])
 }
 
+#[tactic(auto, unfolding(crate::specs::Faults::bdp_faults))]
 pub fn bdp_fault(bandwidth: Bandwidth, fits: bool, gain: f32) -> u32
     ensures { result ≡ first (bdp_faults bandwidth fits gain) }
 {
     first_of(&[
-        unless(bandwidth.0 <= MOST_BYTES, 1, BANDWIDTH),
-        unless(fits, 2, LIST_LENGTH),
-        unless(gain_ok(gain), 2, GAIN),
+        unless(bandwidth_ok(bandwidth), 1, Kind::Bandwidth),
+        unless(fits, 2, Kind::ListLength),
+        unless(gain_ok(gain), 2, Kind::Gain),
     ])
 }
 
+#[tactic(auto, unfolding(crate::specs::Faults::bdp1_faults))]
 pub fn bdp1_fault(bandwidth: Bandwidth) -> u32
     ensures { result ≡ first (bdp1_faults bandwidth) }
 {
-    first_of(&[unless(bandwidth.0 <= MOST_BYTES, 1, BANDWIDTH)])
+    first_of(&[unless(bandwidth_ok(bandwidth), 1, Kind::Bandwidth)])
 }
 
 // inflight_hi, or a cap.
+#[tactic(auto, unfolding(crate::specs::Faults::limit_faults))]
 pub fn limit_fault(bytes: u64) -> u32
     ensures { result ≡ first (limit_faults bytes) }
 {
-    first_of(&[unless(bytes_or_unset_ok(bytes), 1, BYTE_COUNT)])
+    first_of(&[unless(bytes_or_unset_ok(bytes), 1, Kind::ByteCount)])
 }
 
+#[tactic(auto, unfolding(crate::specs::Faults::postpone_faults))]
 pub fn postpone_fault(length: Duration, postponed: Moment) -> u32
     ensures { result ≡ first (postpone_faults length postponed) }
 {
     first_of(&[
-        unless(length.0 <= MOST_LENGTH, 1, LENGTH),
-        unless(postponed.0 <= MOST_TOTAL, 1, MOMENT),
+        unless(length_ok(length), 1, Kind::Length),
+        unless(moment_ok(postponed), 1, Kind::Moment),
     ])
 }
 
+#[tactic(auto, unfolding(crate::specs::Faults::down_faults))]
 pub fn down_fault(high: bool, risky: bool, now: Moment) -> u32
     ensures { result ≡ first (down_faults high risky now) }
 {
     first_of(&[
-        unless(high, 1, LIST_LENGTH),
-        unless(risky, 2, LIST_LENGTH),
-        unless(now.0 <= MOST_TOTAL, 3, MOMENT),
+        unless(high, 1, Kind::ListLength),
+        unless(risky, 2, Kind::ListLength),
+        unless(moment_ok(now), 3, Kind::Moment),
     ])
 }
 
 // A call that is given a moment alone.
+#[tactic(auto, unfolding(crate::specs::Faults::now_faults))]
 pub fn now_fault(now: Moment) -> u32
     ensures { result ≡ first (now_faults now) }
 {
-    first_of(&[unless(now.0 <= MOST_TOTAL, 1, MOMENT)])
+    first_of(&[unless(moment_ok(now), 1, Kind::Moment)])
 }
 
+#[tactic(auto, unfolding(crate::specs::Faults::refill_faults))]
 pub fn refill_fault(rounds: u64, now: Moment) -> u32
     ensures { result ≡ first (refill_faults rounds now) }
 {
     first_of(&[
-        unless(rounds <= Cycle::MOST_ROUNDS, 1, PROBE_ROUNDS),
-        unless(now.0 <= MOST_TOTAL, 2, MOMENT),
+        unless(rounds <= Cycle::MOST_ROUNDS, 1, Kind::ProbeRounds),
+        unless(moment_ok(now), 2, Kind::Moment),
     ])
 }
 
+#[tactic(auto, unfolding(crate::specs::Faults::up_faults))]
 pub fn up_fault(now: Moment, window: u64) -> u32
     ensures { result ≡ first (up_faults now window) }
 {
     first_of(&[
-        unless(now.0 <= MOST_TOTAL, 1, MOMENT),
-        unless(window <= MOST_BYTES, 2, WINDOW),
+        unless(moment_ok(now), 1, Kind::Moment),
+        unless(bytes_ok(window), 2, Kind::Window),
     ])
 }
 
+#[tactic(auto, unfolding(crate::specs::Faults::slope_faults))]
 pub fn slope_fault(window: u64) -> u32
     ensures { result ≡ first (slope_faults window) }
 {
-    first_of(&[unless(window <= MOST_BYTES, 1, WINDOW)])
+    first_of(&[unless(bytes_ok(window), 1, Kind::Window)])
 }

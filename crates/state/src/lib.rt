@@ -1,7 +1,6 @@
 // What a state, a cycle, an event, a sampler's answer and the parameters are; their bounds, and the table of refusals.
 #![tactic(auto)]
 
-pub mod answers;
 pub mod bounds;
 pub mod congestion_event;
 pub mod cycle;

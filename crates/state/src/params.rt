@@ -25,23 +25,23 @@ pub struct Params {
 
 impl Params {
     // Whether every setting is within its bounds.
+    #[tactic(auto, unfolding(crate::specs::Params::params_ok))]
     pub fn ok(self) -> bool
         ensures { result ≡ params_ok self }
     {
-        let period = self.period;
-        let base = self.base;
         beta_ok(self.beta)
             & fraction_ok(self.loss)
             & fraction_ok(self.headroom)
             & threshold_ok(self.growth)
             & gain_ok(self.cwnd)
             & gain_ok(self.pacing)
-            & length_ok(period)
-            & length_ok(base)
+            & length_ok(self.period)
+            & length_ok(self.base)
     }
 }
 
 // beta is from 1/1024 to 1023/1024.
+#[tactic(auto, unfolding(crate::specs::Bounds::within))]
 fn beta_ok(x: f32) -> bool
     ensures { result ≡ beta_ok x }
 {
@@ -49,6 +49,7 @@ fn beta_ok(x: f32) -> bool
 }
 
 // full_bw_threshold is from 1 to 8.
+#[tactic(auto, unfolding(crate::specs::Bounds::within))]
 fn threshold_ok(x: f32) -> bool
     ensures { result ≡ threshold_ok x }
 {

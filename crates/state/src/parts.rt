@@ -5,7 +5,6 @@ ghost use Rattle.state.specs.Parts.{round_ok, latest_ok, lower_ok, gains_ok, gro
 use crate::bounds::{
     UNSET, bandwidth_ok, bytes_ok, bytes_or_unset_ok, gain_ok, maybe_ok, total_ok,
 };
-use numbers::smaller;
 use units::Bandwidth;
 
 // bytes_lost_in_round, loss_events_in_round, max_bytes_delivered_in_round,
@@ -80,19 +79,19 @@ impl Round {
     }
 
     // The sums after a send: the bytes in flight before it, and whether it reached inflight_hi.
+    #[tactic(auto, unfolding(crate::specs::Parts::round_sent))]
     pub fn sent(self, inflight: u64, hit: bool) -> Round
         ensures { result ≡ round_sent self inflight hit }
     {
         Round {
-            lost: self.lost,
-            losses: self.losses,
-            delivered: self.delivered,
-            mininflight: smaller(self.mininflight, inflight),
+            mininflight: self.mininflight.min(inflight),
             hilimited: self.hilimited | hit,
+            ..self
         }
     }
 
     // Within the bounds, and no more than the totals.
+    #[tactic(auto, unfolding(crate::specs::Parts::round_ok))]
     pub(crate) fn ok(self, totals: Totals) -> bool
         ensures { result ≡ round_ok self totals }
     {
@@ -108,29 +107,29 @@ impl Latest {
     pub(crate) fn ok(self) -> bool
         ensures { result ≡ latest_ok self }
     {
-        let bandwidth = self.bandwidth;
-        bandwidth_ok(bandwidth) & bytes_ok(self.inflight)
+        bandwidth_ok(self.bandwidth) & bytes_ok(self.inflight)
     }
 }
 
 impl Lower {
     // inflight_lo at most the cap; an unset one stays so.
+    #[tactic(auto, unfolding(crate::specs::Parts::lower_capped))]
     pub(crate) fn capped(self, cap: u64) -> Lower
         ensures { result ≡ lower_capped self cap }
     {
         if self.inflight == UNSET {
             return self;
         }
-        let mut next = self;
-        next.inflight = smaller(cap, self.inflight);
-        next
+        Lower {
+            inflight: cap.min(self.inflight),
+            ..self
+        }
     }
 
     pub(crate) fn ok(self) -> bool
         ensures { result ≡ lower_ok self }
     {
-        let bandwidth = self.bandwidth;
-        maybe_ok(bandwidth) & bytes_or_unset_ok(self.inflight)
+        maybe_ok(self.bandwidth) & bytes_or_unset_ok(self.inflight)
     }
 }
 
@@ -146,8 +145,7 @@ impl Growth {
     pub(crate) fn ok(self) -> bool
         ensures { result ≡ growth_ok self }
     {
-        let baseline = self.baseline;
-        bandwidth_ok(baseline)
+        bandwidth_ok(self.baseline)
     }
 }
 
@@ -155,9 +153,7 @@ impl Rates {
     pub(crate) fn ok(self) -> bool
         ensures { result ≡ rates_ok self }
     {
-        let send = self.send;
-        let ack = self.ack;
-        maybe_ok(send) & maybe_ok(ack)
+        maybe_ok(self.send) & maybe_ok(self.ack)
     }
 }
 

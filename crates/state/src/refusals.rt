@@ -1,11 +1,11 @@
 // Document 01's table of refusals, with document 02's row 10: which rows of it hold for a call, and the reply that
 // they give.
 ghost use Rattle.std.specs.Prelude.{◌≡◌};
-ghost use Rattle.units.specs.Reply.{number, fault};
+ghost use Rattle.units.specs.Reply.{row_of, fault_of, number, fault};
 ghost use Rattle.state.specs.Faults.{named};
-ghost use Rattle.state.specs.Refusals.{asked_of, first_of, or_short};
+ghost use Rattle.state.specs.Refusals.{cause_row, caused, first_of, or_short};
 
-use units::Reply;
+use units::Refusal;
 
 // For one call, which of the table's rows hold.
 #[derive(Clone, Copy)]
@@ -36,103 +36,89 @@ impl Rows {
     };
 }
 
-// The reply of the first row that holds, in the order in which they are asked, or `Done`. Row 2 names the fault.
-pub fn refusal(rows: Rows, blamed: u32) -> Reply
+// The row of the table that refuses a call, where it isn't said which argument is at fault.
+#[derive(Clone, Copy, PartialEq, Eq)]
+pub enum Cause {
+    Stored = 1,
+    Argument = 2,
+    Earlier = 3,
+    Lower = 4,
+    Full = 5,
+    Unsent = 10,
+}
+
+impl Cause {
+    // Its number in the table.
+    pub fn row(self) -> u64
+        ensures { result ≡ cause_row self }
+    {
+        self as u64
+    }
+
+    // The refusal: row 2 names the fault.
+    #[tactic(auto, unfolding(crate::specs::Faults::named))]
+    pub fn named(self, blamed: u32) -> Refusal
+        ensures row { row_of result ≡ cause_row self }
+        ensures fault { fault_of result ≡ named (cause_row self) blamed }
+    {
+        match self {
+            Cause::Stored => Refusal::OutOfBounds,
+            Cause::Argument => Refusal::BadArgument(blamed),
+            Cause::Earlier => Refusal::EarlierMoment,
+            Cause::Lower => Refusal::LowerTotal,
+            Cause::Full => Refusal::FullCounter,
+            Cause::Unsent => Refusal::NeverSent,
+        }
+    }
+}
+
+impl Rows {
+    // Refused for the first row that holds, in the order in which they are asked. A run of calls finds the fault, where there
+    // is one, in the call's words.
+    #[tactic(auto, unfolding(crate::specs::Refusals::row_of, crate::specs::Refusals::up_to_four))]
+    pub fn first(self) -> Result<(), Cause>
+        ensures { caused result ≡ first_of self }
+    {
+        if self.stored {
+            return Err(Cause::Stored);
+        }
+        if self.argument {
+            return Err(Cause::Argument);
+        }
+        if self.earlier {
+            return Err(Cause::Earlier);
+        }
+        if self.lower {
+            return Err(Cause::Lower);
+        }
+        if self.unsent {
+            return Err(Cause::Unsent);
+        }
+        if self.full {
+            return Err(Cause::Full);
+        }
+        Ok(())
+    }
+}
+
+// The reply of the first row that holds. Row 2 names the fault.
+#[tactic(auto, unfolding(crate::specs::Faults::named))]
+pub fn refusal(rows: Rows, blamed: u32) -> Result<(), Refusal>
     ensures reply { number result ≡ first_of rows }
     ensures fault { fault result ≡ named (first_of rows) blamed }
 {
-    reply_of(
-        rows.stored,
-        rows.argument,
-        rows.earlier,
-        rows.lower,
-        rows.unsent,
-        rows.full,
-        blamed,
-    )
-}
-
-// The same of rows one by one, from which the compiler makes shorter code than from a record.
-fn reply_of(
-    stored: bool,
-    argument: bool,
-    earlier: bool,
-    lower: bool,
-    unsent: bool,
-    full: bool,
-    blamed: u32,
-) -> Reply
-    ensures reply { number result ≡ asked_of stored argument earlier lower unsent full }
-    ensures fault { fault result ≡ named (asked_of stored argument earlier lower unsent full) blamed }
-{
-    if stored {
-        return Reply::OutOfBounds;
-    }
-    if argument {
-        return Reply::BadArgument(blamed);
-    }
-    if earlier {
-        return Reply::EarlierMoment;
-    }
-    if lower {
-        return Reply::LowerTotal;
-    }
-    if unsent {
-        return Reply::NeverSent;
-    }
-    if full {
-        return Reply::FullCounter;
-    }
-    Reply::Done
-}
-
-// The number of the first row that holds, 0 where none does: for a run of calls, which finds the fault, where there is
-// one, in the call's words.
-pub fn first_row(rows: Rows) -> u64
-    ensures { result ≡ first_of rows }
-{
-    row_of(
-        rows.stored,
-        rows.argument,
-        rows.earlier,
-        rows.lower,
-        rows.unsent,
-        rows.full,
-    )
-}
-
-fn row_of(stored: bool, argument: bool, earlier: bool, lower: bool, unsent: bool, full: bool) -> u64
-    ensures { result ≡ asked_of stored argument earlier lower unsent full }
-{
-    if stored {
-        return 1;
-    }
-    if argument {
-        return 2;
-    }
-    if earlier {
-        return 3;
-    }
-    if lower {
-        return 4;
-    }
-    if unsent {
-        return 10;
-    }
-    if full {
-        return 5;
-    }
-    0
+    rows.first().map_err(|cause| cause.named(blamed))
 }
 
 // The reply, or `ShortOutput` where it is done and the output is too short.
-pub fn or_short(reply: Reply, short: bool) -> Reply
+#[tactic(auto, unfolding(crate::specs::Refusals::or_short))]
+pub fn or_short(reply: Result<(), Refusal>, short: bool) -> Result<(), Refusal>
     ensures reply { number result ≡ or_short (number reply) short }
     ensures fault { fault result ≡ fault reply }
 {
-    if reply.is_done() & short {
-        Reply::ShortOutput
-    } else {
-        reply
+    reply?;
+    if short {
+        return Err(Refusal::ShortOutput);
     }
+    Ok(())
 }

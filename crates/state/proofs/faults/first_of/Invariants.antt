@@ -1,12 +1,7 @@
--- `first_of` meets its contract. The invariant: the first fault is among those that are left. Assumes nothing.
-use Prim.Native.Nat.{◌-◌, ◌≤◌}
-use mathlib.Core.Path.{◌≡◌}
-use lib.ListN.{length, drop}
+-- `first_of` goes past what is no fault: the first of what is left is the first of all.
+use Rattle.std.proofs.Common.{◌≡◌, drop}
 use Rattle.state.specs.Faults.{first}
 use Rattle.state.proofs.faults.first_of.Given as goal
 
-abbrev pub invariant-loop-i : goal.invariant-loop-i
-invariant-loop-i l = (l.i ≤ length l.faults) × (first (drop l.i l.faults) ≡ first l.faults)
-
-abbrev pub decreases-loop-i : goal.decreases-loop-i
-decreases-loop-i l = length l.faults - l.i
+abbrev pub invariant-loop-fault : goal.invariant-loop-fault
+invariant-loop-fault l = first (drop l.fault-index l.faults) ≡ first l.faults

@@ -1,0 +1,34 @@
+-- Two replies of a run with one number are one. Assumes nothing.
+use Rattle.std.proofs.Common.{◌≡◌, ℕ, [], ◌∷◌, get_or, sym, refl, ap, ◌∙◌, arith}
+use Rattle.std.specs.Prelude.{Result, Ok, Err}
+use Rattle.state.specs.declared.refusals.Cause.{Cause}
+use Rattle.state.specs.declared.refusals.Cause.TheVariants.{Stored, Argument, Earlier, Lower, Full, Unsent}
+use Rattle.state.specs.Refusals.{cause_row, caused}
+
+abbrev cause_of : ℕ → Cause
+cause_of n = get_or (Unsent ∷ Stored ∷ Argument ∷ Earlier ∷ Lower ∷ Full ∷ []) n Unsent
+
+back : (c : Cause) → cause_of (cause_row c) ≡ c
+back Stored = refl
+back Argument = refl
+back Earlier = refl
+back Lower = refl
+back Full = refl
+back Unsent = refl
+
+no_row : (c : Cause) → cause_row c ≡ 0 → ⊥
+no_row Stored e = omega (arith, e)
+no_row Argument e = omega (arith, e)
+no_row Earlier e = omega (arith, e)
+no_row Lower e = omega (arith, e)
+no_row Full e = omega (arith, e)
+no_row Unsent e = omega (arith, e)
+
+pub cause_injective : (c d : Cause) → cause_row c ≡ cause_row d → c ≡ d
+cause_injective c d e = sym (back c) ∙ ap cause_of e ∙ back d
+
+pub only_cause : (x y : Result (Unit {0}) Cause) → caused x ≡ caused y → x ≡ y
+only_cause (Ok a) (Ok b) e = refl
+only_cause (Ok a) (Err d) e = absurd (no_row d (sym e))
+only_cause (Err c) (Ok b) e = absurd (no_row c e)
+only_cause (Err c) (Err d) e = ap (λ k. Err k) (cause_injective c d e)

@@ -1,8 +1,0 @@
--- `CongestionEvent::fault` meets its contract: field by field. Assumes nothing.
-use mathlib.Core.Path.{◌∙◌}
-use Rattle.state.specs.Faults.{record_faults}
-use Rattle.state.proofs.congestion_event.CongestionEvent.fault.Goals as goal
-
-pub returns : goal.returns
-unfolding record_faults
-returns c = c.first_of.ensures ∙ rw (c.unless.ensures, c.unless-2.ensures, c.unless-3.ensures, c.unless-4.ensures, c.unless-5.ensures, c.unless-6.ensures, c.unless-7.ensures, c.unless-8.ensures, c.unless-9.ensures, c.unless-10.ensures, c.unless-11.ensures, c.unless-12.ensures, c.unless-13.ensures, c.unless-14.ensures, c.unless-15.ensures, c.unless-16.ensures, c.maybe_ok.ensures, c.maybe_length_ok.ensures)

@@ -1,5 +1,0 @@
--- `wait_ok` meets its contract: by the two cases.
-use Rattle.state.proofs.cycle.wait_ok.Goals as goal
-
-pub returns : goal.returns
-returns c = rw c.in-Some.is

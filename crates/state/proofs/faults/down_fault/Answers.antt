@@ -1,8 +1,0 @@
--- `down_fault` meets its contract: argument by argument. Assumes nothing.
-use mathlib.Core.Path.{◌∙◌}
-use Rattle.state.specs.Faults.{down_faults}
-use Rattle.state.proofs.faults.down_fault.Goals as goal
-
-pub returns : goal.returns
-unfolding down_faults
-returns c = c.first_of.ensures ∙ rw (c.unless.ensures, c.unless-2.ensures, c.unless-3.ensures)

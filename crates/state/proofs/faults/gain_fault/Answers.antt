@@ -1,8 +1,0 @@
--- `gain_fault` meets its contract: argument by argument. Assumes nothing.
-use mathlib.Core.Path.{◌∙◌}
-use Rattle.state.specs.Faults.{gain_faults}
-use Rattle.state.proofs.faults.gain_fault.Goals as goal
-
-pub returns : goal.returns
-unfolding gain_faults
-returns c = c.first_of.ensures ∙ rw (c.unless.ensures, c.unless-2.ensures, c.gain_ok.ensures)

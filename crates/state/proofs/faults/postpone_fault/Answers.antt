@@ -1,8 +1,0 @@
--- `postpone_fault` meets its contract: argument by argument. Assumes nothing.
-use mathlib.Core.Path.{◌∙◌}
-use Rattle.state.specs.Faults.{postpone_faults}
-use Rattle.state.proofs.faults.postpone_fault.Goals as goal
-
-pub returns : goal.returns
-unfolding postpone_faults
-returns c = c.first_of.ensures ∙ rw (c.unless.ensures, c.unless-2.ensures)

@@ -1,8 +1,0 @@
--- `up_fault` meets its contract: argument by argument. Assumes nothing.
-use mathlib.Core.Path.{◌∙◌}
-use Rattle.state.specs.Faults.{up_faults}
-use Rattle.state.proofs.faults.up_fault.Goals as goal
-
-pub returns : goal.returns
-unfolding up_faults
-returns c = c.first_of.ensures ∙ rw (c.unless.ensures, c.unless-2.ensures)
