@@ -26,17 +26,18 @@ pub struct WindowedFilter {
     pub held: Option<Estimates>,
 }
 
-// What an update did to the estimates: the step of document 01 that acted last, or none.
-#[derive(Clone, Copy)]
+// What an update did to the estimates: the step of document 01 that acted last, or none. The exported filter run writes its
+// number.
+#[derive(Clone, Copy, PartialEq, Eq)]
 pub enum Reason {
-    AllReplaced,
-    SecondRaised,
-    ThirdRaised,
-    PromotedOnce,
-    PromotedTwice,
-    QuarterRefresh,
-    HalfRefresh,
-    Unchanged,
+    AllReplaced = 0,
+    SecondRaised = 1,
+    ThirdRaised = 2,
+    PromotedOnce = 3,
+    PromotedTwice = 4,
+    QuarterRefresh = 5,
+    HalfRefresh = 6,
+    Unchanged = 7,
 }
 
 // The estimates that some of the steps leave, and which of them acted last.
