@@ -32,14 +32,14 @@ float_fits_lem w = go (ltb w (2 ^ 32))
     go true = of_bits-fits binary32 w
     go false = tt
 
-pub bandwidth_back : (x : Option Bandwidth) → bandwidth_of (bandwidth_maybe x).set (bandwidth_maybe x).number ≡ x
+pub bandwidth_back : (x : Option Bandwidth) → bandwidth_of (bandwidth_maybe x).0 (bandwidth_maybe x).1 ≡ x
 bandwidth_back None = refl
 bandwidth_back (Some b) = refl
 
-pub length_back : (x : Option Duration) → length_of (length_maybe x).set (length_maybe x).number ≡ x
+pub length_back : (x : Option Duration) → length_of (length_maybe x).0 (length_maybe x).1 ≡ x
 length_back None = refl
 length_back (Some d) = refl
 
-pub plain_back : (x : Option ℕ) → plain_of (plain_maybe x).set (plain_maybe x).number ≡ x
+pub plain_back : (x : Option ℕ) → plain_of (plain_maybe x).0 (plain_maybe x).1 ≡ x
 plain_back None = refl
 plain_back (Some n) = refl
