@@ -1,5 +1,6 @@
 -- What is written for a flag, an f32 or a thing that may be unset is read back as it was. Assumes nothing.
 use Rattle.std.specs.Prelude.{Option, None, Some}
+use Rattle.std.specs.Int.{from_bool}
 use Prim.Native.Nat.{ℕ, ◌^◌}
 use Rattle.units.specs.declared.time.Duration.{Duration}
 use Rattle.units.specs.declared.bandwidth.Bandwidth.{Bandwidth}
@@ -15,6 +16,11 @@ use Rattle.words.specs.Maybe.{bandwidth_maybe, bandwidth_of, length_maybe, lengt
 pub flag_written : (yes : Bool) → flag_fits (flag_word yes) ≡ true
 flag_written true = refl
 flag_written false = refl
+
+-- std's number of a flag is its word
+pub flag_number : (yes : Bool) → from_bool yes ≡ flag_word yes
+flag_number true = refl
+flag_number false = refl
 
 pub flag_back : (yes : Bool) → flag_of (flag_word yes) ≡ yes
 flag_back true = refl
