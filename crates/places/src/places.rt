@@ -62,7 +62,7 @@ fn other_fault(least: Moment, n: &[u64; 49]) -> u32
 fn is_about_event(call: u64) -> bool
     ensures { result ≡ is_about_event call }
 {
-    (4 <= call) & (call <= 7)
+    matches!(call, 4..=7)
 }
 
 // Calls 40 to 45, with the numbers that they are given.
@@ -89,13 +89,10 @@ fn number_fault(least: Moment, call: u64, a: u64, b: u64, d: u64) -> u32
     match call {
         0 => start_fault(Duration(b), Moment(a)),
         1 => sent_fault(Moment(a), b, d),
-        9 => gain_fault(float_fits(a), float_of(a)),
+        9 | 15 | 16 => gain_fault(float_fits(a), float_of(a)),
         10 => bdp_fault(Bandwidth(a), float_fits(b), float_of(b)),
         11 => bdp1_fault(Bandwidth(a)),
-        15 => gain_fault(float_fits(a), float_of(a)),
-        16 => gain_fault(float_fits(a), float_of(a)),
-        17 => limit_fault(a),
-        18 => limit_fault(a),
+        17 | 18 => limit_fault(a),
         22 => postponed_fault(least, Duration(a)),
         _ => nothing_fault(call),
     }
@@ -118,8 +115,5 @@ fn nothing_fault(call: u64) -> u32
 fn is_given_nothing(call: u64) -> bool
     ensures { result ≡ is_given_nothing call }
 {
-    (call == 8)
-        | (12 <= call) & (call <= 14)
-        | (19 <= call) & (call <= 21)
-        | (23 <= call) & (call <= 38)
+    matches!(call, 8 | 12..=14 | 19..=21 | 23..=38)
 }
