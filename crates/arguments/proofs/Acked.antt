@@ -27,22 +27,6 @@ pub many_long : (l : List ℕ) → leb (get_or l 18 0) 3 ≡ false → acked_fit
 unfolding acked_fits
 many_long l many fits = rw (length-take, length-drop) (omega (arith, leb-true (49 + get_or l 19 0 + get_or l 18 0) (length l) (rw many at fits)))
 
--- the greatest of up to three
-pub few_none : (n : ℕ) (l : List ℕ) → n ≡ 0 → None ≡ greatest (take n l)
-few_none n l e = rw e
-
-pub few_one : (n a b c : ℕ) → n ≡ 1 → Some a ≡ greatest (take n (a ∷ b ∷ c ∷ []))
-few_one n a b c e = rw e
-
-pub few_two : (n a b c : ℕ) → n ≡ 2 → Some (max a b) ≡ greatest (take n (a ∷ b ∷ c ∷ []))
-few_two n a b c e = rw e
-
-pub few_three : (n a b c : ℕ) → (n ≡ 0 → ⊥) → (n ≡ 1 → ⊥) → (n ≡ 2 → ⊥) → Some (max (max a b) c) ≡ greatest (take n (a ∷ b ∷ c ∷ []))
-few_three zero a b c p q r = absurd (p refl)
-few_three (suc zero) a b c p q r = absurd (q refl)
-few_three (suc (suc zero)) a b c p q r = absurd (r refl)
-few_three (suc (suc (suc n))) a b c p q r = rw (take-nil n)
-
 module _ (l lists : List ℕ) (h : length l ≡ 49) where
   long : length (l ++ lists) ≡ 49 + length lists
   long = length-append l lists ∙ rw h

@@ -14,7 +14,6 @@ use Rattle.state.specs.Bounds.{all, within, maybe_ok}
 use Rattle.state.specs.Params.{params_ok}
 use Rattle.state.proofs.Rows.{and_left, and_right, all_at}
 use Rattle.state.specs.CongestionEvent.{maybe_length_ok, event_tests, sample_tests}
-use Rattle.words.specs.declared.maybe.Maybe.{Maybe}
 use Rattle.words.specs.Word.{outside, or_outside, flag_word, flag_of, flag_fits, float_word, float_of}
 use Rattle.words.specs.Maybe.{unset, held, is_unset, maybe_of, bandwidth_maybe, bandwidth_of, length_maybe, length_of}
 use Rattle.arguments.specs.CongestionEvent.{event_fits, event_from_word, event_from, words_from, event_words}
@@ -50,22 +49,22 @@ float_same low high w h = go (ltb w (2 ^ 32)) refl (number_where low high (float
     go false e plain = absurd plain
 
 -- ---- what may be unset
-pair_same : {A : Type 0} (none : A) (some : ℕ → A) (f : A → Maybe) (ok : A → Bool) → f none ≡ unset → ((n : ℕ) → f (some n) ≡ held n) → ok (some outside) ≡ false →
-    (a b : ℕ) → ok (maybe_of none some a b) ≡ true → f (maybe_of none some a b) ≡ record { set = a; number = b }
+pair_same : {A : Type 0} (none : A) (some : ℕ → A) (f : A → ℕ × ℕ) (ok : A → Bool) → f none ≡ unset → ((n : ℕ) → f (some n) ≡ held n) → ok (some outside) ≡ false →
+    (a b : ℕ) → ok (maybe_of none some a b) ≡ true → f (maybe_of none some a b) ≡ (a, b)
 pair_same none some f ok p q bad a b h = go (is_unset a b) (eqb a 1) refl refl h
   where
-    go : (u s : Bool) → is_unset a b ≡ u → eqb a 1 ≡ s → ok (cond u none (some (or_outside s b))) ≡ true → f (cond u none (some (or_outside s b))) ≡ record { set = a; number = b }
+    go : (u s : Bool) → is_unset a b ≡ u → eqb a 1 ≡ s → ok (cond u none (some (or_outside s b))) ≡ true → f (cond u none (some (or_outside s b))) ≡ (a, b)
     go true s e k g =
         let x = sym (eqb-true a 0 (and_left (eqb a 0) (eqb b 0) e)) in
         let y = sym (eqb-true b 0 (and_right (eqb a 0) (eqb b 0) e)) in
-        p ∙ (λ i. record { set = x i; number = y i })
-    go false true e k g = let x = sym (eqb-true a 1 k) in q b ∙ (λ i. record { set = x i; number = b })
+        p ∙ (λ i. (x i, y i))
+    go false true e k g = let x = sym (eqb-true a 1 k) in q b ∙ (λ i. (x i, b))
     go false false e k g = absurd (true≢false (sym g ∙ bad))
 
-bandwidth_same : (a b : ℕ) → maybe_ok (bandwidth_of a b) ≡ true → bandwidth_maybe (bandwidth_of a b) ≡ record { set = a; number = b }
+bandwidth_same : (a b : ℕ) → maybe_ok (bandwidth_of a b) ≡ true → bandwidth_maybe (bandwidth_of a b) ≡ (a, b)
 bandwidth_same a b h = pair_same None (λ n. Some (record { 0 = n })) bandwidth_maybe maybe_ok refl (λ n. refl) refl a b h
 
-length_same : (a b : ℕ) → maybe_length_ok (length_of a b) ≡ true → length_maybe (length_of a b) ≡ record { set = a; number = b }
+length_same : (a b : ℕ) → maybe_length_ok (length_of a b) ≡ true → length_maybe (length_of a b) ≡ (a, b)
 length_same a b h = pair_same None (λ n. Some (record { 0 = n })) length_maybe maybe_length_ok refl (λ n. refl) refl a b h
 
 -- ---- all of them

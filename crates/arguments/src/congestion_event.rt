@@ -4,12 +4,13 @@ ghost use Rattle.arguments.specs.CongestionEvent.{send_time_state_of, event_fits
 
 use state::congestion_event::{CongestionEvent, SendTimeState};
 use units::Moment;
-use words::maybe::{bandwidth_maybe, bandwidth_of, length_maybe, length_of};
-use words::word::{flag_fits, flag_word, or_outside};
+use words::maybe::{maybe_of, pair_of};
+use words::word::{flag_fits, or_outside};
 
 // ---- from words
 
 // The record in a call's words.
+#[tactic(auto, unfolding(crate::specs::CongestionEvent::event_from_word))]
 pub fn event_from(n: &[u64; 49]) -> CongestionEvent
     ensures { result ≡ event_from n.now }
 {
@@ -22,13 +23,14 @@ pub fn event_from(n: &[u64; 49]) -> CongestionEvent
         lost: n[27],
         ended: n[28] == 1,
         probing: n[29] == 1,
-        bandwidth: bandwidth_of(n[30], n[31]),
-        rtt: length_of(n[32], n[33]),
+        bandwidth: maybe_of(n[30], n[31]),
+        rtt: maybe_of(n[32], n[33]),
         state: send_time_state_of(n[34], n[35], n[36], n[37]),
     }
 }
 
 // Whether a writer writes the record's four flags.
+#[tactic(auto, unfolding(crate::specs::CongestionEvent::event_fits))]
 fn event_fits(n: &[u64; 49]) -> bool
     ensures { result ≡ event_fits n.now 22 }
 {
@@ -36,6 +38,7 @@ fn event_fits(n: &[u64; 49]) -> bool
 }
 
 // The record's words as they are.
+#[tactic(auto, unfolding(crate::specs::CongestionEvent::words_from))]
 pub fn event_in(n: &[u64; 49]) -> [u64; 16]
     ensures { result ≡ event_in n.now }
 {
@@ -65,13 +68,12 @@ pub(crate) fn send_time_state_of(
 // ---- into words
 
 // All words of a record.
+#[tactic(auto, using(words::proofs::Back::flag_number), unfolding(crate::specs::CongestionEvent::event_words))]
 pub fn event_words(event: CongestionEvent) -> [u64; 16]
     ensures { result ≡ event_words event }
 {
-    let bandwidth = event.bandwidth;
-    let rtt = event.rtt;
-    let sampled = bandwidth_maybe(bandwidth);
-    let length = length_maybe(rtt);
+    let (bandwidth_set, bandwidth) = pair_of(event.bandwidth);
+    let (rtt_set, rtt) = pair_of(event.rtt);
     [
         event.time.0,
         event.window,
@@ -79,14 +81,14 @@ pub fn event_words(event: CongestionEvent) -> [u64; 16]
         event.inflight,
         event.acked,
         event.lost,
-        flag_word(event.ended),
-        flag_word(event.probing),
-        sampled.set,
-        sampled.number,
-        length.set,
-        length.number,
-        flag_word(event.state.valid),
-        flag_word(event.state.applimited),
+        u64::from(event.ended),
+        u64::from(event.probing),
+        bandwidth_set,
+        bandwidth,
+        rtt_set,
+        rtt,
+        u64::from(event.state.valid),
+        u64::from(event.state.applimited),
         event.state.acked,
         event.state.inflight,
     ]

@@ -7,6 +7,7 @@ use units::Duration;
 use words::word::{flag_fits, float_of, or_outside};
 
 // The parameters in a call's words.
+#[tactic(auto, unfolding(crate::specs::Params::params_from))]
 pub fn params_from(n: &[u64; 49]) -> Params
     ensures { result ≡ params_from n.now }
 {

@@ -11,12 +11,11 @@ use lib.Ieee.Bits.{to_bits-of_bits, nan_bits_is}
 use borrow.Author.Tests.{eq-eqb, ne_eqb, eqb-true, eqb-false, lt-leb, leb-true, leb-false, lt-ltb, le-ltb}
 use Rattle.numbers.proofs.Fields.{plain_bits, nan_bits_lem}
 use Rattle.state.proofs.Rows.{and_left, and_right}
-use Rattle.words.specs.declared.maybe.Maybe.{Maybe}
 use Rattle.words.specs.Word.{flag_word, flag_of, flag_fits, float_word, float_of}
-use Rattle.words.specs.Maybe.{unset, held, is_unset, number_in, bandwidth_maybe, bandwidth_of, plain_maybe, plain_of, length_maybe, length_of}
+use Rattle.words.specs.Maybe.{unset, held, is_unset, maybe_fits, number_in, bandwidth_maybe, bandwidth_of, plain_maybe, plain_of, length_maybe, length_of}
 use Rattle.layout.specs.NetworkModel.{model_from, model_words}
 use Rattle.layout.specs.Cycle.{cycle_from, cycle_words, phase_word, phase_of}
-use Rattle.layout.specs.Form.{pair_fits, float_fits, phase_fits, early_fits, late_fits, cycle_fits}
+use Rattle.layout.specs.Form.{float_fits, phase_fits, early_fits, late_fits, cycle_fits}
 use Rattle.layout.specs.StateWords.{same_words, is_state}
 
 same : (n : ℕ) → eqb n n ≡ true
@@ -68,33 +67,29 @@ float w = go (leb w 0xffff_ffff) refl
         rw (le-ltb w (2 ^ 32) (omega arith)) (ne_eqb 0x7fc0_0000 w (λ e. omega (arith, high, e)))
 
 -- ---- two words
-cond_out : {A : Type 0} (f : A → Maybe) (b : Bool) (x y : A) → f (cond b x y) ≡ cond b (f x) (f y)
+cond_out : {A : Type 0} (f : A → ℕ × ℕ) (b : Bool) (x y : A) → f (cond b x y) ≡ cond b (f x) (f y)
 cond_out f true x y = refl
 cond_out f false x y = refl
 
-pair : (m : Maybe) (a b : ℕ) (t : Bool) → m ≡ cond (is_unset a b) unset (held (number_in a b)) → (eqb m.set a && (eqb m.number b && t)) ≡ (pair_fits a b && t)
-unfolding pair_fits
+pair : (m : ℕ × ℕ) (a b : ℕ) (t : Bool) → m ≡ cond (is_unset a b) unset (held (number_in a b)) → (eqb m.0 a && (eqb m.1 b && t)) ≡ (maybe_fits a b && t)
 pair m a b t e = go (is_unset a b) (eqb a 1) refl refl
   where
-    go : (u s : Bool) → is_unset a b ≡ u → eqb a 1 ≡ s → (eqb m.set a && (eqb m.number b && t)) ≡ ((s || u) && t)
+    go : (u s : Bool) → is_unset a b ≡ u → eqb a 1 ≡ s → (eqb m.0 a && (eqb m.1 b && t)) ≡ ((u || s) && t)
     go true true h k = rw (e, h, eqb_swap 0 a, and_left (eqb a 0) (eqb b 0) h, eqb_swap 0 b, and_right (eqb a 0) (eqb b 0) h)
     go true false h k = rw (e, h, eqb_swap 0 a, and_left (eqb a 0) (eqb b 0) h, eqb_swap 0 b, and_right (eqb a 0) (eqb b 0) h)
     go false true h k = rw (e, h, eqb_swap 1 a, k, same b)
     go false false h k = rw (e, h, eqb_swap 1 a, k)
 
-end_pair : (a b : ℕ) (t : Bool) → (eqb (plain_maybe (plain_of a b)).set a && (eqb (plain_maybe (plain_of a b)).number b && t)) ≡ (pair_fits a b && t)
+end_pair : (a b : ℕ) (t : Bool) → (eqb (plain_maybe (plain_of a b)).0 a && (eqb (plain_maybe (plain_of a b)).1 b && t)) ≡ (maybe_fits a b && t)
 end_pair a b t = pair (plain_maybe (plain_of a b)) a b t (cond_out plain_maybe (is_unset a b) None (Some (number_in a b)))
 
-rate_pair : (a b : ℕ) (t : Bool) → (eqb (bandwidth_maybe (bandwidth_of a b)).set a && (eqb (bandwidth_maybe (bandwidth_of a b)).number b && t)) ≡ (pair_fits a b && t)
+rate_pair : (a b : ℕ) (t : Bool) → (eqb (bandwidth_maybe (bandwidth_of a b)).0 a && (eqb (bandwidth_maybe (bandwidth_of a b)).1 b && t)) ≡ (maybe_fits a b && t)
 rate_pair a b t = pair (bandwidth_maybe (bandwidth_of a b)) a b t (cond_out bandwidth_maybe (is_unset a b) None (Some (record { 0 = number_in a b })))
 
-wait_pair : (a b : ℕ) (t : Bool) → (eqb (length_maybe (length_of a b)).set a && (eqb (length_maybe (length_of a b)).number b && t)) ≡ (pair_fits a b && t)
+wait_pair : (a b : ℕ) (t : Bool) → (eqb (length_maybe (length_of a b)).0 a && (eqb (length_maybe (length_of a b)).1 b && t)) ≡ (maybe_fits a b && t)
 wait_pair a b t = pair (length_maybe (length_of a b)) a b t (cond_out length_maybe (is_unset a b) None (Some (record { 0 = number_in a b })))
-
-up_pair : (a b : ℕ) (t : Bool) → (eqb (plain_maybe (plain_of a b)).set a && (eqb (plain_maybe (plain_of a b)).number b && t)) ≡ (pair_fits a b && t)
-up_pair a b t = pair (plain_maybe (plain_of a b)) a b t (cond_out plain_maybe (is_unset a b) None (Some (number_in a b)))
 
 -- ---- all of them
 pub form : (w : List ℕ) → is_state w ≡ (early_fits w && late_fits w && cycle_fits w)
 unfolding is_state same_words model_from model_words cycle_from cycle_words early_fits late_fits cycle_fits
-form w = simp (same, flag, float, phase, end_pair, rate_pair, wait_pair, up_pair, and_assoc, and-true)
+form w = simp (same, flag, float, phase, end_pair, rate_pair, wait_pair, and_assoc, and-true)

@@ -6,12 +6,12 @@ ghost use Rattle.layout.specs.Cycle.{phase_of, phase_word, stay_of, wait_of, slo
 use state::cycle::{Last, Slope, Stay, Wait};
 use state::{Cycle, CyclePhase};
 use units::Moment;
-use words::maybe::{length_maybe, length_of, plain_maybe, plain_of};
-use words::word::flag_word;
+use words::maybe::{maybe_of, pair_of};
 
 // ---- from words
 
 // The cycle in the state's words.
+#[tactic(auto, unfolding(crate::specs::Cycle::cycle_from))]
 pub fn cycle_from(n: &[u64; 51]) -> Cycle
     ensures { result ≡ cycle_from n.now }
 {
@@ -56,7 +56,7 @@ fn wait_of(n: &[u64; 51]) -> Wait
     Wait {
         start: Moment(n[36]),
         rounds: n[39],
-        length: length_of(n[40], n[41]),
+        length: maybe_of(n[40], n[41]),
     }
 }
 
@@ -65,7 +65,7 @@ fn slope_of(n: &[u64; 51]) -> Slope
 {
     Slope {
         rounds: n[42],
-        bytes: plain_of(n[43], n[44]),
+        bytes: maybe_of(n[43], n[44]),
         acked: n[45],
         applimited: n[46] == 1,
     }
@@ -74,6 +74,7 @@ fn slope_of(n: &[u64; 51]) -> Slope
 // ---- into words
 
 // The state's words with the cycle's put in.
+#[tactic(auto, unfolding(crate::specs::Cycle::cycle_words))]
 pub(crate) fn with_cycle(n: [u64; 51], cycle: Cycle) -> [u64; 51]
     ensures { result ≡ sets n 35 (cycle_words cycle) }
 {
@@ -89,16 +90,15 @@ fn with_times(n: [u64; 51], stay: Stay, wait: Wait) -> [u64; 51]
     ensures { result ≡ sets n 35 (times_words stay wait) }
 {
     let phase = stay.phase;
-    let length = wait.length;
-    let held = length_maybe(length);
+    let (set, length) = pair_of(wait.length);
     let mut next = n;
     next[35] = phase_word(phase);
     next[36] = wait.start.0;
     next[37] = stay.entered.0;
     next[38] = stay.rounds;
     next[39] = wait.rounds;
-    next[40] = held.set;
-    next[41] = held.number;
+    next[40] = set;
+    next[41] = length;
     next
 }
 
@@ -117,14 +117,13 @@ fn phase_word(phase: CyclePhase) -> u64
 fn with_slope(n: [u64; 51], slope: Slope) -> [u64; 51]
     ensures { result ≡ sets n 42 (slope_words slope) }
 {
-    let bytes = slope.bytes;
-    let held = plain_maybe(bytes);
+    let (set, bytes) = pair_of(slope.bytes);
     let mut next = n;
     next[42] = slope.rounds;
-    next[43] = held.set;
-    next[44] = held.number;
+    next[43] = set;
+    next[44] = bytes;
     next[45] = slope.acked;
-    next[46] = flag_word(slope.applimited);
+    next[46] = u64::from(slope.applimited);
     next
 }
 
@@ -132,9 +131,9 @@ fn with_marks(n: [u64; 51], advanced: bool, probing: bool, last: Last) -> [u64; 
     ensures { result ≡ sets n 47 (marks_words advanced probing last) }
 {
     let mut next = n;
-    next[47] = flag_word(advanced);
-    next[48] = flag_word(probing);
-    next[49] = flag_word(last.high);
-    next[50] = flag_word(last.risky);
+    next[47] = u64::from(advanced);
+    next[48] = u64::from(probing);
+    next[49] = u64::from(last.high);
+    next[50] = u64::from(last.risky);
     next
 }

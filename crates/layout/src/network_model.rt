@@ -8,12 +8,13 @@ use filters::{MaxBandwidthFilter, MinRttFilter, RoundTripCounter};
 use state::NetworkModel;
 use state::parts::{Gains, Growth, Latest, Lower, Rates, Round, Totals};
 use units::{Bandwidth, Duration, Moment};
-use words::maybe::{bandwidth_maybe, bandwidth_of, plain_maybe, plain_of};
-use words::word::{flag_word, float_of, float_word};
+use words::maybe::{maybe_of, pair_of};
+use words::word::{float_of, float_word};
 
 // ---- from words
 
 // The model in the state's words.
+#[tactic(auto, unfolding(crate::specs::NetworkModel::model_from))]
 pub fn model_from(n: &[u64; 51]) -> NetworkModel
     ensures { result ≡ model_from n.now }
 {
@@ -53,7 +54,7 @@ fn rounds_of(n: &[u64; 51]) -> RoundTripCounter
     RoundTripCounter {
         count: n[0],
         sent: n[1],
-        end: plain_of(n[2], n[3]),
+        end: maybe_of(n[2], n[3]),
     }
 }
 
@@ -73,7 +74,7 @@ fn lower_of(n: &[u64; 51]) -> Lower
     ensures { result ≡ lower_of n.now }
 {
     Lower {
-        bandwidth: bandwidth_of(n[15], n[16]),
+        bandwidth: maybe_of(n[15], n[16]),
         inflight: n[17],
     }
 }
@@ -103,14 +104,15 @@ fn rates_of(n: &[u64; 51]) -> Rates
     ensures { result ≡ rates_of n.now }
 {
     Rates {
-        send: bandwidth_of(n[27], n[28]),
-        ack: bandwidth_of(n[29], n[30]),
+        send: maybe_of(n[27], n[28]),
+        ack: maybe_of(n[29], n[30]),
     }
 }
 
 // ---- into words
 
 // The state's words with the model's put in.
+#[tactic(auto, unfolding(crate::specs::NetworkModel::model_words))]
 pub(crate) fn with_model(n: [u64; 51], model: NetworkModel) -> [u64; 51]
     ensures { result ≡ sets n 0 (model_words model) }
 {
@@ -134,13 +136,12 @@ pub(crate) fn with_model(n: [u64; 51], model: NetworkModel) -> [u64; 51]
 fn with_rounds(n: [u64; 51], rounds: RoundTripCounter) -> [u64; 51]
     ensures { result ≡ sets n 0 (rounds_words rounds) }
 {
-    let end = rounds.end;
-    let held = plain_maybe(end);
+    let (set, end) = pair_of(rounds.end);
     let mut next = n;
     next[0] = rounds.count;
     next[1] = rounds.sent;
-    next[2] = held.set;
-    next[3] = held.number;
+    next[2] = set;
+    next[3] = end;
     next
 }
 
@@ -163,20 +164,19 @@ fn with_round(n: [u64; 51], round: Round) -> [u64; 51]
     next[9] = round.losses;
     next[10] = round.delivered;
     next[11] = round.mininflight;
-    next[12] = flag_word(round.hilimited);
+    next[12] = u64::from(round.hilimited);
     next
 }
 
 fn with_bounds(n: [u64; 51], latest: Latest, lower: Lower, high: u64) -> [u64; 51]
     ensures { result ≡ sets n 13 (latest_words latest ++ lower_words lower ++ high ∷ []) }
 {
-    let bandwidth = lower.bandwidth;
-    let held = bandwidth_maybe(bandwidth);
+    let (set, bandwidth) = pair_of(lower.bandwidth);
     let mut next = n;
     next[13] = latest.bandwidth.0;
     next[14] = latest.inflight;
-    next[15] = held.set;
-    next[16] = held.number;
+    next[15] = set;
+    next[16] = bandwidth;
     next[17] = lower.inflight;
     next[18] = high;
     next
@@ -188,7 +188,7 @@ fn with_gains(n: [u64; 51], gains: Gains, limited: bool) -> [u64; 51]
     let mut next = n;
     next[19] = float_word(gains.cwnd);
     next[20] = float_word(gains.pacing);
-    next[21] = flag_word(limited);
+    next[21] = u64::from(limited);
     next
 }
 
@@ -196,26 +196,24 @@ fn with_growth(n: [u64; 51], growth: Growth) -> [u64; 51]
     ensures { result ≡ sets n 22 (growth_words growth) }
 {
     let mut next = n;
-    next[22] = flag_word(growth.reached);
+    next[22] = u64::from(growth.reached);
     next[23] = growth.baseline.0;
     next[24] = growth.flat;
     next[25] = growth.queueing;
-    next[26] = flag_word(growth.ignore);
+    next[26] = u64::from(growth.ignore);
     next
 }
 
 fn with_rates(n: [u64; 51], rates: Rates) -> [u64; 51]
     ensures { result ≡ sets n 27 (rates_words rates) }
 {
-    let send = rates.send;
-    let ack = rates.ack;
-    let sent = bandwidth_maybe(send);
-    let acked = bandwidth_maybe(ack);
+    let (send_set, send) = pair_of(rates.send);
+    let (ack_set, ack) = pair_of(rates.ack);
     let mut next = n;
-    next[27] = sent.set;
-    next[28] = sent.number;
-    next[29] = acked.set;
-    next[30] = acked.number;
+    next[27] = send_set;
+    next[28] = send;
+    next[29] = ack_set;
+    next[30] = ack;
     next
 }
 
@@ -226,6 +224,6 @@ fn with_totals(n: [u64; 51], totals: Totals, moment: Moment, begun: bool) -> [u6
     next[31] = totals.acked;
     next[32] = totals.lost;
     next[33] = moment.0;
-    next[34] = flag_word(begun);
+    next[34] = u64::from(begun);
     next
 }

@@ -8,6 +8,7 @@ use crate::network_model::with_model;
 use state::{Cycle, NetworkModel};
 
 // All words of a state.
+#[tactic(auto, unfolding(crate::specs::NetworkModel::model_words, crate::specs::Cycle::cycle_words))]
 pub fn state_words(model: NetworkModel, cycle: Cycle) -> [u64; 51]
     ensures { result ≡ model_words model ++ cycle_words cycle }
 {

@@ -10,6 +10,7 @@ use units::Moment;
 use words::maybe::maybe_fits;
 use words::word::flag_fits;
 
+#[tactic(auto, unfolding(crate::specs::Places::record_fits))]
 pub(crate) fn record_fits(n: &[u64; 49]) -> RecordFits
     ensures { result ≡ record_fits n.now }
 {
@@ -24,15 +25,17 @@ pub(crate) fn record_fits(n: &[u64; 49]) -> RecordFits
 }
 
 // The record, with its moment as it stands.
+#[tactic(auto, unfolding(crate::specs::Places::record_in))]
 pub(crate) fn record_in(n: &[u64; 49]) -> CongestionEvent
     ensures { result ≡ record_in n.now }
 {
-    let mut event = event_from(n);
-    let time = Moment(n[22]);
-    event.time = time;
-    event
+    CongestionEvent {
+        time: Moment(n[22]),
+        ..event_from(n)
+    }
 }
 
+#[tactic(auto, unfolding(crate::specs::Places::sample_fits_in))]
 pub(crate) fn sample_fits(n: &[u64; 49]) -> SampleFits
     ensures { result ≡ sample_fits_in n.now }
 {
@@ -48,11 +51,13 @@ pub(crate) fn sample_fits(n: &[u64; 49]) -> SampleFits
 }
 
 // The sampler's answer, with the extra acked bytes as they stand.
+#[tactic(auto, using(arguments::proofs::Alike::own), unfolding(crate::specs::Places::sample_in))]
 pub(crate) fn sample_in(n: &[u64; 49], lists: &[u64]) -> CongestionEventSample
     requires { length n.now ≡ 49 }
     ensures { result ≡ sample_in (n.now ++ lists.now) }
 {
-    let mut sample = sample_from(n, lists);
-    sample.extra = n[11];
-    sample
+    CongestionEventSample {
+        extra: n[11],
+        ..sample_from(n, lists)
+    }
 }

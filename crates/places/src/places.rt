@@ -16,6 +16,7 @@ use words::word::{flag_fits, float_fits, float_of};
 
 // The first fault of a call with these words and lists, 0 where it has none. `least` is the moment of the minimum round
 // trip, which call 22 postpones.
+#[tactic(auto, using(crate::proofs::Alike::starts, crate::proofs::Alike::others))]
 pub fn fault_of(least: Moment, n: &[u64; 49], lists: &[u64]) -> u32
     requires { length n.now ≡ 49 }
     ensures { result ≡ first (faults_of (n.now ++ lists.now) least) }
@@ -43,6 +44,7 @@ fn started(n: &[u64; 49], lists: &[u64]) -> u32
 }
 
 // Every other call.
+#[tactic(auto, unfolding(crate::specs::Places::other_faults))]
 fn other_fault(least: Moment, n: &[u64; 49]) -> u32
     ensures { result ≡ first (other_faults n.now least) }
 {
@@ -60,10 +62,11 @@ fn other_fault(least: Moment, n: &[u64; 49]) -> u32
 fn is_about_event(call: u64) -> bool
     ensures { result ≡ is_about_event call }
 {
-    (4 <= call) & (call <= 7)
+    matches!(call, 4..=7)
 }
 
 // Calls 40 to 45, with the numbers that they are given.
+#[tactic(auto, unfolding(crate::specs::Places::entry_faults, state::specs::Faults::first))]
 fn entry_fault(call: u64, a: u64, b: u64, c: u64) -> u32
     ensures { result ≡ first (entry_faults call a b c) }
 {
@@ -79,19 +82,17 @@ fn entry_fault(call: u64, a: u64, b: u64, c: u64) -> u32
 }
 
 // Calls below 40 that carry no record, with the first, the second and the fourth number that they are given.
+#[tactic(auto, unfolding(crate::specs::Places::number_faults))]
 fn number_fault(least: Moment, call: u64, a: u64, b: u64, d: u64) -> u32
     ensures { result ≡ first (number_faults call a b d least) }
 {
     match call {
         0 => start_fault(Duration(b), Moment(a)),
         1 => sent_fault(Moment(a), b, d),
-        9 => gain_fault(float_fits(a), float_of(a)),
+        9 | 15 | 16 => gain_fault(float_fits(a), float_of(a)),
         10 => bdp_fault(Bandwidth(a), float_fits(b), float_of(b)),
         11 => bdp1_fault(Bandwidth(a)),
-        15 => gain_fault(float_fits(a), float_of(a)),
-        16 => gain_fault(float_fits(a), float_of(a)),
-        17 => limit_fault(a),
-        18 => limit_fault(a),
+        17 | 18 => limit_fault(a),
         22 => postponed_fault(least, Duration(a)),
         _ => nothing_fault(call),
     }
@@ -104,6 +105,7 @@ fn postponed_fault(least: Moment, length: Duration) -> u32
 }
 
 // A call that is given nothing, or a number that is no call's.
+#[tactic(auto, unfolding(state::specs::Faults::first))]
 fn nothing_fault(call: u64) -> u32
     ensures { result ≡ first (cond (is_given_nothing call) [] no_call) }
 {
@@ -113,8 +115,5 @@ fn nothing_fault(call: u64) -> u32
 fn is_given_nothing(call: u64) -> bool
     ensures { result ≡ is_given_nothing call }
 {
-    (call == 8)
-        | (12 <= call) & (call <= 14)
-        | (19 <= call) & (call <= 21)
-        | (23 <= call) & (call <= 38)
+    matches!(call, 8 | 12..=14 | 19..=21 | 23..=38)
 }

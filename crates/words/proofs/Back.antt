@@ -1,5 +1,6 @@
 -- What is written for a flag, an f32 or a thing that may be unset is read back as it was. Assumes nothing.
 use Rattle.std.specs.Prelude.{Option, None, Some}
+use Rattle.std.specs.Int.{from_bool}
 use Prim.Native.Nat.{ℕ, ◌^◌}
 use Rattle.units.specs.declared.time.Duration.{Duration}
 use Rattle.units.specs.declared.bandwidth.Bandwidth.{Bandwidth}
@@ -15,6 +16,11 @@ use Rattle.words.specs.Maybe.{bandwidth_maybe, bandwidth_of, length_maybe, lengt
 pub flag_written : (yes : Bool) → flag_fits (flag_word yes) ≡ true
 flag_written true = refl
 flag_written false = refl
+
+-- std's number of a flag is its word
+pub flag_number : (yes : Bool) → from_bool yes ≡ flag_word yes
+flag_number true = refl
+flag_number false = refl
 
 pub flag_back : (yes : Bool) → flag_of (flag_word yes) ≡ yes
 flag_back true = refl
@@ -32,14 +38,14 @@ float_fits_lem w = go (ltb w (2 ^ 32))
     go true = of_bits-fits binary32 w
     go false = tt
 
-pub bandwidth_back : (x : Option Bandwidth) → bandwidth_of (bandwidth_maybe x).set (bandwidth_maybe x).number ≡ x
+pub bandwidth_back : (x : Option Bandwidth) → bandwidth_of (bandwidth_maybe x).0 (bandwidth_maybe x).1 ≡ x
 bandwidth_back None = refl
 bandwidth_back (Some b) = refl
 
-pub length_back : (x : Option Duration) → length_of (length_maybe x).set (length_maybe x).number ≡ x
+pub length_back : (x : Option Duration) → length_of (length_maybe x).0 (length_maybe x).1 ≡ x
 length_back None = refl
 length_back (Some d) = refl
 
-pub plain_back : (x : Option ℕ) → plain_of (plain_maybe x).set (plain_maybe x).number ≡ x
+pub plain_back : (x : Option ℕ) → plain_of (plain_maybe x).0 (plain_maybe x).1 ≡ x
 plain_back None = refl
 plain_back (Some n) = refl

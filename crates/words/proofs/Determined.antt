@@ -4,28 +4,12 @@ use contract.Lifetimes.{Lfts}
 use denote.Triple.Clauses.{AtExit}
 use borrow.Fn.Kinds.{Dens, res_t, ended_of}
 use Rattle.numbers.specs.OneReply.{OneReply}
-use Rattle.words.proofs.float_bits as floats
 use Rattle.words.proofs.maybe as maybe
 use Rattle.words.proofs.word as word
 use Rattle.words.proofs.get_word as get-word
 use Rattle.words.proofs.get_words as get-words
 use Rattle.words.proofs.put_word as put_word
 use Rattle.words.proofs.put_words as put-words
-
-pub one_f32_of : OneReply floats.f32_of.Reads.Learnt
-one_f32_of κ a x y s t p q = p ∙ sym q
-
-pub one_f64_of : OneReply floats.f64_of.Reads.Learnt
-one_f64_of κ a x y s t p q = p ∙ sym q
-
-pub one_f32_bits : OneReply floats.f32_bits.Reads.Learnt
-one_f32_bits κ a x y s t p q = p ∙ sym q
-
-pub one_f64_bits : OneReply floats.f64_bits.Reads.Learnt
-one_f64_bits κ a x y s t p q = p ∙ sym q
-
-pub one_flag_word : OneReply word.flag_word.Reads.Learnt
-one_flag_word κ a x y s t p q = p ∙ sym q
 
 pub one_flag_fits : OneReply word.flag_fits.Reads.Learnt
 one_flag_fits κ a x y s t p q = p ∙ sym q
@@ -48,26 +32,14 @@ one_is_unset κ a x y s t p q = p ∙ sym q
 pub one_number_in : OneReply maybe.number_in.Reads.Learnt
 one_number_in κ a x y s t p q = p ∙ sym q
 
-pub one_bandwidth_of : OneReply maybe.bandwidth_of.Reads.Learnt
-one_bandwidth_of κ a x y s t p q = p ∙ sym q
-
-pub one_bandwidth_maybe : OneReply maybe.bandwidth_maybe.Reads.Learnt
-one_bandwidth_maybe κ a x y s t p q = p ∙ sym q
-
 pub one_maybe_fits : OneReply maybe.maybe_fits.Reads.Learnt
 one_maybe_fits κ a x y s t p q = p ∙ sym q
 
-pub one_length_of : OneReply maybe.length_of.Reads.Learnt
-one_length_of κ a x y s t p q = p ∙ sym q
+pub one_maybe_of : (g : _) (laws : _) (ghosts : _) (calls : _) → OneReply (maybe.maybe_of.Reads.Learnt g laws ghosts calls)
+one_maybe_of g laws ghosts calls κ a x y s t p q = p ∙ sym q
 
-pub one_length_maybe : OneReply maybe.length_maybe.Reads.Learnt
-one_length_maybe κ a x y s t p q = p ∙ sym q
-
-pub one_plain_of : OneReply maybe.plain_of.Reads.Learnt
-one_plain_of κ a x y s t p q = p ∙ sym q
-
-pub one_plain_maybe : OneReply maybe.plain_maybe.Reads.Learnt
-one_plain_maybe κ a x y s t p q = p ∙ sym q
+pub one_pair_of : (g : _) (laws : _) (ghosts : _) (calls : _) → OneReply (maybe.pair_of.Reads.Learnt g laws ghosts calls)
+one_pair_of g laws ghosts calls κ a x y s t p q = p ∙ sym q
 
 pub one_get_word : OneReply get-word.Reads.Learnt
 one_get_word κ a x y s t p q = p ∙ sym q

@@ -1,36 +1,33 @@
 -- A word's bytes, and one turn of each loop, over plain variables: what is still to be done leads to the same end. Assumes nothing.
-use Prim.Native.Nat.{ℕ, suc, ◌+◌, ◌-◌, ◌*◌, ◌/◌, ◌%◌, ◌^◌, ◌<◌}
-use mathlib.Core.List.{List}
-use mathlib.Core.Path.{◌≡◌, ap, ◌∙◌}
-use native.Mathlib.Numerals.{add-one}
-use native.Mathlib.Omega.{arith}
-use lib.ListN.{length, get_or, set, drop}
-use lib.Seq.{sets, drop-cons}
+use Rattle.std.proofs.Common.{◌≡◌, ℕ, suc, ◌+◌, ◌-◌, ◌*◌, ◌<◌, ◌≤◌, List, ◌++◌, length, take, drop, ap, ◌∙◌, sym, arith, add-one}
+use mathlib.Core.List.{append_assoc}
+use Rattle.std.specs.Int.{w64, to_le_bytes, from_le_bytes}
+use borrow.Rule.Slice.PartMut.{mid_of, put_mid}
+use lib.ListN.{get_or, set}
+use lib.Seq.{sets, sets-eq, drop-cons, drop-drop, get_or-take, get_or-drop}
+use native.Mathlib.Nat.{div-div-eq-div-mul}
 use Rattle.words.specs.Words.{number_at, low_bytes, word_at, bytes, words_at, all_bytes}
 use Rattle.words.proofs.Stores.{sets-append}
 use Rattle.words.proofs.Laws.{length_bytes}
 
--- a byte, its place written in another way
-byte_at : (s : List ℕ) (x i j : ℕ) → i ≡ j → x ≡ get_or s i 0 → x ≡ get_or s j 0
-byte_at s x i j e p = p ∙ ap (λ (k : ℕ). get_or s k 0) e
-
--- a word from its eight bytes
-pub eight_bytes :
-    (s : List ℕ) (at a b c d e f g h : ℕ) → a ≡ get_or s at 0 → b ≡ get_or s (at + 1) 0 → c ≡ get_or s (at + 2) 0 → d ≡ get_or s (at + 3) 0 →
-    e ≡ get_or s (at + 4) 0 → f ≡ get_or s (at + 5) 0 → g ≡ get_or s (at + 6) 0 → h ≡ get_or s (at + 7) 0 →
-    a + 256 * b + 256 ^ 2 * c + 256 ^ 3 * d + 256 ^ 4 * e + 256 ^ 5 * f + 256 ^ 6 * g + 256 ^ 7 * h ≡ word_at s at
-unfolding number_at
-eight_bytes s at a b c d e f g h p q r t u v w x = omega (arith, p, byte_at s b (at + 1) (suc at) (omega arith) q, byte_at s c (at + 2) (suc (suc at)) (omega arith) r, byte_at s d (at + 3) (suc (suc (suc at))) (omega arith) t, byte_at s e (at + 4) (suc (suc (suc (suc at)))) (omega arith) u, byte_at s f (at + 5) (suc (suc (suc (suc (suc at))))) (omega arith) v, byte_at s g (at + 6) (suc (suc (suc (suc (suc (suc at)))))) (omega arith) w, byte_at s h (at + 7) (suc (suc (suc (suc (suc (suc (suc at))))))) (omega arith) x)
-
--- a word, byte by byte
-pub write_byte :
-    (l end : List ℕ) (at n rest : ℕ) → n < 8 → sets l (at + n) (low_bytes (8 - n) rest) ≡ end →
-    sets (set l (at + n) (rest % 256)) (at + (n + 1)) (low_bytes (8 - (n + 1)) (rest / 256)) ≡ end
+-- a word's bytes
+pub to_bytes : (x : ℕ) → to_le_bytes w64 x ≡ bytes x
 unfolding low_bytes
-write_byte l end at n rest h e =
-    let left : 8 - n ≡ suc (8 - (n + 1)) = omega arith in
-    let next : at + (n + 1) ≡ suc (at + n) = omega arith in
-    rw next (rw left at e)
+to_bytes x = simp div-div-eq-div-mul
+
+-- the word that bytes are
+pub from_bytes : (s : List ℕ) (at k : ℕ) → k ≡ 8 → from_le_bytes w64 (mid_of at k s) ≡ word_at s at
+unfolding number_at
+from_bytes s at k e =
+    let byte : (i j : ℕ) → i < k → at + i ≡ j → get_or (mid_of at k s) i 0 ≡ get_or s j 0 =
+    λ i j h there. get_or-take k (drop at s) i 0 h ∙ get_or-drop at s i 0 ∙ ap (λ (n : ℕ). get_or s n 0) there in
+    omega (arith, byte 0 at (omega arith) (omega arith), byte 1 (suc at) (omega arith) (omega arith), byte 2 (suc (suc at)) (omega arith) (omega arith), byte 3 (suc (suc (suc at))) (omega arith) (omega arith), byte 4 (suc (suc (suc (suc at)))) (omega arith) (omega arith), byte 5 (suc (suc (suc (suc (suc at))))) (omega arith) (omega arith), byte 6 (suc (suc (suc (suc (suc (suc at)))))) (omega arith) (omega arith), byte 7 (suc (suc (suc (suc (suc (suc (suc at))))))) (omega arith) (omega arith))
+
+-- a part that is written over
+pub put_part : (at k : ℕ) (l part : List ℕ) → length part ≡ k → at + k ≤ length l → put_mid at k l part ≡ sets l at part
+put_part at k l part e h =
+    let all = sets-eq part l at (rw e h) in
+    ap (λ (rest : List ℕ). take at l ++ (part ++ rest)) (drop-drop k at l ∙ ap (λ (n : ℕ). drop (at + n) l) (sym e)) ∙ sym (append_assoc (take at l) part (drop (at + length part) l)) ∙ sym all
 
 -- words into a slice of numbers
 pub fill_word :

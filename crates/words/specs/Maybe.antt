@@ -3,17 +3,16 @@
 use Rattle.std.specs.Prelude.{ℕ, Bool, cond, ◌&&◌, ◌||◌, List, [], ◌∷◌, eqb, Option, None, Some}
 use Rattle.units.specs.declared.time.Duration.{Duration}
 use Rattle.units.specs.declared.bandwidth.Bandwidth.{Bandwidth}
-use Rattle.words.specs.declared.maybe.Maybe.{Maybe}
 use Rattle.words.specs.Word.{flag_of, or_outside}
 
-abbrev pub unset : Maybe
-unset = record { set = 0; number = 0 }
+abbrev pub unset : ℕ × ℕ
+unset = (0, 0)
 
-abbrev pub held : ℕ → Maybe
-held n = record { set = 1; number = n }
+abbrev pub held : ℕ → ℕ × ℕ
+held n = (1, n)
 
-abbrev pub maybe_words : Maybe → List ℕ
-maybe_words m = m.set ∷ m.number ∷ []
+abbrev pub maybe_words : ℕ × ℕ → List ℕ
+maybe_words m = m.0 ∷ m.1 ∷ []
 
 abbrev pub is_unset : (set n : ℕ) → Bool
 is_unset set n = eqb set 0 && eqb n 0
@@ -29,26 +28,28 @@ number_in set n = or_outside (flag_of set) n
 abbrev pub maybe_of : {A : Type 0} → A → (ℕ → A) → (set n : ℕ) → A
 maybe_of none some set n = cond (is_unset set n) none (some (number_in set n))
 
+-- the two words of what may be unset and has a number
+abbrev pub pair_of : {A : Type 0} → (A → ℕ) → Option A → ℕ × ℕ
+pair_of number None = unset
+pair_of number (Some x) = held (number x)
+
 -- a bandwidth
-abbrev pub bandwidth_maybe : Option Bandwidth → Maybe
-bandwidth_maybe None = unset
-bandwidth_maybe (Some b) = held b.0
+abbrev pub bandwidth_maybe : Option Bandwidth → ℕ × ℕ
+bandwidth_maybe x = pair_of (λ b. b.0) x
 
 abbrev pub bandwidth_of : ℕ → ℕ → Option Bandwidth
 bandwidth_of set n = maybe_of None (λ n. Some (record { 0 = n })) set n
 
 -- a length of time
-abbrev pub length_maybe : Option Duration → Maybe
-length_maybe None = unset
-length_maybe (Some d) = held d.0
+abbrev pub length_maybe : Option Duration → ℕ × ℕ
+length_maybe x = pair_of (λ d. d.0) x
 
 abbrev pub length_of : ℕ → ℕ → Option Duration
 length_of set n = maybe_of None (λ n. Some (record { 0 = n })) set n
 
 -- a plain number: a packet's, a byte count
-abbrev pub plain_maybe : Option ℕ → Maybe
-plain_maybe None = unset
-plain_maybe (Some n) = held n
+abbrev pub plain_maybe : Option ℕ → ℕ × ℕ
+plain_maybe x = pair_of (λ n. n) x
 
 abbrev pub plain_of : ℕ → ℕ → Option ℕ
 plain_of set n = maybe_of None (λ n. Some n) set n

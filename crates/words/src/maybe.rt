@@ -1,15 +1,63 @@
 // A thing that may be unset, as two words.
-ghost use Rattle.std.specs.Prelude.{◌≡◌};
-ghost use Rattle.words.specs.Maybe.{is_unset, maybe_fits, number_in, bandwidth_of, bandwidth_maybe, length_of, length_maybe, plain_of, plain_maybe};
+ghost use Rattle.std.specs.Prelude.{◌≡◌, ℕ, None, Some};
+ghost use Rattle.words.specs.Maybe.{is_unset, maybe_fits, number_in, maybe_of, pair_of};
 
 use crate::word::or_outside;
 use units::{Bandwidth, Duration};
 
-// 1 and the number, or 0 and 0.
-#[derive(Clone, Copy)]
-pub struct Maybe {
-    pub set: u64,
-    pub number: u64,
+// What is one number: a bandwidth, a length of time, a plain number.
+pub trait AsNumber {
+    ghost of: { ℕ → Self };
+
+    ghost number: { Self → ℕ };
+
+    fn of(n: u64) -> Self
+        ensures { result ≡ of n };
+
+    fn number(self) -> u64
+        ensures { result ≡ number self };
+}
+
+impl AsNumber for Bandwidth {
+    ghost of = { λ n. record { 0 = n } };
+
+    ghost number = { λ b. b.0 };
+
+    fn of(n: u64) -> Bandwidth {
+        Bandwidth(n)
+    }
+
+    fn number(self) -> u64 {
+        self.0
+    }
+}
+
+impl AsNumber for Duration {
+    ghost of = { λ n. record { 0 = n } };
+
+    ghost number = { λ d. d.0 };
+
+    fn of(n: u64) -> Duration {
+        Duration(n)
+    }
+
+    fn number(self) -> u64 {
+        self.0
+    }
+}
+
+impl AsNumber for u64 {
+    ghost of = { λ n. n };
+
+    ghost number = { λ n. n };
+
+    fn of(n: u64) -> u64 {
+        n
+    }
+
+    fn number(self) -> u64 {
+        self
+    }
 }
 
 // Whether two words are 0 and 0.
@@ -33,71 +81,23 @@ pub fn number_in(set: u64, number: u64) -> u64
     or_outside(set == 1, number)
 }
 
-// The bandwidth in two words.
-pub fn bandwidth_of(set: u64, number: u64) -> Option<Bandwidth>
-    ensures { result ≡ bandwidth_of set number }
+// What two words hold.
+pub fn maybe_of<T: AsNumber>(set: u64, number: u64) -> Option<T>
+    ensures { result ≡ maybe_of None (λ n. Some (T.of n)) set number }
 {
     if is_unset(set, number) {
         None
     } else {
-        Some(Bandwidth(number_in(set, number)))
+        Some(T::of(number_in(set, number)))
     }
 }
 
-// A bandwidth as two words.
-pub fn bandwidth_maybe(bandwidth: Option<Bandwidth>) -> Maybe
-    ensures { result ≡ bandwidth_maybe bandwidth }
+// What may be unset as two words: 1 and the number, or 0 and 0.
+pub fn pair_of<T: AsNumber>(held: Option<T>) -> (u64, u64)
+    ensures { result ≡ pair_of T.number held }
 {
-    match bandwidth {
-        None => Maybe { set: 0, number: 0 },
-        Some(held) => Maybe {
-            set: 1,
-            number: held.0,
-        },
-    }
-}
-
-// The length of time in two words.
-pub fn length_of(set: u64, number: u64) -> Option<Duration>
-    ensures { result ≡ length_of set number }
-{
-    if is_unset(set, number) {
-        None
-    } else {
-        Some(Duration(number_in(set, number)))
-    }
-}
-
-// A length of time as two words.
-pub fn length_maybe(length: Option<Duration>) -> Maybe
-    ensures { result ≡ length_maybe length }
-{
-    match length {
-        None => Maybe { set: 0, number: 0 },
-        Some(held) => Maybe {
-            set: 1,
-            number: held.0,
-        },
-    }
-}
-
-// The plain number in two words.
-pub fn plain_of(set: u64, number: u64) -> Option<u64>
-    ensures { result ≡ plain_of set number }
-{
-    if is_unset(set, number) {
-        None
-    } else {
-        Some(number_in(set, number))
-    }
-}
-
-// A plain number as two words.
-pub fn plain_maybe(plain: Option<u64>) -> Maybe
-    ensures { result ≡ plain_maybe plain }
-{
-    match plain {
-        None => Maybe { set: 0, number: 0 },
-        Some(number) => Maybe { set: 1, number },
+    match held {
+        None => (0, 0),
+        Some(value) => (1, value.number()),
     }
 }

@@ -1,15 +1,8 @@
 // One word: a flag, an f32.
 ghost use Rattle.std.specs.Prelude.{◌≡◌};
-ghost use Rattle.words.specs.Word.{or_outside, flag_word, flag_fits, float_word, float_of, float_fits};
+ghost use Rattle.words.specs.Word.{or_outside, flag_fits, float_word, float_of, float_fits};
 
-use crate::float_bits::{f32_bits, f32_of};
-
-// 1 for yes, 0 for no.
-pub fn flag_word(yes: bool) -> u64
-    ensures { result ≡ flag_word yes }
-{
-    if yes { 1 } else { 0 }
-}
+use std::num::{f32_from_bits_with_nan, f32_to_bits_with_nan};
 
 // Whether a writer writes the word for a flag.
 pub fn flag_fits(word: u64) -> bool
@@ -22,7 +15,7 @@ pub fn flag_fits(word: u64) -> bool
 pub fn or_outside(fits: bool, number: u64) -> u64
     ensures { result ≡ or_outside fits number }
 {
-    if fits { number } else { 0xffff_ffff_ffff_ffff }
+    if fits { number } else { u64::MAX }
 }
 
 // The f32 of a pattern of 32 bits, the NaN for more.
@@ -30,9 +23,9 @@ pub fn float_of(word: u64) -> f32
     ensures { result ≡ float_of word }
 {
     if word < 0x1_0000_0000 {
-        f32_of(word as u32)
+        f32_from_bits_with_nan(word as u32)
     } else {
-        0.0 / 0.0
+        f32::NAN
     }
 }
 
@@ -47,11 +40,5 @@ pub fn float_fits(word: u64) -> bool
 pub fn float_word(x: f32) -> u64
     ensures { result ≡ float_word x }
 {
-    wide(f32_bits(x))
-}
-
-fn wide(x: u32) -> u64
-    ensures { result ≡ x }
-{
-    x as u64
+    u64::from(f32_to_bits_with_nan(x))
 }

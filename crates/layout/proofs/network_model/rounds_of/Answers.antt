@@ -1,5 +1,0 @@
--- `rounds_of` meets its contract: field by field.
-use Rattle.layout.proofs.network_model.rounds_of.Goals as goal
-
-pub returns : goal.returns
-returns c = rw c.plain_of.ensures
