@@ -3,37 +3,15 @@ ghost use Rattle.std.specs.Prelude.{◌≡◌};
 ghost use Rattle.units.specs.Reply.{number};
 ghost use Rattle.state.specs.Answers.{settled};
 ghost use Rattle.calls.specs.Change.{change_of, change_more};
-ghost use Rattle.calls.specs.Unknown.{unknown_number};
 
 use crate::unknown::unknown;
 use state::NetworkModel;
-use state::network_model::Changed;
-use units::Duration;
-
-// The row of a call's reply, and the model after it.
-#[derive(Clone, Copy)]
-pub struct Left {
-    pub row: u64,
-    pub model: NetworkModel,
-}
+use units::{Duration, Refusal};
 
 // Calls 8 and 14 to 22; `gain` is n's f32. Any other number is refused.
-pub fn change(model: NetworkModel, call: u64, n: u64, gain: f32) -> Left
-    ensures row { result.row ≡ (change_of call n gain model).number }
-    ensures model { result.model ≡ settled (change_of call n gain model).number (change_of call n gain model).next model }
-{
-    let changed = change_one(model, call, n, gain);
-    let reply = changed.reply;
-    let next = changed.model;
-    Left {
-        row: reply.row(),
-        model: next,
-    }
-}
-
-fn change_one(model: NetworkModel, call: u64, n: u64, gain: f32) -> Changed
-    ensures reply { number result.reply ≡ (change_of call n gain model).number }
-    ensures model { result.model ≡ settled (change_of call n gain model).number (change_of call n gain model).next model }
+pub fn change(model: &mut NetworkModel, call: u64, n: u64, gain: f32) -> Result<(), Refusal>
+    ensures reply { number result ≡ (change_of call n gain model.old).number }
+    ensures model { model.new ≡ settled (change_of call n gain model.old).number (change_of call n gain model.old).next model.old }
 {
     match call {
         8 => changes::restart_round_early(model),
@@ -45,9 +23,9 @@ fn change_one(model: NetworkModel, call: u64, n: u64, gain: f32) -> Changed
 }
 
 // Calls 17 to 22, which are given n or nothing.
-fn change_more(model: NetworkModel, call: u64, n: u64) -> Changed
-    ensures reply { number result.reply ≡ (change_more call n model).number }
-    ensures model { result.model ≡ settled (change_more call n model).number (change_more call n model).next model }
+fn change_more(model: &mut NetworkModel, call: u64, n: u64) -> Result<(), Refusal>
+    ensures reply { number result ≡ (change_more call n model.old).number }
+    ensures model { model.new ≡ settled (change_more call n model.old).number (change_more call n model.old).next model.old }
 {
     match call {
         17 => changes::set_inflight_hi(model, n),
@@ -56,15 +34,6 @@ fn change_more(model: NetworkModel, call: u64, n: u64) -> Changed
         20 => changes::clear_bandwidth_lo(model),
         21 => changes::advance_max_bandwidth_filter(model),
         22 => changes::postpone_min_rtt_timestamp(model, Duration(n)),
-        _ => refused(model),
+        _ => unknown(*model),
     }
-}
-
-// A number that is none of these.
-fn refused(model: NetworkModel) -> Changed
-    ensures reply { number result.reply ≡ unknown_number model }
-    ensures model { result.model ≡ model }
-{
-    let reply = unknown(model);
-    Changed { reply, model }
 }

@@ -5,10 +5,10 @@ ghost use Rattle.calls.specs.Unknown.{unknown_number};
 
 use state::NetworkModel;
 use state::faults::NO_CALL;
-use units::Reply;
+use units::Refusal;
 
 // The reply to it.
-pub(crate) fn unknown(model: NetworkModel) -> Reply
+pub(crate) fn unknown(model: NetworkModel) -> Result<(), Refusal>
     ensures { number result ≡ unknown_number model }
 {
     model.given(false, NO_CALL)

@@ -13,7 +13,7 @@ use Rattle.state.specs.Answers.{settled}
 use Rattle.state.specs.declared.congestion_event.CongestionEvent.{CongestionEvent}
 use Rattle.state.specs.declared.cycle.Cycle.{Cycle}
 use Rattle.arguments.specs.CongestionEvent.{event_words}
-use Rattle.dispatch.specs.declared.outcome.Outcome.{Outcome}
+use Rattle.dispatch.specs.Outcome.{Outcome}
 use Rattle.dispatch.specs.Outcome.{is_judged, is_asked, start_outcome, judge_outcome, ask_outcome, enter_outcome, change_outcome}
 use Rattle.dispatch.specs.Inner.{other_outcome}
 

@@ -4,9 +4,8 @@ use Rattle.std.specs.Prelude.{ℕ, cond, List, leb, eqb}
 use Rattle.state.specs.declared.network_model.NetworkModel.{NetworkModel}
 use Rattle.state.specs.declared.cycle.Cycle.{Cycle}
 use Rattle.words.specs.Word.{word}
-use Rattle.dispatch.specs.declared.outcome.Outcome.{Outcome}
 use Rattle.state.specs.Faults.{first, replied, sent_faults}
-use Rattle.dispatch.specs.Outcome.{send_number, is_judged, is_asked, start_outcome, judge_outcome, ask_outcome, enter_outcome, change_outcome}
+use Rattle.dispatch.specs.Outcome.{Outcome, send_number, is_judged, is_asked, start_outcome, judge_outcome, ask_outcome, enter_outcome, change_outcome}
 
 -- all calls but 1, 3 and 4
 unfoldable pub other_outcome : List ℕ → NetworkModel → Cycle → Outcome

@@ -4,7 +4,7 @@ use Rattle.state.specs.declared.network_model.NetworkModel.{NetworkModel}
 use Rattle.state.specs.Faults.{first, replied}
 use Rattle.places.specs.Places.{faults_of}
 use Rattle.words.specs.Words.{words_at}
-use Rattle.dispatch.specs.declared.outcome.Outcome.{Outcome}
+use Rattle.dispatch.specs.Outcome.{Outcome}
 
 -- the 49 words of the call at an index
 abbrev pub own_at : (src : List ℕ) → ℕ → List ℕ

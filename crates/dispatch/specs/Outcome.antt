@@ -14,11 +14,19 @@ use Rattle.words.specs.Word.{word, flag_word, float_of}
 use Rattle.arguments.specs.Params.{params_from}
 use Rattle.arguments.specs.CongestionEvent.{event_from, event_in, event_words}
 use Rattle.arguments.specs.Sample.{sample_from, acked_of}
-use Rattle.dispatch.specs.declared.outcome.Outcome.{Outcome}
 use Rattle.calls.specs.Change.{change_of}
 use Rattle.calls.specs.Ask.{ask_of}
 use Rattle.calls.specs.Question.{judge_of}
 use Rattle.calls.specs.Enter.{enter_of}
+
+-- the state after a call; the number of its reply, its answer, 0 where it has none, and the words of the event's record
+-- after it, zeros where it has none
+pub record Outcome : Type 0 where
+  pub model : NetworkModel
+  pub cycle : Cycle
+  pub reply : ℕ
+  pub value : ℕ
+  pub event : List ℕ
 
 -- calls 5 to 7 and 9; calls 10 to 13 and 23 to 38
 abbrev pub is_judged : ℕ → Bool

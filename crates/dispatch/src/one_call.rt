@@ -5,7 +5,8 @@ ghost use Rattle.std.specs.Prelude.{◌≡◌, ◌∷◌, ◌+◌, ◌≤◌, le
 ghost use Rattle.std.proofs.lemmas.List.Edits.{sets};
 ghost use Rattle.state.specs.NetworkModel.{model_ok};
 ghost use Rattle.words.specs.Words.{all_bytes};
-ghost use Rattle.units.specs.Reply.{reply_word};
+ghost use Rattle.units.specs.Reply.{number, reply_word};
+ghost use Rattle.state.specs.Refusals.{caused};
 ghost use Rattle.state.specs.Answers.{settled};
 ghost use Rattle.state.specs.Faults.{first, replied};
 ghost use Rattle.places.specs.Places.{faults_of};
@@ -14,7 +15,7 @@ ghost use Rattle.dispatch.specs.Outcome.{no_event, send_number, send_leaves, eve
 ghost use Rattle.dispatch.specs.OneCall.{own_at, call_at, call_word, answer_words};
 ghost use Rattle.dispatch.specs.Inner.{send_word, other_outcome};
 
-use crate::outcome::{Outcome, carry_out, no_event};
+use crate::outcome::carry_out;
 use arguments::congestion_event::{event_from, event_in, event_words};
 use arguments::params::params_from;
 use arguments::sample::{greatest_acked, sample_from};
@@ -22,145 +23,148 @@ use events::{finish_tested, start_tested};
 use places::places::fault_of;
 use state::congestion_event::CongestionEvent;
 use state::faults::sent_fault;
+use state::refusals::Cause;
 use state::{Cycle, NetworkModel};
-use units::Moment;
-use units::reply::fault_word;
+use units::refusal::fault_word;
+use units::{Moment, Refusal};
 use words::{get_word, get_words, put_words};
 
 // Call 1, a send, which reads four of its words.
 pub fn send(
-    model: NetworkModel,
+    model: &mut NetworkModel,
     fine: bool,
     calls: &[u8],
     at: usize,
     answers: &mut [u8],
     to: usize,
-) -> NetworkModel
-    requires { (at + 392 ≤ length calls.now) × (to + 144 ≤ length answers.old) × (fine ≡ model_ok model) }
-    ensures value { result ≡ send_leaves (own_at calls.now at) model }
-    ensures answers_after { answers.new ≡ sets answers.old to (all_bytes (send_word (own_at calls.now at) model ∷ 0 ∷ no_event)) }
+)
+    requires { (at + 392 ≤ length calls.now) × (to + 144 ≤ length answers.old) × (fine ≡ model_ok model.old) }
+    ensures value { model.new ≡ send_leaves (own_at calls.now at) model.old }
+    ensures answers_after { answers.new ≡ sets answers.old to (all_bytes (send_word (own_at calls.now at) model.old ∷ 0 ∷ no_event)) }
 {
-    let time = get_word(calls, at + 8);
+    let time = Moment(get_word(calls, at + 8));
     let inflight = get_word(calls, at + 16);
     let packet = get_word(calls, at + 24);
     let bytes = get_word(calls, at + 32);
-    let sent = changes::sent_tested(model, fine, Moment(time), inflight, packet, bytes);
-    let mut word = sent.row;
-    if word == 2 {
-        word = fault_word(sent_fault(Moment(time), inflight, bytes));
-    }
-    put_answer(answers, to, word, 0, &no_event());
-    sent.model
+    let word = match changes::sent_tested(model, fine, time, inflight, packet, bytes) {
+        Ok(()) => 0,
+        Err(Cause::Argument) => fault_word(sent_fault(time, inflight, bytes)),
+        Err(cause) => cause.row(),
+    };
+    put_answer(answers, to, word, 0, &[0; 16]);
 }
 
 // Call 3, an event's start, whose acked numbers can stand in the lists.
 pub fn event_start(
-    model: NetworkModel,
+    model: &mut NetworkModel,
     fine: bool,
     calls: &[u8],
     at: usize,
     lists: &[u64],
     answers: &mut [u8],
     to: usize,
-) -> NetworkModel
-    requires { (at + 392 ≤ length calls.now) × (to + 144 ≤ length answers.old) × (fine ≡ model_ok model) }
-    ensures value { result ≡ event_start_leaves (call_at calls.now lists.now at) model }
-    ensures answers_after { answers.new ≡ sets answers.old to (all_bytes (call_word (call_at calls.now lists.now at) model (event_start_number (call_at calls.now lists.now at) model) ∷ 0 ∷ event_start_words (call_at calls.now lists.now at) model)) }
+)
+    requires { (at + 392 ≤ length calls.now) × (to + 144 ≤ length answers.old) × (fine ≡ model_ok model.old) }
+    ensures value { model.new ≡ event_start_leaves (call_at calls.now lists.now at) model.old }
+    ensures answers_after { answers.new ≡ sets answers.old to (all_bytes (call_word (call_at calls.now lists.now at) model.old (event_start_number (call_at calls.now lists.now at) model.old) ∷ 0 ∷ event_start_words (call_at calls.now lists.now at) model.old)) }
 {
     let words = call_at(calls, at);
-    let happened = start_tested(
+    let least = model.minrtt.timestamp;
+    let mut event = event_from(&words);
+    let reply = start_tested(
         model,
         fine,
         params_from(&words),
-        event_from(&words),
+        &mut event,
         sample_from(&words, lists),
         greatest_acked(&words, lists),
     );
-    let row = happened.row;
-    let event = happened.event;
-    let least = model.minrtt.timestamp;
-    let word = reply_word(row, least, calls, at, lists);
-    put_answer(answers, to, word, 0, &event_left(row, event, &words));
-    happened.model
+    let word = reply_word(reply, least, calls, at, lists);
+    put_answer(answers, to, word, 0, &event_left(reply, event, &words));
 }
 
 // The record's words after an event; where it was refused, as they were handed in.
-fn event_left(row: u64, after: CongestionEvent, words: &[u64; 49]) -> [u64; 16]
-    ensures { result ≡ settled row (event_words after) (event_in words.now) }
+fn event_left(reply: Result<(), Cause>, after: CongestionEvent, words: &[u64; 49]) -> [u64; 16]
+    ensures { result ≡ settled (caused reply) (event_words after) (event_in words.now) }
 {
-    if row == 0 {
-        event_words(after)
-    } else {
-        event_in(words)
+    match reply {
+        Ok(()) => event_words(after),
+        Err(_) => event_in(words),
     }
 }
 
 // Call 4, an event's finish.
 pub fn event_finish(
-    model: NetworkModel,
+    model: &mut NetworkModel,
     fine: bool,
     calls: &[u8],
     at: usize,
     lists: &[u64],
     answers: &mut [u8],
     to: usize,
-) -> NetworkModel
-    requires { (at + 392 ≤ length calls.now) × (to + 144 ≤ length answers.old) × (fine ≡ model_ok model) }
-    ensures value { result ≡ event_finish_leaves (own_at calls.now at) model }
-    ensures answers_after { answers.new ≡ sets answers.old to (all_bytes (call_word (call_at calls.now lists.now at) model (event_finish_number (own_at calls.now at) model) ∷ 0 ∷ no_event)) }
+)
+    requires { (at + 392 ≤ length calls.now) × (to + 144 ≤ length answers.old) × (fine ≡ model_ok model.old) }
+    ensures value { model.new ≡ event_finish_leaves (own_at calls.now at) model.old }
+    ensures answers_after { answers.new ≡ sets answers.old to (all_bytes (call_word (call_at calls.now lists.now at) model.old (event_finish_number (own_at calls.now at) model.old) ∷ 0 ∷ no_event)) }
 {
     let words = call_at(calls, at);
-    let finished = finish_tested(model, fine, event_from(&words));
     let least = model.minrtt.timestamp;
-    let word = reply_word(finished.row, least, calls, at, lists);
-    put_answer(answers, to, word, 0, &no_event());
-    finished.model
+    let reply = finish_tested(model, fine, event_from(&words));
+    let word = reply_word(reply, least, calls, at, lists);
+    put_answer(answers, to, word, 0, &[0; 16]);
 }
 
 // Every other call.
 pub fn other(
-    model: NetworkModel,
-    cycle: Cycle,
+    model: &mut NetworkModel,
+    cycle: &mut Cycle,
     calls: &[u8],
     at: usize,
     lists: &[u64],
     answers: &mut [u8],
     to: usize,
-) -> Outcome
+)
     requires { (at + 392 ≤ length calls.now) × (to + 144 ≤ length answers.old) }
-    ensures value { result ≡ other_outcome (own_at calls.now at) model cycle }
-    ensures answers_after { answers.new ≡ sets answers.old to (all_bytes (answer_words (call_at calls.now lists.now at) model (other_outcome (own_at calls.now at) model cycle))) }
+    ensures model { model.new ≡ (other_outcome (own_at calls.now at) model.old cycle.old).model }
+    ensures cycle { cycle.new ≡ (other_outcome (own_at calls.now at) model.old cycle.old).cycle }
+    ensures answers_after { answers.new ≡ sets answers.old to (all_bytes (answer_words (call_at calls.now lists.now at) model.old (other_outcome (own_at calls.now at) model.old cycle.old))) }
 {
     let words = call_at(calls, at);
-    let outcome = carry_out(model, cycle, &words);
-    let record = outcome.event;
     let least = model.minrtt.timestamp;
-    let word = other_word(outcome.reply, least, calls, at, lists);
-    put_answer(answers, to, word, outcome.value, &record);
-    outcome
+    let reply = carry_out(model, cycle, &words);
+    let word = other_word(reply, least, calls, at, lists);
+    put_answer(answers, to, word, reply.unwrap_or(0), &[0; 16]);
 }
 
 // The word of a call's reply: its row, and where that is 2 the first fault of the call's words.
-fn reply_word(row: u64, least: Moment, calls: &[u8], at: usize, lists: &[u64]) -> u64
+fn reply_word(reply: Result<(), Cause>, least: Moment, calls: &[u8], at: usize, lists: &[u64]) -> u64
     requires { at + 392 ≤ length calls.now }
-    ensures { result ≡ replied row (first (faults_of (call_at calls.now lists.now at) least)) }
+    ensures { result ≡ replied (caused reply) (first (faults_of (call_at calls.now lists.now at) least)) }
 {
-    if row != 2 {
-        return row;
+    match reply {
+        Ok(()) => 0,
+        Err(Cause::Argument) => fault_at(least, calls, at, lists),
+        Err(cause) => cause.row(),
     }
-    fault_at(least, calls, at, lists)
 }
 
 // The same for calls that have no way of their own. What is called from two places is not compiled into the loop of a
 // run, and `fault_at` is seldom needed.
-fn other_word(row: u64, least: Moment, calls: &[u8], at: usize, lists: &[u64]) -> u64
+fn other_word(
+    reply: Result<u64, Refusal>,
+    least: Moment,
+    calls: &[u8],
+    at: usize,
+    lists: &[u64],
+) -> u64
     requires { at + 392 ≤ length calls.now }
-    ensures { result ≡ replied row (first (faults_of (call_at calls.now lists.now at) least)) }
+    ensures { result ≡ replied (number reply) (first (faults_of (call_at calls.now lists.now at) least)) }
 {
-    if row == 2 {
-        return fault_at(least, calls, at, lists);
+    match reply {
+        Ok(_) => 0,
+        Err(Refusal::BadArgument(_)) => fault_at(least, calls, at, lists),
+        Err(refusal) => refusal.row(),
     }
-    row
 }
 
 // The word of a refusal 2, with the first fault of the call at an index.

@@ -29,7 +29,7 @@ use Rattle.arguments.specs.CongestionEvent.{event_from, words_from, event_in, ev
 use Rattle.arguments.specs.Sample.{sample_from, acked_of}
 use Rattle.dispatch.proofs.RoundTrip.{round_trip}
 use Rattle.words.proofs.Back.{float_fits_lem}
-use Rattle.dispatch.specs.declared.outcome.Outcome.{Outcome}
+use Rattle.dispatch.specs.Outcome.{Outcome}
 use Rattle.dispatch.specs.Outcome.{no_event, send_number, send_leaves, event_start_number, event_start_leaves, event_start_words, event_finish_number, event_finish_leaves, send_outcome, event_outcome, finish_outcome, outcome_of}
 use Rattle.dispatch.specs.Inner.{send_word, other_outcome}
 use Rattle.guovssalu.specs.ModelRun.{state_in, calls_in, outcome_at, answers_to, left_by, words_left, model_row}

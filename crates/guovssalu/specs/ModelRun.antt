@@ -11,7 +11,7 @@ use Rattle.state.specs.declared.cycle.Cycle.{Cycle}
 use Rattle.words.specs.Words.{words_at}
 use Rattle.layout.specs.NetworkModel.{model_from}
 use Rattle.layout.specs.Cycle.{cycle_from}
-use Rattle.dispatch.specs.declared.outcome.Outcome.{Outcome}
+use Rattle.dispatch.specs.Outcome.{Outcome}
 use Rattle.dispatch.specs.Outcome.{outcome_of}
 use Rattle.guovssalu.specs.Reply.{answered}
 use Rattle.layout.specs.StateWords.{state_words, is_state}

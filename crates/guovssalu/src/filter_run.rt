@@ -10,10 +10,9 @@ pub fn guovssalu_filter_run(window: u64, src: &[u8], out: &mut [u8]) -> u64
     ensures value { result ≡ run_reply window src.now (length out.old) }
     ensures out_after { out.new ≡ run_out window src.now out.old }
 {
-    let reply = run_reply(window, src, out.len());
-    if !reply.is_done() {
-        return reply.word();
+    if let Err(refusal) = run_reply(window, src, out.len()) {
+        return refusal.word();
     }
     write_run(window, src, out);
-    reply.word()
+    0
 }

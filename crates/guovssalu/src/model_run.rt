@@ -11,10 +11,10 @@ use layout::cycle::cycle_from;
 use layout::form::is_state;
 use layout::network_model::model_from;
 use layout::state_words::state_words;
-use state::faults::{LIST_LENGTH, first_of, unless};
+use state::faults::{Kind, first_of, unless};
 use state::refusals::{Rows, or_short, refusal};
 use state::{Cycle, NetworkModel};
-use units::Reply;
+use units::Refusal;
 use words::{get_word, get_words, put_words};
 
 // Carries out the calls in order, answers each and leaves the new state: 1 for bytes that encode no
@@ -25,8 +25,7 @@ pub fn guovssalu_run(state: &mut [u8], calls: &[u8], answers: &mut [u8]) -> u64
     ensures state_after { state.new ≡ state_out state.old calls.now no_lists answers.old }
     ensures answers_after { answers.new ≡ answers_out state.old calls.now no_lists answers.old }
 {
-    let none = [0u64; 0];
-    guovssalu_run_lists(state, calls, &none, answers)
+    guovssalu_run_lists(state, calls, &[], answers)
 }
 
 // The same with lists of words, from which an event takes more acked numbers than a call has room for, by place and
@@ -36,9 +35,8 @@ pub fn guovssalu_run_lists(state: &mut [u8], calls: &[u8], lists: &[u64], answer
     ensures state_after { state.new ≡ state_out state.old calls.now lists.now answers.old }
     ensures answers_after { answers.new ≡ answers_out state.old calls.now lists.now answers.old }
 {
-    let reply = model_reply(state, calls, answers.len());
-    if !reply.is_done() {
-        return reply.word();
+    if let Err(refusal) = model_reply(state, calls, answers.len()) {
+        return refusal.word();
     }
     let words = state_in(state);
     let left = run_calls(
@@ -49,10 +47,10 @@ pub fn guovssalu_run_lists(state: &mut [u8], calls: &[u8], lists: &[u64], answer
         answers,
     );
     put_words(state, 0, &left);
-    reply.word()
+    0
 }
 
-fn model_reply(state: &[u8], calls: &[u8], room: usize) -> Reply
+fn model_reply(state: &[u8], calls: &[u8], room: usize) -> Result<(), Refusal>
     ensures reply { number result ≡ model_row state.now calls.now room }
     ensures fault { fault result ≡ named (model_row state.now calls.now room)
         (first (length_faults state.now calls.now)) }
@@ -64,7 +62,7 @@ fn model_reply(state: &[u8], calls: &[u8], room: usize) -> Reply
         argument: !whole | !even,
         ..Rows::NONE
     };
-    let faults = [unless(whole, 1, LIST_LENGTH), unless(even, 2, LIST_LENGTH)];
+    let faults = [unless(whole, 1, Kind::ListLength), unless(even, 2, Kind::ListLength)];
     let reply = refusal(rows, first_of(&faults));
     or_short(reply, room < 144 * (calls.len() / 392))
 }
@@ -102,28 +100,21 @@ fn run_calls(
     ensures value { result ≡ left_by model cycle calls.now lists.now 0 (calls_in calls.now) }
     ensures answers_after { answers.new ≡ sets answers.old 0 (all_bytes (answers_to model cycle calls.now lists.now 0 (calls_in calls.now))) }
 {
-    let count = calls.len() / 392;
     let mut m = model;
     let mut y = cycle;
     let mut fine = m.ok();
-    let mut i = 0;
-    while i < count {
+    for i in 0..calls.len() / 392 {
         let at = 392 * i;
         let to = 144 * i;
-        let call = get_word(calls, at);
-        if call == 1 {
-            m = send(m, fine, calls, at, answers, to);
-        } else if call == 3 {
-            m = event_start(m, fine, calls, at, lists, answers, to);
-        } else if call == 4 {
-            m = event_finish(m, fine, calls, at, lists, answers, to);
-        } else {
-            let outcome = other(m, y, calls, at, lists, answers, to);
-            m = outcome.model;
-            y = outcome.cycle;
-            fine = m.ok();
+        match get_word(calls, at) {
+            1 => send(&mut m, fine, calls, at, answers, to),
+            3 => event_start(&mut m, fine, calls, at, lists, answers, to),
+            4 => event_finish(&mut m, fine, calls, at, lists, answers, to),
+            _ => {
+                other(&mut m, &mut y, calls, at, lists, answers, to);
+                fine = m.ok();
+            }
         }
-        i += 1;
     }
     state_words(m, y)
 }

@@ -13,11 +13,10 @@ pub fn guovssalu_rtt_run(state: &mut [u8], calls: &[u8], answers: &mut [u8]) -> 
     ensures state_after { state.new ≡ rtt_state_out state.old calls.now answers.old }
     ensures answers_after { answers.new ≡ rtt_answers_out state.old calls.now answers.old }
 {
-    let reply = run_reply(state, calls, answers.len());
-    if !reply.is_done() {
-        return reply.word();
+    if let Err(refusal) = run_reply(state, calls, answers.len()) {
+        return refusal.word();
     }
     let left = run_calls(stats_in(state), calls, answers);
     put_words(state, 0, &stats_words(left));
-    reply.word()
+    0
 }

@@ -4,15 +4,14 @@ ghost use Rattle.units.specs.Reply.{number, fault};
 ghost use Rattle.state.specs.Faults.{first, named};
 ghost use Rattle.state.specs.Cycle.{rounds_ok};
 ghost use Rattle.guovssalu.specs.Slope.{slope_row, window_faults, slope_reply, slope_words, slope_out};
-ghost use Rattle.guovssalu.specs.Inner.{count_in};
 
 use phases::slope::slope_raised;
 use state::Cycle;
 use state::bounds::bytes_ok;
 use state::cycle::Slope;
-use state::faults::{WINDOW, unless};
+use state::faults::{Kind, unless};
 use state::refusals::{Rows, or_short, refusal};
-use units::Reply;
+use units::Refusal;
 use words::put_words;
 
 // The next rounds and probe_up_bytes, as two words of the output: 1 for rounds over 30, 2.1 at
@@ -21,15 +20,14 @@ pub fn guovssalu_raise_inflight_high_slope(rounds: u64, window: u64, out: &mut [
     ensures value { result ≡ slope_reply rounds window (length out.old) }
     ensures out_after { out.new ≡ slope_out rounds window out.old }
 {
-    let reply = slope_reply(rounds, window, out.len());
-    if !reply.is_done() {
-        return reply.word();
+    if let Err(refusal) = slope_reply(rounds, window, out.len()) {
+        return refusal.word();
     }
     put_words(out, 0, &slope_words(rounds, window));
-    reply.word()
+    0
 }
 
-fn slope_reply(rounds: u64, window: u64, room: usize) -> Reply
+fn slope_reply(rounds: u64, window: u64, room: usize) -> Result<(), Refusal>
     ensures reply { number result ≡ slope_row rounds window room }
     ensures fault { fault result ≡ named (slope_row rounds window room) (first (window_faults window)) }
 {
@@ -39,7 +37,7 @@ fn slope_reply(rounds: u64, window: u64, room: usize) -> Reply
         argument: !fine,
         ..Rows::NONE
     };
-    let reply = refusal(rows, unless(fine, 2, WINDOW));
+    let reply = refusal(rows, unless(fine, 2, Kind::Window));
     or_short(reply, room < 16)
 }
 
@@ -61,16 +59,5 @@ fn slope_words(rounds: u64, window: u64) -> [u64; 2]
         applimited: false,
     };
     let raised = slope_raised(slope, window);
-    let bytes = raised.bytes;
-    [raised.rounds, count_in(bytes)]
-}
-
-// A byte count; 0 where there is none.
-fn count_in(bytes: Option<u64>) -> u64
-    ensures { result ≡ count_in bytes }
-{
-    match bytes {
-        None => 0,
-        Some(count) => count,
-    }
+    [raised.rounds, raised.bytes.unwrap_or(0)]
 }

@@ -11,7 +11,7 @@ use lib.Seq.{sets-eq, drop-drop, take_at, drop_at}
 use borrow.Author.Tests.{eq-eqb}
 use Rattle.words.specs.Words.{word_at, bytes, all_bytes}
 use Rattle.words.proofs.Laws.{length_bytes, all_bytes_append, word_drop, word_of}
-use Rattle.dispatch.specs.declared.outcome.Outcome.{Outcome}
+use Rattle.dispatch.specs.Outcome.{Outcome}
 use Rattle.state.specs.Faults.{first}
 use Rattle.places.specs.Places.{faults_of}
 use Rattle.dispatch.proofs.OneCall.{plain_word}

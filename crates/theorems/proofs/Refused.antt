@@ -14,7 +14,7 @@ use Rattle.state.specs.declared.cycle.Cycle.{Cycle}
 use Rattle.state.specs.Cycle.{fresh_number, fresh_cycle}
 use Rattle.arguments.specs.CongestionEvent.{event_in}
 use Rattle.words.specs.Word.{flag_word}
-use Rattle.dispatch.specs.declared.outcome.Outcome.{Outcome}
+use Rattle.dispatch.specs.Outcome.{Outcome}
 use Rattle.dispatch.specs.Outcome.{is_judged, is_asked, no_event, start_outcome, send_outcome, event_outcome, finish_outcome, judge_outcome, ask_outcome, enter_outcome, change_outcome, outcome_of}
 use Rattle.drift.specs.Calls.{State}
 use Rattle.theorems.specs.Steps.{Refused, fresh, state_left, outcome_in}

@@ -15,7 +15,7 @@ use Rattle.arguments.specs.Params.{params_from}
 use Rattle.arguments.specs.CongestionEvent.{event_from, event_in}
 use Rattle.arguments.specs.Sample.{sample_from, acked_of}
 use Rattle.calls.specs.Enter.{down_at}
-use Rattle.dispatch.specs.declared.outcome.Outcome.{Outcome}
+use Rattle.dispatch.specs.Outcome.{Outcome}
 use Rattle.dispatch.specs.Outcome.{is_judged, is_asked, no_event, outcome_of}
 use Rattle.dispatch.specs.OneCall.{call_at}
 use Rattle.drift.specs.Calls as C

@@ -3,7 +3,7 @@ use mathlib.Core.Path.{ap, ◌∙◌}
 use lib.ListN.{length}
 use lib.Seq.{sets}
 use Rattle.words.specs.Words.{all_bytes}
-use Rattle.dispatch.specs.declared.outcome.Outcome.{Outcome}
+use Rattle.dispatch.specs.Outcome.{Outcome}
 use Rattle.dispatch.proofs.OneCall.{length_other}
 use Prim.Native.Nat.{ℕ}
 use mathlib.Core.List.{◌∷◌}
