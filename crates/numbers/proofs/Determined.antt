@@ -3,7 +3,6 @@ use Rattle.std.proofs.Common.{sym, ◌∙◌}
 use Rattle.numbers.specs.OneReply.{OneReply}
 use Rattle.numbers.proofs.int_to_float as int_to_float
 use Rattle.numbers.proofs.float_to_int as float_to_int
-use Rattle.numbers.proofs.order as order
 use Rattle.numbers.proofs.scaling as scaling
 
 pub one_to_f32 : OneReply int_to_float.to_f32.Reads.Learnt
@@ -29,12 +28,3 @@ one_scale κs a x y s t p q = p ∙ sym q
 
 pub one_scale_f64 : OneReply scaling.scale_f64.Reads.Learnt
 one_scale_f64 κs a x y s t p q = p ∙ sym q
-
-pub one_larger : OneReply order.larger.Reads.Learnt
-one_larger κs a x y s t p q = p ∙ sym q
-
-pub one_smaller : OneReply order.smaller.Reads.Learnt
-one_smaller κs a x y s t p q = p ∙ sym q
-
-pub one_less : OneReply order.less.Reads.Learnt
-one_less κs a x y s t p q = p ∙ sym q

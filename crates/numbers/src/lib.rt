@@ -3,10 +3,8 @@
 
 pub mod float_to_int;
 pub mod int_to_float;
-pub mod order;
 pub mod scaling;
 
 pub use float_to_int::{pattern_round_to_u64, pattern_to_u64, round_to_u64, to_u64};
 pub use int_to_float::{to_f32, to_f64};
-pub use order::{larger, less, smaller};
 pub use scaling::{scale, scale_f64};

@@ -6,6 +6,7 @@ use crate::float_to_int::{round_to_u64, to_u64};
 use crate::int_to_float::{to_f32, to_f64};
 
 // n as an `f32`, times g, without its fraction.
+#[tactic(auto, unfolding(crate::specs::Scaling::scaled))]
 pub fn scale(n: u64, g: f32) -> u64
     ensures { result ≡ scaled n g }
 {
@@ -13,6 +14,7 @@ pub fn scale(n: u64, g: f32) -> u64
 }
 
 // n as an `f64`, times g, to the nearest whole number.
+#[tactic(auto, unfolding(crate::specs::Scaling::scaled_f64))]
 pub fn scale_f64(n: u64, g: f64) -> u64
     ensures { result ≡ scaled_f64 n g }
 {

@@ -17,6 +17,7 @@ impl Bandwidth {
     pub const INFINITE: Bandwidth = Bandwidth(u64::MAX);
 
     // This bandwidth times a factor, by way of an `f64`, to the nearest whole number.
+    #[tactic(auto, unfolding(crate::specs::Bandwidth::times_f32))]
     pub fn mul_f32(self, factor: f32) -> Bandwidth
         ensures { result ≡ times_f32 self factor }
     {
