@@ -10,7 +10,7 @@ use crate::unknown::unknown;
 use state::answers::{BandwidthRead, Flag, GainRead, LengthRead, MomentRead, Number};
 use state::{NetworkModel, Params};
 use units::Bandwidth;
-use words::word::{flag_word, float_word};
+use words::word::float_word;
 
 // The row of a call's reply, and its answer.
 #[derive(Clone, Copy)]
@@ -152,6 +152,6 @@ fn flag(read: Flag) -> Number
     let reply = read.reply;
     Number {
         reply,
-        value: flag_word(read.yes),
+        value: u64::from(read.yes),
     }
 }

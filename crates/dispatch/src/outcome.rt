@@ -13,7 +13,7 @@ use calls::enter::enter;
 use calls::question::judge;
 use state::{Cycle, NetworkModel};
 use units::{Duration, Moment, Reply};
-use words::word::{flag_word, float_of};
+use words::word::float_of;
 
 // The state after a call; the number of its reply, its answer, 0 where it has none, and the words of the event's record
 // after it, zeros where it has none.
@@ -111,7 +111,7 @@ fn judged(model: NetworkModel, cycle: Cycle, n: &[u64; 49]) -> Outcome
         model: next,
         cycle,
         reply: decided.row,
-        value: flag_word(decided.yes),
+        value: u64::from(decided.yes),
         event: no_event(),
     }
 }
