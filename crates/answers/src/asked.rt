@@ -1,7 +1,9 @@
 // One line of a list, asked of the port.
 use filters::{MaxBandwidthFilter, MinRttFilter, RoundTripCounter, WindowedFilter};
+use std::num::{
+    f32_from_bits_with_nan, f32_to_bits_with_nan, f64_from_bits_with_nan, f64_to_bits_with_nan,
+};
 use units::{Bandwidth, Duration, Moment};
-use words::float_bits::{f32_bits, f32_of, f64_bits, f64_of};
 
 // What a list asks, with the filter that it goes on with from line to line.
 #[derive(Clone, Copy)]
@@ -43,12 +45,12 @@ pub fn answer(asked: Asked, n: &[u64; 16]) -> Compared {
 // Whether a conversion or a bandwidth is as the line has it.
 fn number(asked: Asked, n: &[u64; 16]) -> bool {
     match asked {
-        Asked::ToF32 => f32_bits(numbers::to_f32(n[0])) as u64 == n[1],
-        Asked::ToF64 => f64_bits(numbers::to_f64(n[0])) == n[1],
-        Asked::ToU64 => numbers::to_u64(f32_of(low_bits(n[0]))) == n[1],
-        Asked::RoundToU64 => numbers::round_to_u64(f64_of(n[0])) == n[1],
-        Asked::Scale => numbers::scale(n[0], f32_of(low_bits(n[1]))) == n[2],
-        Asked::BandwidthMul => Bandwidth(n[0]).mul_f32(f32_of(low_bits(n[1]))).0 == n[2],
+        Asked::ToF32 => u64::from(f32_to_bits_with_nan(numbers::to_f32(n[0]))) == n[1],
+        Asked::ToF64 => f64_to_bits_with_nan(numbers::to_f64(n[0])) == n[1],
+        Asked::ToU64 => numbers::to_u64(f32_from_bits_with_nan(low_bits(n[0]))) == n[1],
+        Asked::RoundToU64 => numbers::round_to_u64(f64_from_bits_with_nan(n[0])) == n[1],
+        Asked::Scale => numbers::scale(n[0], f32_from_bits_with_nan(low_bits(n[1]))) == n[2],
+        Asked::BandwidthMul => Bandwidth(n[0]).mul_f32(f32_from_bits_with_nan(low_bits(n[1]))).0 == n[2],
         Asked::BandwidthPeriod => Bandwidth(n[0]).to_bytes_per_period(Duration(n[1])) == n[2],
         Asked::BandwidthOrder => order(Bandwidth(n[0]), Bandwidth(n[1]), n),
         _ => false,

@@ -15,7 +15,7 @@ use state::faults::{LIST_LENGTH, NO_CALL, first_of, unless};
 use state::refusals::{Rows, or_short, refusal};
 use units::reply::fault_word;
 use units::{Duration, Reply};
-use words::word::{flag_fits, flag_word};
+use words::word::flag_fits;
 use words::{get_word, put_words};
 
 // The reply to a run: 1 for bytes that encode no estimator, 2.8 for a length that is none of an estimator's, at place 1,
@@ -63,6 +63,7 @@ pub fn stats_in(state: &[u8]) -> RttStats
 }
 
 // Its words.
+#[tactic(auto, unfolding(crate::specs::Trips::stats_words))]
 pub fn stats_words(stats: RttStats) -> [u64; 6]
     ensures { result ≡ stats_words stats }
 {
@@ -77,7 +78,7 @@ pub fn stats_words(stats: RttStats) -> [u64; 6]
         smoothed.0,
         variation.0,
         limit.0,
-        flag_word(stats.sampled),
+        u64::from(stats.sampled),
     ]
 }
 
