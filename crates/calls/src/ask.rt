@@ -11,6 +11,7 @@ use units::{Bandwidth, Refusal};
 use words::word::float_word;
 
 // Calls 10 to 13 and 23 to 38; `n` is a bandwidth. Any other number is refused.
+#[tactic(auto, unfolding(crate::specs::Ask::ask_of, state::specs::Answers::settled))]
 pub fn ask(
     model: NetworkModel,
     params: Params,
@@ -32,6 +33,7 @@ pub fn ask(
 }
 
 // Calls 23 to 29.
+#[tactic(auto, unfolding(crate::specs::Ask::read_of, state::specs::Answers::settled))]
 fn read(model: NetworkModel, call: u64) -> Result<u64, Refusal>
     ensures reply { number result ≡ (read_of call model).number }
     ensures value { kept result 0 ≡ settled (read_of call model).number (read_of call model).value 0 }
@@ -49,6 +51,7 @@ fn read(model: NetworkModel, call: u64) -> Result<u64, Refusal>
 }
 
 // Calls 30 to 38.
+#[tactic(auto, unfolding(crate::specs::Ask::read_more, state::specs::Answers::settled))]
 fn read_more(model: NetworkModel, call: u64) -> Result<u64, Refusal>
     ensures reply { number result ≡ (read_more call model).number }
     ensures value { kept result 0 ≡ settled (read_more call model).number (read_more call model).value 0 }

@@ -9,6 +9,7 @@ use state::NetworkModel;
 use units::{Duration, Refusal};
 
 // Calls 8 and 14 to 22; `gain` is n's f32. Any other number is refused.
+#[tactic(auto, unfolding(crate::specs::Change::change_of, state::specs::Answers::settled))]
 pub fn change(model: &mut NetworkModel, call: u64, n: u64, gain: f32) -> Result<(), Refusal>
     ensures reply { number result ≡ (change_of call n gain model.old).number }
     ensures model { model.new ≡ settled (change_of call n gain model.old).number (change_of call n gain model.old).next model.old }
@@ -23,6 +24,7 @@ pub fn change(model: &mut NetworkModel, call: u64, n: u64, gain: f32) -> Result<
 }
 
 // Calls 17 to 22, which are given n or nothing.
+#[tactic(auto, unfolding(crate::specs::Change::change_more, state::specs::Answers::settled))]
 fn change_more(model: &mut NetworkModel, call: u64, n: u64) -> Result<(), Refusal>
     ensures reply { number result ≡ (change_more call n model.old).number }
     ensures model { model.new ≡ settled (change_more call n model.old).number (change_more call n model.old).next model.old }

@@ -14,6 +14,7 @@ use units::{Moment, Refusal};
 use words::word::{flag_fits, or_outside};
 
 // Calls 40 to 45, with the numbers that they are given. Any other number is refused.
+#[tactic(auto, unfolding(crate::specs::Enter::enter_of, state::specs::Answers::settled))]
 pub fn enter(
     model: &mut NetworkModel,
     cycle: &mut Cycle,

@@ -10,6 +10,7 @@ use state::{NetworkModel, Params};
 use units::Refusal;
 
 // Calls 5 to 7 and 9; `limit` is the call's number, `gain` its f32. Any other number is refused.
+#[tactic(auto, unfolding(crate::specs::Question::judge_of, state::specs::Answers::settled))]
 pub fn judge(
     model: &mut NetworkModel,
     params: Params,

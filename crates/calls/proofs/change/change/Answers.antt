@@ -1,8 +1,0 @@
--- `change` meets its contract: that of its part, with the reply's row. Assumes nothing.
-use mathlib.Core.Path.{◌∙◌}
-use Rattle.calls.proofs.change.change.Goals as goal
-
-pub returns : goal.returns
-returns c =
-    let one = c.change_one-changed.ensures in
-    record { row = c.row.ensures ∙ one.reply; model = one.model }
