@@ -1,5 +1,5 @@
 // The calls that change the model and carry no event.
-ghost use Rattle.std.specs.Prelude.{◌≡◌, true, ◌+◌, ◌-◌, leb};
+ghost use Rattle.std.specs.Prelude.{◌≡◌, true, ◌+◌, leb};
 ghost use Rattle.units.specs.Reply.{number, fault};
 ghost use Rattle.state.specs.Answers.{settled};
 ghost use Rattle.state.specs.NetworkModel.{model_ok, stored_number, given_number, restart_next, with_high, cap_next, clear_inflight_next, clear_bandwidth_next, advance_next};
@@ -30,9 +30,8 @@ pub fn on_packet_sent(
         (first (sent_faults now inflight bytes)) }
 {
     let fine = model.ok();
-    sent_tested(model, fine, now, inflight, packet, bytes).map_err(|cause| cause.named(sent_fault(
-        now, inflight, bytes,
-    )))
+    let refused = |cause: Cause| cause.named(sent_fault(now, inflight, bytes));
+    sent_tested(model, fine, now, inflight, packet, bytes).map_err(refused)
 }
 
 // The same for a run, where it is known whether the model is within its bounds.
