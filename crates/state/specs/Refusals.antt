@@ -3,7 +3,7 @@
 -- reply's number.
 use Rattle.std.specs.Prelude.{ℕ, ◌-◌, ◌^◌, Bool, false, cond, ◌&&◌, eqb, Result, Ok, Err}
 use Rattle.state.specs.declared.refusals.Cause.{Cause}
-use Rattle.state.specs.declared.refusals.Cause.TheVariants.{Stored, Argument, Earlier, Lower, Full, Unsent}
+use Rattle.state.specs.declared.refusals.Cause.TheVariants.{Stored, Argument, Earlier, Lower, Full, Text, Short, Unsent}
 use Rattle.state.specs.declared.refusals.Rows.{Rows}
 
 -- a call has only some of the rows; the others never hold
@@ -121,12 +121,19 @@ cause_row Argument = 2
 cause_row Earlier = 3
 cause_row Lower = 4
 cause_row Full = 5
+cause_row Text = 6
+cause_row Short = 7
 cause_row Unsent = 10
 
 -- the number of what a call of a run gives back: 0 where it is done
 abbrev pub caused : {A : Type 0} → Result A Cause → ℕ
 caused (Ok a) = 0
 caused (Err c) = cause_row c
+
+-- and what a caller has then: what the call gave, or where it was refused what was there before
+abbrev pub given : {A : Type 0} → Result A Cause → A → A
+given (Ok a) old = a
+given (Err c) old = old
 
 -- row 7, "the lent output is shorter than the answer", after the rows that `first_of` decides: "If several refusals
 -- apply, the lowest number is given"

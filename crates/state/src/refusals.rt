@@ -44,6 +44,8 @@ pub enum Cause {
     Earlier = 3,
     Lower = 4,
     Full = 5,
+    Text = 6,
+    Short = 7,
     Unsent = 10,
 }
 
@@ -67,7 +69,27 @@ impl Cause {
             Cause::Earlier => Refusal::EarlierMoment,
             Cause::Lower => Refusal::LowerTotal,
             Cause::Full => Refusal::FullCounter,
+            Cause::Text => Refusal::BadText,
+            Cause::Short => Refusal::ShortOutput,
             Cause::Unsent => Refusal::NeverSent,
+        }
+    }
+}
+
+// A run finds the argument at fault in the call's words.
+impl From<Refusal> for Cause {
+    ghost from_gives = { λ r c. cause_row c ≡ row_of r };
+
+    fn from(refusal: Refusal) -> Cause {
+        match refusal {
+            Refusal::OutOfBounds => Cause::Stored,
+            Refusal::BadArgument(_) => Cause::Argument,
+            Refusal::EarlierMoment => Cause::Earlier,
+            Refusal::LowerTotal => Cause::Lower,
+            Refusal::FullCounter => Cause::Full,
+            Refusal::BadText => Cause::Text,
+            Refusal::ShortOutput => Cause::Short,
+            Refusal::NeverSent => Cause::Unsent,
         }
     }
 }
