@@ -21,7 +21,7 @@ use units::{Bandwidth, Duration, Moment, Refusal};
 // ---- the start: the table is asked, the round is counted, the record and the model are put anew
 
 // An event: packets acked, the record as far as it is known, and what the sampler says.
-#[tactic(auto, using(crate::proofs::OnlyGreatest::same, filters::proofs::Greatest::alone), unfolding(state::specs::Faults::named))]
+#[tactic(auto, using(crate::proofs::OnlyGreatest::number_of, crate::proofs::OnlyGreatest::model_of, crate::proofs::OnlyGreatest::event_of), unfolding(state::specs::Faults::named))]
 pub fn on_congestion_event_start(
     model: &mut NetworkModel,
     params: Params,
@@ -48,7 +48,7 @@ pub fn on_congestion_event_start(
 
 // The same for a run, where it is known whether the model is within its bounds, and which of the acked numbers is the
 // greatest. It says the row alone; the run finds the fault.
-#[tactic(auto, using(crate::proofs::Room::room), unfolding(crate::specs::Event::event_number, crate::specs::Event::event_next, crate::specs::Event::model_next, state::specs::Answers::settled))]
+#[tactic(auto, unfolding(crate::specs::Event::event_number, crate::specs::Event::event_next, crate::specs::Event::model_next, state::specs::Answers::settled))]
 pub fn start_tested(
     model: &mut NetworkModel,
     fine: bool,
