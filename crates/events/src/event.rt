@@ -6,7 +6,7 @@ ghost use Rattle.state.specs.Answers.{settled};
 ghost use Rattle.state.specs.Faults.{first, named, started_faults, event_faults, whole_record, whole_sample};
 ghost use Rattle.state.specs.NetworkModel.{model_ok};
 ghost use Rattle.state.specs.Refusals.{caused};
-ghost use Rattle.events.specs.Event.{cwndlimited_after, state_after, is_changed, maxbw_after, bandwidth_after, minrtt_after, delivered_by, round_after, raised_bandwidth, latest_raised, start_of, newest_of, latest_after, event_after, event_next, maxbw_next, round_next, adapt_lower_bounds, model_after, model_next, is_lower, is_unsent, is_full, event_rows, event_number, finish_number, finish_next};
+ghost use Rattle.events.specs.Event.{cwndlimited_after, state_after, is_changed, maxbw_after, bandwidth_after, minrtt_after, delivered_by, round_after, latest_raised, start_of, newest_of, latest_after, event_after, event_next, maxbw_next, round_next, adapt_lower_bounds, model_after, model_next, is_lower, is_unsent, is_full, event_rows, event_number, finish_number, finish_next};
 
 use filters::round_trip_counter::greatest_of;
 use filters::{MaxBandwidthFilter, MinRttFilter, RoundTripCounter};
@@ -324,15 +324,11 @@ fn latest_raised(latest: Latest, sample: CongestionEventSample) -> Latest
     ensures { result ≡ latest_raised latest sample }
 {
     Latest {
-        bandwidth: raised_bandwidth(latest.bandwidth, sample.bandwidth),
+        bandwidth: sample
+            .bandwidth
+            .map_or(latest.bandwidth, |seen| latest.bandwidth.max(seen)),
         inflight: latest.inflight.max(sample.inflight),
     }
-}
-
-fn raised_bandwidth(was: Bandwidth, sample: Option<Bandwidth>) -> Bandwidth
-    ensures { result ≡ raised_bandwidth was sample }
-{
-    sample.map_or(was, |bandwidth| was.max(bandwidth))
 }
 
 // inflight_lo, or the window where it is unset.
