@@ -5,7 +5,7 @@ ghost use Rattle.std.specs.Prelude.{◌≡◌, ◌∷◌, ◌+◌, ◌≤◌, le
 ghost use Rattle.std.proofs.lemmas.List.Edits.{sets};
 ghost use Rattle.state.specs.NetworkModel.{model_ok};
 ghost use Rattle.words.specs.Words.{all_bytes};
-ghost use Rattle.units.specs.Reply.{number, reply_word};
+ghost use Rattle.units.specs.Reply.{reply_word};
 ghost use Rattle.state.specs.Refusals.{caused};
 ghost use Rattle.state.specs.Answers.{settled};
 ghost use Rattle.state.specs.Faults.{first, replied};
@@ -25,11 +25,12 @@ use state::congestion_event::CongestionEvent;
 use state::faults::sent_fault;
 use state::refusals::Cause;
 use state::{Cycle, NetworkModel};
+use units::Moment;
 use units::refusal::fault_word;
-use units::{Moment, Refusal};
 use words::{get_word, get_words, put_words};
 
 // Call 1, a send, which reads four of its words.
+#[tactic(auto, unfolding(crate::specs::Inner::send_word, state::specs::Faults::named))]
 pub fn send(
     model: &mut NetworkModel,
     fine: bool,
@@ -55,6 +56,7 @@ pub fn send(
 }
 
 // Call 3, an event's start, whose acked numbers can stand in the lists.
+#[tactic(auto, unfolding(crate::specs::OneCall::call_word))]
 pub fn event_start(
     model: &mut NetworkModel,
     fine: bool,
@@ -84,6 +86,7 @@ pub fn event_start(
 }
 
 // The record's words after an event; where it was refused, as they were handed in.
+#[tactic(auto, unfolding(state::specs::Answers::settled))]
 fn event_left(reply: Result<(), Cause>, after: CongestionEvent, words: &[u64; 49]) -> [u64; 16]
     ensures { result ≡ settled (caused reply) (event_words after) (event_in words.now) }
 {
@@ -94,6 +97,7 @@ fn event_left(reply: Result<(), Cause>, after: CongestionEvent, words: &[u64; 49
 }
 
 // Call 4, an event's finish.
+#[tactic(auto, unfolding(crate::specs::OneCall::call_word))]
 pub fn event_finish(
     model: &mut NetworkModel,
     fine: bool,
@@ -115,6 +119,7 @@ pub fn event_finish(
 }
 
 // Every other call.
+#[tactic(auto, unfolding(crate::specs::OneCall::call_word, crate::specs::OneCall::answer_words))]
 pub fn other(
     model: &mut NetworkModel,
     cycle: &mut Cycle,
@@ -132,38 +137,26 @@ pub fn other(
     let words = call_at(calls, at);
     let least = model.minrtt.timestamp;
     let reply = carry_out(model, cycle, &words);
-    let word = other_word(reply, least, calls, at, lists);
+    let word = reply_word(reply, least, calls, at, lists);
     put_answer(answers, to, word, reply.unwrap_or(0), &[0; 16]);
 }
 
-// The word of a call's reply: its row, and where that is 2 the first fault of the call's words.
-fn reply_word(reply: Result<(), Cause>, least: Moment, calls: &[u8], at: usize, lists: &[u64]) -> u64
-    requires { at + 392 ≤ length calls.now }
-    ensures { result ≡ replied (caused reply) (first (faults_of (call_at calls.now lists.now at) least)) }
-{
-    match reply {
-        Ok(()) => 0,
-        Err(Cause::Argument) => fault_at(least, calls, at, lists),
-        Err(cause) => cause.row(),
-    }
-}
-
-// The same for calls that have no way of their own. What is called from two places is not compiled into the loop of a
-// run, and `fault_at` is seldom needed.
-fn other_word(
-    reply: Result<u64, Refusal>,
+// The word of a call's reply: its row, and where that is 2 the first fault of the call's words, which is seldom needed.
+#[tactic(auto, unfolding(state::specs::Faults::named))]
+fn reply_word<T: Drop>(
+    reply: Result<T, Cause>,
     least: Moment,
     calls: &[u8],
     at: usize,
     lists: &[u64],
 ) -> u64
     requires { at + 392 ≤ length calls.now }
-    ensures { result ≡ replied (number reply) (first (faults_of (call_at calls.now lists.now at) least)) }
+    ensures { result ≡ replied (caused reply) (first (faults_of (call_at calls.now lists.now at) least)) }
 {
     match reply {
         Ok(_) => 0,
-        Err(Refusal::BadArgument(_)) => fault_at(least, calls, at, lists),
-        Err(refusal) => refusal.row(),
+        Err(Cause::Argument) => fault_at(least, calls, at, lists),
+        Err(cause) => cause.row(),
     }
 }
 

@@ -1,6 +1,6 @@
 // One call on a model and a cycle, from its 49 words.
 ghost use Rattle.std.specs.Prelude.{◌≡◌};
-ghost use Rattle.units.specs.Reply.{number, kept};
+ghost use Rattle.state.specs.Refusals.{caused, given};
 ghost use Rattle.dispatch.specs.Outcome.{is_judged, is_asked, start_outcome};
 ghost use Rattle.dispatch.specs.Inner.{other_outcome};
 
@@ -10,19 +10,17 @@ use calls::ask::ask;
 use calls::change::change;
 use calls::enter::enter;
 use calls::question::judge;
+use state::refusals::Cause;
 use state::{Cycle, NetworkModel};
-use units::{Duration, Moment, Refusal};
+use units::{Duration, Moment};
 use words::word::float_of;
 
 // All calls but 1, 3 and 4, a send and an event's two, which a run makes for itself. A number that is no call's is
 // refused. What is answered is 0 where a call answers nothing.
-pub fn carry_out(
-    model: &mut NetworkModel,
-    cycle: &mut Cycle,
-    n: &[u64; 49],
-) -> Result<u64, Refusal>
-    ensures reply { number result ≡ (other_outcome n.now model.old cycle.old).reply }
-    ensures value { kept result 0 ≡ (other_outcome n.now model.old cycle.old).value }
+#[tactic(auto, unfolding(crate::specs::Inner::other_outcome, crate::specs::Outcome::judge_outcome, crate::specs::Outcome::ask_outcome, crate::specs::Outcome::enter_outcome, crate::specs::Outcome::change_outcome, state::specs::Answers::settled))]
+pub fn carry_out(model: &mut NetworkModel, cycle: &mut Cycle, n: &[u64; 49]) -> Result<u64, Cause>
+    ensures reply { caused result ≡ (other_outcome n.now model.old cycle.old).reply }
+    ensures value { given result 0 ≡ (other_outcome n.now model.old cycle.old).value }
     ensures model { model.new ≡ (other_outcome n.now model.old cycle.old).model }
     ensures cycle { cycle.new ≡ (other_outcome n.now model.old cycle.old).cycle }
 {
@@ -59,9 +57,10 @@ fn is_asked(call: u64) -> bool
 }
 
 // Call 0. A start that is refused leaves a fresh model and a fresh cycle, too.
-fn started(model: &mut NetworkModel, cycle: &mut Cycle, n: &[u64; 49]) -> Result<u64, Refusal>
-    ensures reply { number result ≡ (start_outcome n.now).reply }
-    ensures value { kept result 0 ≡ (start_outcome n.now).value }
+#[tactic(auto, unfolding(crate::specs::Outcome::start_outcome, state::specs::NetworkModel::start_model, state::specs::Cycle::fresh_cycle, state::specs::Cycle::fresh_number, state::specs::Answers::settled))]
+fn started(model: &mut NetworkModel, cycle: &mut Cycle, n: &[u64; 49]) -> Result<u64, Cause>
+    ensures reply { caused result ≡ (start_outcome n.now).reply }
+    ensures value { given result 0 ≡ (start_outcome n.now).value }
     ensures model { model.new ≡ (start_outcome n.now).model }
     ensures cycle { cycle.new ≡ (start_outcome n.now).cycle }
 {
@@ -75,7 +74,7 @@ fn started(model: &mut NetworkModel, cycle: &mut Cycle, n: &[u64; 49]) -> Result
         Err(refusal) => {
             *model = NetworkModel::default();
             *cycle = Cycle::default();
-            Err(refusal)
+            Err(Cause::from(refusal))
         }
     }
 }
