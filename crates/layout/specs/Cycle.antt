@@ -7,17 +7,11 @@ use Rattle.state.specs.declared.cycle.Last.{Last}
 use Rattle.state.specs.declared.cycle.Slope.{Slope}
 use Rattle.state.specs.declared.cycle.Stay.{Stay}
 use Rattle.state.specs.declared.cycle.Wait.{Wait}
+pub use Rattle.state.specs.Cycle.{phase_word}
 use Rattle.words.specs.Word.{word, flag_word, flag_of}
 use Rattle.words.specs.Maybe.{maybe_words, length_maybe, length_of, plain_maybe, plain_of}
 
--- a phase: 0 to 4; what is above 4 is read as the last
-abbrev pub phase_word : CyclePhase → ℕ
-phase_word NotStarted = 0
-phase_word Up = 1
-phase_word Down = 2
-phase_word Cruise = 3
-phase_word Refill = 4
-
+-- a phase: its number, 0 to 4; what is above 4 is read as the last
 abbrev pub phase_of : ℕ → CyclePhase
 phase_of w = cond (eqb w 0) NotStarted (cond (eqb w 1) Up (cond (eqb w 2) Down (cond (eqb w 3) Cruise Refill)))
 

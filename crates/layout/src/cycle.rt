@@ -1,7 +1,7 @@
 // The cycle: words 35 to 50 of the state.
 ghost use Rattle.std.specs.Prelude.{◌≡◌, [], ◌∷◌};
 ghost use Rattle.std.proofs.lemmas.List.Edits.{sets};
-ghost use Rattle.layout.specs.Cycle.{phase_of, phase_word, stay_of, wait_of, slope_of, cycle_from, times_words, slope_words, marks_words, cycle_words};
+ghost use Rattle.layout.specs.Cycle.{stay_of, wait_of, slope_of, cycle_from, times_words, slope_words, marks_words, cycle_words};
 
 use state::cycle::{Last, Slope, Stay, Wait};
 use state::{Cycle, CyclePhase};
@@ -28,25 +28,15 @@ pub fn cycle_from(n: &[u64; 51]) -> Cycle
     }
 }
 
+// A number that no phase has is read as the last phase.
+#[tactic(auto, using(crate::proofs::Laws::read_or_last))]
 fn stay_of(n: &[u64; 51]) -> Stay
     ensures { result ≡ stay_of n.now }
 {
     Stay {
-        phase: phase_of(n[35]),
+        phase: CyclePhase::try_from(n[35]).unwrap_or(CyclePhase::Refill),
         rounds: n[38],
         entered: Moment(n[37]),
-    }
-}
-
-fn phase_of(word: u64) -> CyclePhase
-    ensures { result ≡ phase_of word }
-{
-    match word {
-        0 => CyclePhase::NotStarted,
-        1 => CyclePhase::Up,
-        2 => CyclePhase::Down,
-        3 => CyclePhase::Cruise,
-        _ => CyclePhase::Refill,
     }
 }
 
@@ -78,21 +68,17 @@ fn slope_of(n: &[u64; 51]) -> Slope
 pub(crate) fn with_cycle(n: [u64; 51], cycle: Cycle) -> [u64; 51]
     ensures { result ≡ sets n 35 (cycle_words cycle) }
 {
-    let stay = cycle.stay;
-    let wait = cycle.wait;
-    let slope = cycle.slope;
-    let last = cycle.last;
-    let raised = with_slope(with_times(n, stay, wait), slope);
-    with_marks(raised, cycle.advanced, cycle.probing, last)
+    let n = with_times(n, cycle.stay, cycle.wait);
+    let n = with_slope(n, cycle.slope);
+    with_marks(n, cycle.advanced, cycle.probing, cycle.last)
 }
 
 fn with_times(n: [u64; 51], stay: Stay, wait: Wait) -> [u64; 51]
     ensures { result ≡ sets n 35 (times_words stay wait) }
 {
-    let phase = stay.phase;
     let (set, length) = pair_of(wait.length);
     let mut next = n;
-    next[35] = phase_word(phase);
+    next[35] = u64::from(stay.phase);
     next[36] = wait.start.0;
     next[37] = stay.entered.0;
     next[38] = stay.rounds;
@@ -100,18 +86,6 @@ fn with_times(n: [u64; 51], stay: Stay, wait: Wait) -> [u64; 51]
     next[40] = set;
     next[41] = length;
     next
-}
-
-fn phase_word(phase: CyclePhase) -> u64
-    ensures { result ≡ phase_word phase }
-{
-    match phase {
-        CyclePhase::NotStarted => 0,
-        CyclePhase::Up => 1,
-        CyclePhase::Down => 2,
-        CyclePhase::Cruise => 3,
-        CyclePhase::Refill => 4,
-    }
 }
 
 fn with_slope(n: [u64; 51], slope: Slope) -> [u64; 51]

@@ -116,21 +116,14 @@ fn rates_of(n: &[u64; 51]) -> Rates
 pub(crate) fn with_model(n: [u64; 51], model: NetworkModel) -> [u64; 51]
     ensures { result ≡ sets n 0 (model_words model) }
 {
-    let rounds = model.rounds;
-    let most = model.maxbw;
-    let least = model.minrtt;
-    let round = model.round;
-    let latest = model.latest;
-    let lower = model.lower;
-    let gains = model.gains;
-    let growth = model.growth;
-    let rates = model.rates;
-    let totals = model.totals;
-    let moment = model.moment;
-    let filtered = with_filters(with_rounds(n, rounds), most, least);
-    let bounded = with_bounds(with_round(filtered, round), latest, lower, model.high);
-    let grown = with_growth(with_gains(bounded, gains, model.cwndlimited), growth);
-    with_totals(with_rates(grown, rates), totals, moment, model.begun)
+    let n = with_rounds(n, model.rounds);
+    let n = with_filters(n, model.maxbw, model.minrtt);
+    let n = with_round(n, model.round);
+    let n = with_bounds(n, model.latest, model.lower, model.high);
+    let n = with_gains(n, model.gains, model.cwndlimited);
+    let n = with_growth(n, model.growth);
+    let n = with_rates(n, model.rates);
+    with_totals(n, model.totals, model.moment, model.begun)
 }
 
 fn with_rounds(n: [u64; 51], rounds: RoundTripCounter) -> [u64; 51]

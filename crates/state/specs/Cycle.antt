@@ -1,5 +1,5 @@
 -- The cycle of probing for bandwidth: mode.rs, Cycle, with document 01's bounds, and what a fresh one is.
-use Rattle.std.specs.Prelude.{ℕ, ◌+◌, ◌^◌, Bool, true, false, not, List, [], ◌∷◌, leb, Option, None, Some}
+use Rattle.std.specs.Prelude.{ℕ, ◌+◌, ◌^◌, Bool, true, false, not, List, [], ◌∷◌, cond, eqb, leb, Option, None, Some, Result, Ok, Err}
 use Rattle.units.specs.declared.time.Duration.{Duration}
 use Rattle.units.specs.declared.time.Moment.{Moment}
 use Rattle.state.specs.Answers.{settled, zero_moment}
@@ -7,7 +7,8 @@ use Rattle.state.specs.Bounds.{all, bytes_ok, moment_ok}
 use Rattle.state.specs.Refusals.{no_rows, argument, first_of}
 use Rattle.state.specs.declared.cycle.Cycle.{Cycle}
 use Rattle.state.specs.declared.cycle.CyclePhase.{CyclePhase}
-use Rattle.state.specs.declared.cycle.CyclePhase.TheVariants.{NotStarted}
+use Rattle.state.specs.declared.cycle.CyclePhase.TheVariants.{NotStarted, Up, Down, Cruise, Refill}
+use Rattle.state.specs.declared.cycle.NoPhase.{NoPhase}
 use Rattle.state.specs.declared.cycle.Stay.{Stay}
 use Rattle.state.specs.declared.refusals.Rows.{Rows}
 
@@ -66,3 +67,21 @@ fresh_number now = first_of (fresh_rows now)
 
 unfoldable pub fresh_cycle : Moment → Cycle
 fresh_cycle now = settled (fresh_number now) (cycle_new now) (cycle_new zero_moment)
+
+-- ---- a phase's number
+abbrev pub phase_word : CyclePhase → ℕ
+phase_word NotStarted = 0
+phase_word Up = 1
+phase_word Down = 2
+phase_word Cruise = 3
+phase_word Refill = 4
+
+-- the phase of a number, where it has one
+abbrev pub phase_read : ℕ → Result CyclePhase NoPhase
+phase_read n =
+    cond (eqb n 0) (Ok NotStarted)
+    (cond (eqb n 1) (Ok Up)
+    (cond (eqb n 2) (Ok Down)
+    (cond (eqb n 3) (Ok Cruise)
+    (cond (eqb n 4) (Ok Refill)
+    (Err (record { 0 = n }))))))

@@ -3,7 +3,7 @@ ghost use Rattle.std.specs.Prelude.{◌≡◌};
 ghost use Rattle.units.specs.Reply.{number, fault, kept};
 ghost use Rattle.state.specs.Answers.{zero_moment};
 ghost use Rattle.state.specs.Faults.{first, named, now_faults};
-ghost use Rattle.state.specs.Cycle.{wait_ok, up_bytes_ok, cycle_ok, stay_from, cycle_new, fresh_number, fresh_cycle};
+ghost use Rattle.state.specs.Cycle.{phase_word, phase_read, wait_ok, up_bytes_ok, cycle_ok, stay_from, cycle_new, fresh_number, fresh_cycle};
 
 use crate::bounds::{MOST_LENGTH, bytes_ok, moment_ok};
 use crate::faults::now_fault;
@@ -157,5 +157,35 @@ impl Default for Cycle {
 
     fn default() -> Cycle {
         Cycle::fresh(Moment(0))
+    }
+}
+
+// The phases have the numbers 0 to 4.
+impl From<CyclePhase> for u64 {
+    ghost from_gives = { λ phase n. n ≡ phase_word phase };
+
+    fn from(phase: CyclePhase) -> u64 {
+        phase as u64
+    }
+}
+
+// A number that no phase has.
+#[derive(Clone, Copy)]
+pub struct NoPhase(pub u64);
+
+impl TryFrom<u64> for CyclePhase {
+    type Error = NoPhase;
+
+    ghost try_from_gives = { λ n r. r ≡ phase_read n };
+
+    fn try_from(n: u64) -> Result<CyclePhase, NoPhase> {
+        match n {
+            0 => Ok(CyclePhase::NotStarted),
+            1 => Ok(CyclePhase::Up),
+            2 => Ok(CyclePhase::Down),
+            3 => Ok(CyclePhase::Cruise),
+            4 => Ok(CyclePhase::Refill),
+            _ => Err(NoPhase(n)),
+        }
     }
 }

@@ -273,19 +273,19 @@ phase_word_lem Down = omega arith
 phase_word_lem Cruise = omega arith
 phase_word_lem Refill = omega arith
 
-end_words : (x : Option ℕ) → EndForm x → Word (plain_maybe x).set × Word (plain_maybe x).number
+end_words : (x : Option ℕ) → EndForm x → Word (plain_maybe x).0 × Word (plain_maybe x).1
 end_words None h = (omega arith, omega arith)
 end_words (Some n) h = (omega arith, h)
 
-bandwidth_words : (x : Option Bandwidth) → BandwidthForm x → Word (bandwidth_maybe x).set × Word (bandwidth_maybe x).number
+bandwidth_words : (x : Option Bandwidth) → BandwidthForm x → Word (bandwidth_maybe x).0 × Word (bandwidth_maybe x).1
 bandwidth_words None h = (omega arith, omega arith)
 bandwidth_words (Some b) h = (omega arith, h)
 
-wait_words : (x : Option Duration) → LengthForm x → Word (length_maybe x).set × Word (length_maybe x).number
+wait_words : (x : Option Duration) → LengthForm x → Word (length_maybe x).0 × Word (length_maybe x).1
 wait_words None h = (omega arith, omega arith)
 wait_words (Some d) h = (omega arith, h)
 
-up_words : (x : Option ℕ) → BytesForm x → Word (plain_maybe x).set × Word (plain_maybe x).number
+up_words : (x : Option ℕ) → BytesForm x → Word (plain_maybe x).0 × Word (plain_maybe x).1
 up_words None h = (omega arith, omega arith)
 up_words (Some n) h = (omega arith, h)
 

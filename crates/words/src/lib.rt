@@ -28,7 +28,8 @@ pub fn put_word(out: &mut [u8], at: usize, x: u64)
     out[at..at + 8].copy_from_slice(&x.to_le_bytes());
 }
 
-// Fills a slice with the words from an index on.
+// Fills a slice with the words from an index on. By index: after an adapter of `iter_mut`, as `zip`, nothing is known of
+// what was written.
 #[tactic(auto, using(crate::proofs::Stores::sets_whole, crate::proofs::Laws::length_words_at), unfolding(crate::specs::Words::words_at))]
 pub fn get_words(s: &[u8], at: usize, out: &mut [u64])
     requires { at + 8 * length out.old ≤ length s.now }
