@@ -15,6 +15,9 @@ use borrow.Author.Tests.{lt-ltb, le-ltb}
 use Rattle.rows.specs.Digits.{places_from, places_of, digits_of, decimal, Put, Puts}
 use Rattle.rows.specs.declared.digits.Writer.{Writer}
 
+pub ten_more : (k : ℕ) → 10 ^ k * 10 ≡ 10 ^ (k + 1)
+ten_more k = sym (pow-suc 10 k) ∙ ap (λ (n : ℕ). 10 ^ n) (sym (add-one k))
+
 -- a number from 10 ^ k on, up to ten times as much, has k + 1 digits
 places_at : (j f k n : ℕ) → j ≤ f → n < 10 ^ (k + j) → (0 < j → 10 ^ (k + j) ≤ 10 * n) → places_from f k (10 ^ k) n ≡ k + j
 unfolding places_from
@@ -26,10 +29,9 @@ places_at (suc j) (suc f) k n w above below =
     let ten : 10 ^ (k + suc j) ≡ 10 * 10 ^ (k + j) = rw (add-suc k j) (pow-suc 10 (k + j) ∙ mul_comm (10 ^ (k + j)) 10) in
     let under = below (omega arith) in
     let shift : k + 1 + j ≡ k + suc j = omega arith in
-    let here : 10 ^ k * 10 ≡ 10 ^ (k + 1) = sym (pow-suc 10 k) ∙ ap (λ (n : ℕ). 10 ^ n) (sym (add-one k)) in
     let h : n < 10 ^ (k + 1 + j) = rw shift above in
     let g : 0 < j → 10 ^ (k + 1 + j) ≤ 10 * n = λ p. rw shift under in
-    rw (le-ltb n (10 ^ k) (omega arith), here) (places_at j f (k + 1) n (omega arith) h g ∙ shift)
+    rw (le-ltb n (10 ^ k) (omega arith), ten_more k) (places_at j f (k + 1) n (omega arith) h g ∙ shift)
 
 pub places_log : (n k : ℕ) → k < 20 → 10 ^ k ≤ n → n < 10 * 10 ^ k → k + 1 ≡ places_of n
 unfolding places_of
