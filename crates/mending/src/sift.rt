@@ -25,7 +25,7 @@ pub struct Ends {
     pub listed: usize,
 }
 
-// Writes a line that is kept, or the entry of another.
+// Writes a line that is kept, or the entry of another. (Each range goes with its index, as `MendDefined` names them.)
 pub fn put_sorted(
     sorted: Sorted,
     line: &[u8],

@@ -1,4 +1,5 @@
-// An entry of the list of a mended trace: line, field. And a text as it is, for a line that is kept.
+// An entry of the list of a mended trace: line, field. And a text as it is, for a line that is kept. (Public calls take the
+// range and the index apart, as the theorems `TraceDefined` and `MendDefined` name them; a `Writer` has both.)
 ghost use Rattle.std.specs.Prelude.{◌≡◌, ◌+◌, ◌≤◌, length};
 ghost use Rattle.rows.specs.Digits.{Put};
 ghost use Rattle.rows.specs.Entry.{entry_text};

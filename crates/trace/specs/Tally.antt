@@ -1,6 +1,7 @@
 -- What a summary at the end counts, line by line.
 use Rattle.std.specs.Prelude.{ℕ, min, ◌+◌, ◌-◌, ◌^◌, Bool, cond, not, ◌&&◌, eqb, Option, None, Some}
-use Rattle.std.specs.Option.{option_eq}
+use Rattle.std.specs.Bool.{then_some}
+use Rattle.std.specs.Option.{option_eq, option_or}
 use Rattle.rows.specs.declared.row.Row.{Row}
 use Rattle.trace.specs.declared.tally.Tally.{Tally}
 
@@ -17,7 +18,7 @@ no_tally =
     record {
       rounds = 0;
       lowest = 2 ^ 64 - 1;
-      first = 0;
+      first = None;
       refused = 0;
       text = 0;
       stored = 0;
@@ -43,7 +44,7 @@ tallied t ended lo r =
       rounds = grown ended t.rounds;
       lowest = min t.lowest lo;
       -- the line of the first refusal
-      first = cond (eqb t.first 0 && not (eqb r.refusal 0)) r.line t.first;
+      first = option_or t.first (then_some (not (eqb r.refusal 0)) r.line);
       refused = grown (not (eqb r.refusal 0)) t.refused;
       -- refusals by their number: 6, 1, 2.1 to 2.5 and 2.9, 3, 4, 10, 5
       text = grown (is r 6 None) t.text;

@@ -4,13 +4,13 @@ ghost use Rattle.trace.specs.Tally.{grown, is, tallied};
 
 use rows::row::Row;
 
-// The rounds that ended; the lowest inflight_lo, or 2^64 - 1; the line of the first refusal, or 0; how many lines were
+// The rounds that ended; the lowest inflight_lo, or 2^64 - 1; the line of the first refusal; how many lines were
 // refused, and how many with 6, 1, 2.1 to 2.5, 2.9, 3, 4, 10 and 5.
 #[derive(Clone, Copy)]
 pub struct Tally {
     pub rounds: u64,
     pub lowest: u64,
-    pub first: u64,
+    pub first: Option<u64>,
     pub refused: u64,
     pub text: u64,
     pub stored: u64,
@@ -45,7 +45,7 @@ impl Tally {
     pub const NONE: Tally = Tally {
         rounds: 0,
         lowest: u64::MAX,
-        first: 0,
+        first: None,
         refused: 0,
         text: 0,
         stored: 0,
@@ -66,15 +66,10 @@ impl Tally {
         ensures { result ≡ tallied self ended lo row }
     {
         let refused = row.refusal != 0;
-        let first = if self.first == 0 && refused {
-            row.line
-        } else {
-            self.first
-        };
         Tally {
             rounds: grow(self.rounds, ended),
             lowest: self.lowest.min(lo),
-            first,
+            first: self.first.or(refused.then_some(row.line)),
             refused: grow(self.refused, refused),
             text: grow(self.text, is(row, 6, None)),
             stored: grow(self.stored, is(row, 1, None)),

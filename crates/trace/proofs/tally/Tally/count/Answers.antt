@@ -1,20 +1,15 @@
 -- `Tally::count` meets its contract: field by field.
-use Rattle.std.proofs.Common.{◌≡◌, cond, ◌&&◌, not, arith}
-use Rattle.std.proofs.lemmas.Grind.{common_steps}
-use Rattle.std.specs.Prelude.{eqb}
+use Rattle.std.proofs.Common.{◌∙◌, ap, ℕ}
+use Rattle.std.specs.Prelude.{Option}
+use Rattle.std.specs.Option.{option_or}
 use Rattle.trace.specs.Tally.{tallied}
 use Rattle.trace.proofs.Counts.{grown_by}
-use Rattle.trace.proofs.tally.Tally.count.Goals.{then-self-eq0+then-refused, else-self-eq0, else-self-eq0-via-then-self-eq0+else-refused, else-self-eq0-via-else-self-eq0}
 use Rattle.trace.proofs.tally.Tally.count.Goals as goal
 
 pub returns : goal.returns
 unfolding tallied
 returns c =
-    let first : c.if-self-eq0.first ≡ cond (eqb c.args.self.first 0 && not (eqb c.args.row.refusal 0)) c.args.row.line c.args.self.first =
-    elim c.if-self-eq0.branch [
-      | then-self-eq0+then-refused w ↦ grind (arith, common_steps)
-      | else-self-eq0 w ↦ grind (arith, common_steps)
-    ] in
+    let first = c.or.ensures ∙ ap (λ (o : Option ℕ). option_or c.args.self.first o) c.then_some.ensures in
     λ i.
     record {
       rounds = c.grow.ensures i;
