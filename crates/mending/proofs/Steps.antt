@@ -1,5 +1,6 @@
 -- A line in a replay, beside what `mend` knows of it. Assumes nothing.
 use Prim.Native.Nat.{ℕ}
+use Rattle.std.specs.Prelude.{Option, None}
 use mathlib.Core.Bool.{Bool, true, false, cond, ◌||◌, true≢false}
 use mathlib.Core.Path.{◌≡◌, refl, sym, ap, ◌∙◌}
 use lib.Dec.{eqb}
@@ -93,7 +94,7 @@ unfolding answered Read.row_of counted
 goes_bad r l k e = record { six = sym (ap is_refused e); number = refl; line = refl; started = sym (ap (started_after r.started) e); dropped = λ _. refl }
 
 -- a call is made, and R is the replay after it
-goes_call : (r : Replay) (l p : Line) (n part : ℕ) (ended : Bool) (R : Replay) → placed_at r.started l ≡ p → is_refused p ≡ false → eqb n 6 ≡ false → R.line ≡ one_more r.line → R.started ≡ started_after r.started p → Goes r l (answered n part ended R)
+goes_call : (r : Replay) (l p : Line) (n : ℕ) (part : Option ℕ) (ended : Bool) (R : Replay) → placed_at r.started l ≡ p → is_refused p ≡ false → eqb n 6 ≡ false → R.line ≡ one_more r.line → R.started ≡ started_after r.started p → Goes r l (answered n part ended R)
 unfolding answered Read.row_of
 goes_call r l p n part ended R e f six number started =
     record { six = six ∙ sym (ap is_refused e ∙ f); number = number; line = number; started = started ∙ sym (ap (started_after r.started) e); dropped = λ h. absurd (true≢false (sym h ∙ ap is_refused e ∙ f)) }
@@ -163,7 +164,7 @@ pub record Alike (x y : Stepped) : Type 0 where
   pub row : aside x.row ≡ aside y.row
   pub replay : bare x.replay ≡ bare y.replay
 
-alike_answered : (n part : ℕ) (ended : Bool) (r q : Replay) → bare r ≡ bare q → Alike (answered n part ended r) (answered n part ended q)
+alike_answered : (n : ℕ) (part : Option ℕ) (ended : Bool) (r q : Replay) → bare r ≡ bare q → Alike (answered n part ended r) (answered n part ended q)
 unfolding answered Read.row_of
 alike_answered n part ended r q e =
     record {
@@ -173,7 +174,7 @@ alike_answered n part ended r q e =
 
 bare_step : (r : Replay) (l : Line) → Alike (read_line r l) (read_line (bare r) l)
 unfolding read_line start_read sent_read event_read answered_by counted settled
-bare_step r (Refused k) = alike_answered 6 0 false (counted r) (counted (bare r)) refl
+bare_step r (Refused k) = alike_answered 6 None false (counted r) (counted (bare r)) refl
 bare_step r (Start time rtt) = go (eqb n 0)
   where
     n : ℕ
@@ -198,7 +199,7 @@ bare_step r (Sent time inflight packet bytes) = go r.started
 
     go : (t : Bool) → Alike (cond t (next r) (bad_text (counted r))) (cond t (next (bare r)) (bad_text (counted (bare r))))
     go true = alike_answered n _ false _ _ refl
-    go false = alike_answered 6 0 false (counted r) (counted (bare r)) refl
+    go false = alike_answered 6 None false (counted r) (counted (bare r)) refl
 bare_step r (Event v) = go r.started
   where
     n : ℕ
@@ -209,7 +210,7 @@ bare_step r (Event v) = go r.started
 
     go : (t : Bool) → Alike (cond t (next r) (bad_text (counted r))) (cond t (next (bare r)) (bad_text (counted (bare r))))
     go true = alike_answered n _ _ _ _ refl
-    go false = alike_answered 6 0 false (counted r) (counted (bare r)) refl
+    go false = alike_answered 6 None false (counted r) (counted (bare r)) refl
 
 pub same_step : (r q : Replay) (l : Line) → bare r ≡ bare q → Alike (read_line r l) (read_line q l)
 same_step r q l e =

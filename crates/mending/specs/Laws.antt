@@ -31,7 +31,7 @@ row_texts (w ∷ ws) = row_text w ++ row_texts ws
 
 -- a row with 0 in the place of its line's number
 abbrev pub aside : Row → Row
-aside w = record { line = 0; refusal = w.refusal; part = w.part; shown = w.shown; state = w.state }
+aside w = record { line = 0; refusal = w.refusal; part = w.part; state = w.state }
 
 -- each number is above the one before it, and the first above n
 abbrev pub Rising : (n : ℕ) → List Entry → Type 0

@@ -5,7 +5,6 @@ ghost use Rattle.mending.specs.Sorted.{unread, keeps, lists, sorted_as, sorted};
 use text::line::{Line, parse};
 use trace::made::is_begun;
 use trace::placed::placed;
-use trace::tally::one_more;
 
 // How many lines were read, how many of them kept and how many listed, and whether a start was accepted.
 #[derive(Clone, Copy)]
@@ -41,8 +40,8 @@ impl Mend {
     fn keep(self, begun: bool) -> Sorted
         ensures { result ≡ keeps self begun }
     {
-        let line = one_more(self.line);
-        let kept = one_more(self.kept);
+        let line = self.line.saturating_add(1);
+        let kept = self.kept.saturating_add(1);
         Sorted {
             mend: Mend {
                 line,
@@ -59,8 +58,8 @@ impl Mend {
     fn list(self, field: u64) -> Sorted
         ensures { result ≡ lists self field }
     {
-        let line = one_more(self.line);
-        let listed = one_more(self.listed);
+        let line = self.line.saturating_add(1);
+        let listed = self.listed.saturating_add(1);
         Sorted {
             mend: Mend {
                 line,

@@ -25,7 +25,7 @@ pub struct Ends {
     pub listed: usize,
 }
 
-// Writes a line that is kept, or the entry of another.
+// Writes a line that is kept, or the entry of another. (Each range goes with its index, as `MendDefined` names them.)
 pub fn put_sorted(
     sorted: Sorted,
     line: &[u8],
@@ -39,12 +39,17 @@ pub fn put_sorted(
     ensures lists { Put list.old list.new listed (list_text sorted) result.listed }
 {
     if sorted.kept {
-        let end = put_text(out, kept, line);
-        return Ends { kept: end, listed };
+        Ends {
+            kept: put_text(out, kept, line),
+            listed,
+        }
+    } else {
+        let number = sorted.mend.line;
+        Ends {
+            kept,
+            listed: put_entry(list, listed, number, sorted.field),
+        }
     }
-    let number = sorted.mend.line;
-    let end = put_entry(list, listed, number, sorted.field);
-    Ends { kept, listed: end }
 }
 
 // Sifts the lines of s from an index on, as long as there is room for a line and for an entry.
@@ -56,42 +61,27 @@ pub fn sift(mend: Mend, s: &[u8], from: usize, out: &mut [u8], list: &mut [u8]) 
         list.old
         list.new }
 {
-    let mut cur = mend;
-    let mut at = from;
-    let mut kept: usize = 0;
-    let mut listed: usize = 0;
-    let room = out.len();
-    let places = list.len();
-    while 4096 <= room - kept {
-        let end = end_of(s, at, b'\n');
+    let mut sifted = Sifted {
+        mend,
+        at: from,
+        kept: 0,
+        listed: 0,
+    };
+    while sifted.kept + 4096 <= out.len() && sifted.listed + 43 <= list.len() {
+        let end = end_of(s, sifted.at, b'\n');
         if s.len() <= end {
-            return Sifted {
-                mend: cur,
-                at,
-                kept,
-                listed,
-            };
-        }
-        if places - listed < 43 {
-            return Sifted {
-                mend: cur,
-                at,
-                kept,
-                listed,
-            };
+            break;
         }
         let after = end + 1;
-        let sorted = cur.take(&s[at..after]);
-        let ends = put_sorted(sorted, &s[at..after], out, kept, list, listed);
-        cur = sorted.mend;
-        at = after;
-        kept = ends.kept;
-        listed = ends.listed;
+        let line = &s[sifted.at..after];
+        let sorted = sifted.mend.take(line);
+        let ends = put_sorted(sorted, line, out, sifted.kept, list, sifted.listed);
+        sifted = Sifted {
+            mend: sorted.mend,
+            at: after,
+            kept: ends.kept,
+            listed: ends.listed,
+        };
     }
-    Sifted {
-        mend: cur,
-        at,
-        kept,
-        listed,
-    }
+    sifted
 }

@@ -54,9 +54,9 @@ pub(crate) fn summary(rt: &impl Eprint, replay: Replay) {
     say_number(rt, replay.line);
     say(rt, "\nrefused: ");
     say_number(rt, tally.refused);
-    if tally.refused != 0 {
+    if let Some(line) = tally.first {
         say(rt, ", first in line ");
-        say_number(rt, tally.first);
+        say_number(rt, line);
     }
     say(rt, "\n");
     all_refusals(rt, tally);

@@ -1,6 +1,7 @@
 -- Numbers in decimal digits, and what it is to write a text into lent bytes.
-use Rattle.std.specs.Prelude.{ℕ, zero, suc, ◌+◌, ◌*◌, ◌/◌, ◌%◌, ◌≡◌, cond, List, [], ◌∷◌, ◌++◌, ltb, length}
+use Rattle.std.specs.Prelude.{ℕ, zero, suc, ◌+◌, ◌*◌, ◌/◌, ◌%◌, ◌≡◌, ◌≤◌, cond, List, [], ◌∷◌, ◌++◌, ltb, length}
 use Rattle.std.proofs.lemmas.List.Edits.{sets}
+use Rattle.rows.specs.declared.digits.Writer.{Writer}
 
 -- the least k from here on with n below limit, which grows tenfold, or where it is after so many times
 unfoldable pub places_from : (times k limit n : ℕ) → ℕ
@@ -25,3 +26,9 @@ pub record Put (before after : List ℕ) (at : ℕ) (text : List ℕ) (r : ℕ) 
   pub stored : after ≡ sets before at text
   pub next : r ≡ at + length text
   pub kept : length after ≡ length before
+
+-- a writer puts a text of at most so many bytes where it stands, and stands after it
+pub record Puts (before after : Writer) (text : List ℕ) (most : ℕ) : Type 0 where
+  pub same : after.out.ghost_name ≡ before.out.ghost_name
+  pub put : Put before.out.now after.out.now before.at text after.at
+  pub within : after.at ≤ before.at + most

@@ -1,53 +1,53 @@
-// Numbers in decimal digits.
-ghost use Rattle.std.specs.Prelude.{◌≡◌, List, [], ◌∷◌, ◌+◌, ◌≤◌, ◌<◌, length};
-ghost use Rattle.std.proofs.lemmas.List.Edits.{sets};
-ghost use Rattle.rows.specs.Digits.{places_of, digits_of, decimal, Put};
+// Numbers in decimal digits, and what writes them into a lent slice.
+ghost use Rattle.std.specs.Prelude.{◌≡◌, [], ◌∷◌, ◌+◌, ◌≤◌, ◌<◌, length};
+ghost use Rattle.rows.specs.Digits.{places_of, digits_of, decimal, Puts};
 
 // How many digits a number has.
 fn places(n: u64) -> usize
-    ensures { result ≡ places_of n }
+    ensures places { result ≡ places_of n }
+    ensures few { result ≤ 20 }
 {
-    let mut k: usize = 1;
-    let mut limit: u64 = 10;
-    while k < 19 {
-        if n < limit {
-            return k;
-        }
-        limit = limit * 10;
-        k += 1;
+    match n.checked_ilog10() {
+        None => 1,
+        Some(k) => k as usize + 1,
     }
-    if n < limit { 19 } else { 20 }
 }
 
-// Writes the last k digits of a number.
-fn spell(out: &mut [u8], at: usize, k: usize, n: u64)
-    requires { at + k ≤ length out.old }
-    ensures { out.new ≡ sets out.old at (digits_of k n) }
+// Fills a slice with the last digits of a number.
+fn spell(out: &mut [u8], n: u64)
+    ensures { out.new ≡ digits_of (length out.old) n }
 {
-    let mut i = k;
     let mut rest = n;
-    while 0 < i {
-        i -= 1;
-        out[at + i] = b'0' + (rest % 10) as u8;
-        rest = rest / 10;
+    for i in (0..out.len()).rev() {
+        out[i] = b'0' + (rest % 10) as u8;
+        rest /= 10;
     }
 }
 
-// Writes a number, and answers the index after it.
-pub(crate) fn put_decimal(out: &mut [u8], at: usize, n: u64) -> usize
-    requires { at + 20 ≤ length out.old }
-    ensures { Put out.old out.new at (decimal n) result }
-{
-    let k = places(n);
-    spell(out, at, k, n);
-    at + k
+// A lent slice, and the index at which the next byte goes.
+#[derive(Drop)]
+pub(crate) struct Writer<'a> {
+    pub out: &'a mut [u8],
+    pub at: usize,
 }
 
-// Writes a byte, and answers the index after it.
-pub(crate) fn put_byte(out: &mut [u8], at: usize, b: u8) -> usize
-    requires { at < length out.old }
-    ensures { Put out.old out.new at (b ∷ []) result }
-{
-    out[at] = b;
-    at + 1
+impl Writer<'_> {
+    // A byte.
+    pub(crate) fn byte(&mut self, b: u8)
+        requires { self.old.at < length self.old.out.now }
+        ensures { Puts self.old self.new (b ∷ []) 1 }
+    {
+        self.out[self.at] = b;
+        self.at += 1;
+    }
+
+    // A number.
+    pub(crate) fn decimal(&mut self, n: u64)
+        requires { self.old.at + 20 ≤ length self.old.out.now }
+        ensures { Puts self.old self.new (decimal n) 20 }
+    {
+        let end = self.at + places(n);
+        spell(&mut self.out[self.at..end], n);
+        self.at = end;
+    }
 }

@@ -1,9 +1,9 @@
 // A row: line, refusal, round, max_bw, lo, hi.
 ghost use Rattle.std.specs.Prelude.{◌≡◌, ◌+◌, ◌≤◌, length};
-ghost use Rattle.rows.specs.Digits.{Put};
-ghost use Rattle.rows.specs.Row.{given_text, refusal_text, head_text, state_text, row_text};
+ghost use Rattle.rows.specs.Digits.{Put, Puts};
+ghost use Rattle.rows.specs.Row.{given_text, refusal_text, state_text, row_text};
 
-use crate::digits::{put_byte, put_decimal};
+use crate::digits::Writer;
 
 // What is shown of a state: its round count, the largest bandwidth, inflight_lo and inflight_hi.
 #[derive(Clone, Copy)]
@@ -19,63 +19,55 @@ pub struct State {
 pub struct Row {
     pub line: u64,
     pub refusal: u64,
-    pub part: u64,
-    pub shown: bool,
-    pub state: State,
+    pub part: Option<u64>,
+    pub state: Option<State>,
 }
 
-// Unset, or a number.
-fn put_given(out: &mut [u8], at: usize, g: Option<u64>) -> usize
-    requires { at + 20 ≤ length out.old }
-    ensures { Put out.old out.new at (given_text g) result }
-{
-    match g {
-        None => at,
-        Some(n) => put_decimal(out, at, n),
+impl Writer<'_> {
+    // Unset, or a number.
+    fn given(&mut self, g: Option<u64>)
+        requires { self.old.at + 20 ≤ length self.old.out.now }
+        ensures { Puts self.old self.new (given_text g) 20 }
+    {
+        if let Some(n) = g {
+            self.decimal(n);
+        }
     }
-}
 
-// A refusal, with its part if it has one: 2.3.
-fn put_refusal(out: &mut [u8], at: usize, refusal: u64, part: u64) -> usize
-    requires { at + 41 ≤ length out.old }
-    ensures { Put out.old out.new at (refusal_text refusal part) result }
-{
-    let a = put_decimal(out, at, refusal);
-    if part == 0 {
-        return a;
+    // A refusal, with its part if it has one: 2.3.
+    fn refusal(&mut self, refusal: u64, part: Option<u64>)
+        requires { self.old.at + 41 ≤ length self.old.out.now }
+        ensures { Puts self.old self.new (refusal_text refusal part) 41 }
+    {
+        self.decimal(refusal);
+        if let Some(part) = part {
+            self.byte(b'.');
+            self.decimal(part);
+        }
     }
-    let b = put_byte(out, a, b'.');
-    put_decimal(out, b, part)
-}
 
-fn put_head(out: &mut [u8], at: usize, line: u64, refusal: u64, part: u64) -> usize
-    requires { at + 63 ≤ length out.old }
-    ensures { Put out.old out.new at (head_text line refusal part) result }
-{
-    let a = put_decimal(out, at, line);
-    let b = put_byte(out, a, b',');
-    let c = put_refusal(out, b, refusal, part);
-    put_byte(out, c, b',')
-}
-
-fn put_state(out: &mut [u8], at: usize, shown: bool, s: State) -> usize
-    requires { at + 83 ≤ length out.old }
-    ensures { Put out.old out.new at (state_text shown s) result }
-{
-    let lo = s.lo;
-    let hi = s.hi;
-    if !shown {
-        let a = put_byte(out, at, b',');
-        let b = put_byte(out, a, b',');
-        return put_byte(out, b, b',');
+    // The state's columns, empty where it is not shown.
+    fn state(&mut self, shown: Option<State>)
+        requires { self.old.at + 83 ≤ length self.old.out.now }
+        ensures { Puts self.old self.new (state_text shown) 83 }
+    {
+        match shown {
+            None => {
+                self.byte(b',');
+                self.byte(b',');
+                self.byte(b',');
+            }
+            Some(s) => {
+                self.decimal(s.round);
+                self.byte(b',');
+                self.decimal(s.maxbw);
+                self.byte(b',');
+                self.given(s.lo);
+                self.byte(b',');
+                self.given(s.hi);
+            }
+        }
     }
-    let a = put_decimal(out, at, s.round);
-    let b = put_byte(out, a, b',');
-    let c = put_decimal(out, b, s.maxbw);
-    let d = put_byte(out, c, b',');
-    let e = put_given(out, d, lo);
-    let f = put_byte(out, e, b',');
-    put_given(out, f, hi)
 }
 
 // Writes a row at an index, and answers the index after it.
@@ -83,9 +75,13 @@ pub fn put_row(out: &mut [u8], at: usize, r: Row) -> usize
     requires { at + 148 ≤ length out.old }
     ensures { Put out.old out.new at (row_text r) result }
 {
-    let state = r.state;
-    let a = put_head(out, at, r.line, r.refusal, r.part);
-    let b = put_state(out, a, r.shown, state);
-    let c = put_byte(out, b, b'\r');
-    put_byte(out, c, b'\n')
+    let mut w = Writer { out, at };
+    w.decimal(r.line);
+    w.byte(b',');
+    w.refusal(r.refusal, r.part);
+    w.byte(b',');
+    w.state(r.state);
+    w.byte(b'\r');
+    w.byte(b'\n');
+    w.at
 }

@@ -1,12 +1,13 @@
 -- The lo that a row shows follows the exact run. Assumes nothing.
-use Rattle.std.specs.Prelude.{Option, None, Some}
+use Rattle.std.specs.Prelude.{Option, None}
+use Rattle.std.specs.Bool.{then_some}
 use Prim.Native.Nat.{ℕ, ◌-◌, ◌^◌, ◌≤◌}
 use mathlib.Core.Bool.{Bool, true, false, cond, true≢false}
 use mathlib.Core.List.{List, [], ◌∷◌, ◌++◌}
 use mathlib.Core.Path.{◌≡◌, refl, sym, ap, subst, ◌∙◌}
 use native.Mathlib.Omega.{arith}
 use lib.Dec.{eqb}
-use borrow.Author.Tests.{eqb-true, eq-eqb}
+use borrow.Author.Tests.{eqb-true}
 use Rattle.units.specs.declared.time.Duration.{Duration}
 use Rattle.units.specs.declared.time.Moment.{Moment}
 use Rattle.state.specs.declared.network_model.NetworkModel.{NetworkModel}
@@ -36,7 +37,7 @@ use Rattle.trace.specs.Stream.{after}
 use Rattle.calls.proofs.Same.{settled_same}
 use Rattle.trace.proofs.Occur.{occurs_finish, settled_done}
 use Rattle.theorems.specs.Steps.{makes, begins, keeps, moment, duration, after_start, after_step, exact_step}
-use Rattle.theorems.specs.Trace.{line_step, beside, exact_line, exact_lines, window_of, SmallLines, InRows, TraceUnasked, TraceDefined}
+use Rattle.theorems.specs.Trace.{line_step, beside, exact_line, exact_lines, window_of, shown_lo, SmallLines, InRows, TraceUnasked, TraceDefined}
 use Rattle.theorems.proofs.Reached.{Reached, reached_start, reached_step, of_reached}
 use Rattle.theorems.proofs.Follow.{Small, fixed, small}
 
@@ -81,22 +82,25 @@ unfolding settled
 settled_false n h a b old = rw h
 
 -- ---- what a row shows is the state after its line
-answered_lo : (n part : ℕ) (ended : Bool) (r : Replay) → (answered n part ended r).row.state.lo ≡ bound (answered n part ended r).replay.model.lower.inflight
-unfolding answered Read.row_of state_of
+abbrev lo_of : (shown : Bool) → NetworkModel → Option ℕ
+lo_of shown m = shown_lo (then_some shown (Read.state_of m))
+
+answered_lo : (n : ℕ) (part : Option ℕ) (ended : Bool) (r : Replay) → let s = answered n part ended r in shown_lo s.row.state ≡ lo_of s.replay.started s.replay.model
+unfolding answered Read.row_of
 answered_lo n part ended r = refl
 
-chosen_lo : (t : Bool) (n part : ℕ) (ended : Bool) (q r : Replay) → let s = cond t (answered n part ended q) (bad_text r) in s.row.state.lo ≡ bound s.replay.model.lower.inflight
+chosen_lo : (t : Bool) (n : ℕ) (part : Option ℕ) (ended : Bool) (q r : Replay) → let s = cond t (answered n part ended q) (bad_text r) in shown_lo s.row.state ≡ lo_of s.replay.started s.replay.model
 chosen_lo true n part ended q r = answered_lo n part ended q
-chosen_lo false n part ended q r = answered_lo 6 0 false r
+chosen_lo false n part ended q r = answered_lo 6 None false r
 
-read_lo : (r : Replay) (l : Line) → (read_line r l).row.state.lo ≡ bound (read_line r l).replay.model.lower.inflight
+read_lo : (r : Replay) (l : Line) → let s = read_line r l in shown_lo s.row.state ≡ lo_of s.replay.started s.replay.model
 unfolding read_line start_read sent_read event_read answered_by
-read_lo r (Refused k) = answered_lo 6 0 false (counted r)
+read_lo r (Refused k) = answered_lo 6 None false (counted r)
 read_lo r (Start time rtt) = answered_lo _ _ _ _
 read_lo r (Sent time inflight packet bytes) = chosen_lo (counted r).started _ _ _ _ (counted r)
 read_lo r (Event e) = chosen_lo (counted r).started _ _ _ _ (counted r)
 
-step_lo : (r : Replay) (l : List ℕ) → (stepped r l).row.state.lo ≡ bound (stepped r l).replay.model.lower.inflight
+step_lo : (r : Replay) (l : List ℕ) → let s = stepped r l in shown_lo s.row.state ≡ lo_of s.replay.started s.replay.model
 unfolding stepped
 step_lo r l = read_lo r (line_of l)
 
@@ -219,10 +223,10 @@ module _ (parts : ℕ) where
   -- ---- for any theorem of runs of calls
   module _ (Near : Option ℕ → Exact → Type 0) (none-set : Near None unset)
       (theorem : (p : Params) (rtt : Duration) (now : Moment) (y : Cycle) (calls : List Call) → Along P calls (started p rtt now y) → Near (inflight_low (run calls (started p rtt now y))) (exact_run inflight_effect parts calls (started p rtt now y) unset)) where
-    near : (t : Bool) (m : NetworkModel) (x : Exact) → Inv t m x → Near (bound m.lower.inflight) x
-    unfolding bound inflight_low
-    near t m x (idle f u e) = subst (λ (v : Exact). Near (cond (eqb m.lower.inflight (2 ^ 64 - 1)) None (Some m.lower.inflight)) v) (sym e) (rw (eq-eqb m.lower.inflight (2 ^ 64 - 1) u) none-set)
-    near t m x (on y f r) = of_reached inflight_effect parts P (λ s x. Near (inflight_low s) x) theorem (pair m y) x r
+    near : (t : Bool) (m : NetworkModel) (x : Exact) → Inv t m x → Near (lo_of t m) x
+    unfolding Read.state_of bound inflight_low
+    near t m x (idle f u e) = rw (f, e) none-set
+    near t m x (on y f r) = rw f (of_reached inflight_effect parts P (λ s x. Near (inflight_low s) x) theorem (pair m y) x r)
 
     in_rows : InRows parts Near
     in_rows lines last s =
@@ -230,7 +234,7 @@ module _ (parts : ℕ) where
         let x = exact_lines parts begin (lines ++ (last ∷ [])) unset in
         let inv = lines_inv (lines ++ (last ∷ [])) begin unset s begins_idle in
         subst (λ (n : Option ℕ). Near n x)
-        (sym (step_lo (after begin lines) last ∙ ap (λ (r : Replay). bound r.model.lower.inflight) (sym (after_last begin lines last))))
+        (sym (step_lo (after begin lines) last ∙ ap (λ (r : Replay). lo_of r.started r.model) (sym (after_last begin lines last))))
         (near q.started q.model x inv)
 
 -- ---- less than k bytes and less than 1 / (1 - b), and so under 3.34

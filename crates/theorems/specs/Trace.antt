@@ -2,7 +2,7 @@
 -- value of inflight_lo beside a replay (crates/trace/specs/Replay.antt), by the rules of
 -- crates/drift/specs/Exact.antt on the calls that the lines make. Definitions only; Theorems.antt says how to read
 -- them.
-use Rattle.std.specs.Prelude.{ℕ, ◌^◌, ◌≤◌, cond, List, [], ◌∷◌, ◌++◌, ◌≡◌, length, Option}
+use Rattle.std.specs.Prelude.{ℕ, ◌^◌, ◌≤◌, cond, List, [], ◌∷◌, ◌++◌, ◌≡◌, length, Option, None, Some}
 use Rattle.std.proofs.lemmas.List.Edits.{sets}
 use Rattle.state.specs.declared.network_model.NetworkModel.{NetworkModel}
 use Rattle.state.specs.Answers.{settled, zero_moment}
@@ -16,6 +16,7 @@ use Rattle.text.specs.declared.line.Line.TheVariants.{Refused, Start, Sent, Even
 use Rattle.text.specs.Line.{line_of}
 use Rattle.text.specs.Word.{same}
 use Rattle.rows.specs.Digits.{Put}
+use Rattle.rows.specs.declared.row.State as shown
 use Rattle.rows.specs.Row.{row_text}
 use Rattle.trace.specs.declared.replay.Replay.{Replay}
 use Rattle.trace.specs.Made.{params, acked_by, record_of, sample_of}
@@ -105,8 +106,13 @@ SmallLines r [] = Unit {0}
 SmallLines r (l ∷ ls) =
     ((stepped r l).row.refusal ≡ 0 → window_of (line_of l) ≤ 2 ^ 24) × SmallLines (stepped r l).replay ls
 
+-- the lo that a row shows: none, as long as the state is not shown
+abbrev pub shown_lo : Option shown.State → Option ℕ
+shown_lo None = None
+shown_lo (Some s) = s.lo
+
 -- of any lines from the beginning of a replay, the lo that the row of the last one shows is near the exact one
 abbrev pub InRows : (parts : ℕ) (Near : Option ℕ → Exact → Type 0) → Type 0
 InRows parts Near =
     (lines : List (List ℕ)) (last : List ℕ) → SmallLines begin (lines ++ (last ∷ [])) →
-    Near (stepped (after begin lines) last).row.state.lo (exact_lines parts begin (lines ++ (last ∷ [])) unset)
+    Near (shown_lo (stepped (after begin lines) last).row.state) (exact_lines parts begin (lines ++ (last ∷ [])) unset)

@@ -8,16 +8,12 @@ use Rattle.trace.proofs.made as made
 use Rattle.trace.proofs.placed as placed
 use Rattle.trace.proofs.replay.Replay as replay
 use Rattle.trace.proofs.stream as stream
-use Rattle.trace.proofs.tally as tally
 
 pub one_is_begun : OneReply made.is_begun.Reads.Learnt
 one_is_begun κ a x y s t p q = p ∙ sym q
 
 pub one_placed : OneReply placed.placed.Reads.Learnt
 one_placed κ a x y s t p q = p ∙ sym q
-
-pub one_one_more : OneReply tally.one_more.Reads.Learnt
-one_one_more κ a x y s t p q = p ∙ sym q
 
 pub one_new : OneReply replay.new.Reads.Learnt
 one_new κ a x y s t p q = p ∙ sym q

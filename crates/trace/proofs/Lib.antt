@@ -2,6 +2,7 @@
 pub mod Steps
 pub mod Occur
 pub mod Streams
+pub mod Counts
 pub mod Moves
 pub mod Ran
 pub mod Pieces

@@ -1,27 +1,16 @@
 -- Bytes moved to the front. Assumes nothing.
-use Prim.Native.Nat.{ℕ, ◌+◌, ◌-◌, ◌<◌, ◌≤◌, min}
+use Prim.Native.Nat.{ℕ, ◌+◌, ◌-◌, ◌≤◌, min}
 use mathlib.Core.Path.{◌≡◌, refl, sym, ap, ◌∙◌}
 use mathlib.Core.Bool.{Bool, true, false}
-use mathlib.Core.List.{List, ◌++◌}
+use mathlib.Core.List.{List}
 use native.Mathlib.Omega.{arith}
-use native.Mathlib.Numerals.{add-one}
-use native.Mathlib.Nat.{add_comm, zero-add}
+use native.Mathlib.Nat.{zero-add}
 use lib.Dec.{leb}
-use lib.ListN.{length, take, drop, get_or, set, length-take, length-drop, take-append-drop}
-use lib.Seq.{take-suc, take-suc-set, get_or-drop, drop-set-lt, drop-drop, take-take, take_all, sets, sets-eq}
+use lib.ListN.{length, take, drop, length-take, length-drop}
+use Rattle.std.specs.List.{copy_within}
+use lib.Seq.{take-take, take_all, sets, sets-eq}
 use borrow.Author.Tests.{leb-true, leb-false}
 use Rattle.trace.specs.Stream.{kept_of, between}
-
--- one byte moved to the front
-pub move_front : (b b₀ : List ℕ) (at i : ℕ) → i < length b → at + i < length b₀ → take i b ≡ take i (drop at b₀) → drop i b ≡ drop i b₀ → i < length (drop at b₀) → take (i + 1) (set b i (get_or b (at + i) 0)) ≡ take (i + 1) (drop at b₀)
-move_front b b₀ at i h g e f k =
-    let v : get_or b (at + i) 0 ≡ get_or b₀ (at + i) 0 = ap (λ (n : ℕ). get_or b n 0) (add_comm at i) ∙ sym (get_or-drop i b at 0) ∙ ap (λ (l : List ℕ). get_or l at 0) f ∙ get_or-drop i b₀ at 0 ∙ ap (λ (n : ℕ). get_or b₀ n 0) (add_comm i at) in
-    rw (add-one i, take-suc-set b i (get_or b (at + i) 0) h, take-suc (drop at b₀) i 0 k, e, v, get_or-drop at b₀ i 0)
-
-pub move_back : (b b₀ : List ℕ) (i v : ℕ) → drop i b ≡ drop i b₀ → drop (i + 1) (set b i v) ≡ drop (i + 1) b₀
-move_back b b₀ i v f =
-    let q : i < i + 1 = omega arith in
-    drop-set-lt (i + 1) b i v q ∙ sym (drop-drop 1 i b) ∙ ap (drop 1) f ∙ drop-drop 1 i b₀
 
 -- how many they are
 pub kept_length : (l : List ℕ) (at end : ℕ) → length (kept_of (between l at end)) ≡ min (min end (length l) - at) 4097
@@ -75,11 +64,18 @@ kept_is l at end n e = go (leb (end - at) 4097) refl
         let w : 4097 ≤ end - at = omega (arith, h) in
         whole ∙ ap (λ (k : ℕ). take k (drop at l)) u ∙ sym (take-take 4097 (end - at) (drop at l) w)
 
--- a list whose first n are these and whose others are as they were
-pub moved : (b b₀ t : List ℕ) (n : ℕ) → n ≡ length t → n ≤ length b₀ → take n b ≡ t → drop n b ≡ drop n b₀ → b ≡ sets b₀ 0 t
-moved b b₀ t n e l p q =
-    let w = sets-eq t b₀ 0 (omega (arith, e, l)) in
-    sym (take-append-drop n b) ∙ (λ i. p i ++ q i) ∙ ap (λ (k : ℕ). t ++ drop k b₀) e ∙ ap (λ (k : ℕ). t ++ drop k b₀) (sym (zero-add (length t))) ∙ sym w
+-- a copy of them to the front, from where they stand
+pub moved : (l : List ℕ) (at end a n : ℕ) → a ≡ min at (min end (length l)) → n ≡ min (min end (length l) - at) 4097 → copy_within l a (a + n) 0 ≡ sets l 0 (kept_of (between l at end))
+moved l at end a n e f =
+    let t = kept_of (between l at end) in
+    let k : n ≡ length t = f ∙ sym (kept_length l at end) in
+    let q : a + n - a ≡ n = omega arith in
+    let from : take n (drop a l) ≡ t = start (leb at (min end (length l))) refl ∙ kept_is l at end n f in
+    rw (q, from, k, zero-add) (sym (sets-eq t l 0 (omega (arith, k, e, f)) ∙ rw zero-add))
+  where
+    start : (b : Bool) → leb at (min end (length l)) ≡ b → take n (drop a l) ≡ take n (drop at l)
+    start true b = let h = leb-true at (min end (length l)) b in let u : a ≡ at = omega (arith, h, e) in rw u
+    start false b = let h = leb-false at (min end (length l)) b in let u : n ≡ 0 = omega (arith, h, f) in rw u
 
 -- at most 4,097 are kept
 pub kept_few : (n : ℕ) (p : List ℕ) → n ≡ length (kept_of p) → n ≤ 4097

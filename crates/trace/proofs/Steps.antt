@@ -18,7 +18,7 @@ use Rattle.text.specs.declared.line.Line.{Line}
 use Rattle.text.specs.declared.line.Line.TheVariants.{Refused, Start, Sent, Event}
 use Rattle.trace.specs.Made.{params, moment, duration, record_of, sample_of, occurs_number, occurs_next, ends_round}
 use Rattle.trace.specs.Placed.{early, placed_at}
-use Rattle.trace.specs.Replay.{answered, answered_by, bad_text, counted, with_model, begun_with, start_read, sent_read, event_read, read_line}
+use Rattle.trace.specs.Replay.{part_of, answered, answered_by, bad_text, counted, with_model, begun_with, start_read, sent_read, event_read, read_line}
 use Rattle.trace.specs.declared.replay.Replay.{Replay}
 use Rattle.trace.specs.declared.replay.Stepped.{Stepped}
 
@@ -31,11 +31,11 @@ cond_false t a b h = rw h
 
 -- ---- as `answer` answers a reply
 abbrev Answers : Reply → Bool → Replay → Stepped → Type 0
-Answers reply ended next x = x ≡ answered (number reply) (kind_in (reply_word (number reply) (fault reply))) ended next
+Answers reply ended next x = x ≡ answered (number reply) (part_of (kind_in (reply_word (number reply) (fault reply)))) ended next
 
 answered_as : (n : ℕ) (faults : List ℕ) (ended : Bool) (next : Replay) (reply : Reply) (x : Stepped) → number reply ≡ n → fault reply ≡ named n (first faults) → Answers reply ended next x → x ≡ answered_by n faults ended next
 unfolding answered_by
-answered_as n faults ended next reply x p q e = e ∙ (λ i. answered (p i) (kind_in (reply_word (p i) (q i))) ended next)
+answered_as n faults ended next reply x p q e = e ∙ (λ i. answered (p i) (part_of (kind_in (reply_word (p i) (q i)))) ended next)
 
 pub start_is : (r next : Replay) (time rtt : ℕ) (p : Params) (reply : Reply) (m : NetworkModel) (done : Bool) (x : Stepped)
     → p ≡ params

@@ -4,10 +4,10 @@ use mathlib.Core.Path.{◌≡◌, refl, sym, ap, ◌∙◌}
 use mathlib.Core.Bool.{Bool, true, false, cond}
 use mathlib.Core.List.{List, [], ◌∷◌, ◌++◌, append_assoc}
 use native.Mathlib.Omega.{arith}
-use lib.Dec.{eqb, leb}
+use lib.Dec.{eqb}
 use lib.ListN.{length, take, drop, length-drop}
 use lib.Seq.{drop-drop, sets, length-take-le}
-use borrow.Author.Tests.{leb-true, leb-false, le-leb, lt-leb}
+use borrow.Author.Tests.{le-leb, lt-leb}
 use Rattle.rows.specs.Digits.{Put}
 use Rattle.rows.specs.Row.{row_text}
 use Rattle.rows.proofs.Decimals.{sets-append}
@@ -81,7 +81,6 @@ module _ (s : List ℕ) (at end : ℕ) (e : end ≡ at + length (to_lf (drop at 
 -- what `run` has done when it stands at `at`, with `written` bytes written
 pub record Done (r₀ : Replay) (s : List ℕ) (from : ℕ) (out₀ out : List ℕ) (r : Replay) (at written : ℕ) : Type 0 where
   pub same : length out ≡ length out₀
-  pub inside : at ≤ length s
   pub ran_is : ran_of r₀ (lines_from [] (drop from s)) from 0 (length out₀) ≡ ran_of r (lines_from [] (drop at s)) at written (length out₀)
   pub text_is : sets out₀ 0 (ran_text r₀ (lines_from [] (drop from s)) 0 (length out₀)) ≡ sets out written (ran_text r (lines_from [] (drop at s)) written (length out₀))
 
@@ -94,8 +93,8 @@ RunIs r₀ s from out₀ out r at written =
     (ran r at written ≡ ran_of r₀ (lines_from [] (drop from s)) from 0 (length out₀))
     × (out ≡ sets out₀ 0 (ran_text r₀ (lines_from [] (drop from s)) 0 (length out₀)))
 
-pub done_none : (r : Replay) (s : List ℕ) (from : ℕ) (out : List ℕ) → from ≤ length s → Done r s from out out r from 0
-done_none r s from out h = record { same = refl; inside = h; ran_is = refl; text_is = refl }
+pub done_none : (r : Replay) (s : List ℕ) (from : ℕ) (out : List ℕ) → Done r s from out out r from 0
+done_none r s from out = record { same = refl; ran_is = refl; text_is = refl }
 
 -- no line is left
 none_ran : (r : Replay) (ls : List (List ℕ)) (at written room : ℕ) → ls ≡ [] → ran_of r ls at written room ≡ ran r at written
@@ -117,45 +116,32 @@ unfolding ran_text
 full_text r [] written room h = refl
 full_text r (l ∷ ls) written room h = rw (lt-leb (written + 148) room h)
 
-pub run_past : (r : Replay) (s : List ℕ) (from : ℕ) (out : List ℕ) → length s < from → RunIs r s from out out r from 0
-run_past r s from out h =
-    let z : lines_from [] (drop from s) ≡ [] = lines_none [] (drop from s) (let l = length-drop from s in let a = lf_le (drop from s) in omega arith) in
-    (sym (none_ran r (lines_from [] (drop from s)) from 0 (length out) z), sym (ap (sets out 0) (none_text r (lines_from [] (drop from s)) 0 (length out) z)))
-
-pub run_small : (r : Replay) (s : List ℕ) (from : ℕ) (out : List ℕ) → length out < 148 → RunIs r s from out out r from 0
-run_small r s from out h =
-    (sym (full_ran r (lines_from [] (drop from s)) from 0 (length out) (omega arith)), sym (ap (sets out 0) (full_text r (lines_from [] (drop from s)) 0 (length out) (omega arith))))
-
 module _ (r₀ : Replay) (s : List ℕ) (from : ℕ) (out₀ out : List ℕ) (r : Replay) (at written : ℕ) (d : Done r₀ s from out₀ out r at written) where
   pub run_full : length out₀ < written + 148 → RunIs r₀ s from out₀ out r at written
   run_full h =
       (sym (d.ran_is ∙ full_ran r (lines_from [] (drop at s)) at written (length out₀) h), sym (d.text_is ∙ ap (sets out written) (full_text r (lines_from [] (drop at s)) written (length out₀) h)))
 
+  -- no line is left: it stands past the end, or no line feed follows
+  run_none : lines_from [] (drop at s) ≡ [] → RunIs r₀ s from out₀ out r at written
+  run_none z =
+      (sym (d.ran_is ∙ none_ran r (lines_from [] (drop at s)) at written (length out₀) z), sym (d.text_is ∙ ap (sets out written) (none_text r (lines_from [] (drop at s)) written (length out₀) z)))
+
+  pub run_past : length s ≤ at → RunIs r₀ s from out₀ out r at written
+  run_past h = run_none (lines_none [] (drop at s) (let l = length-drop at s in let a = lf_le (drop at s) in omega arith))
+
   module _ (end : ℕ) (e : end ≡ at + length (to_lf (drop at s))) where
-    pub end_le : end ≤ length s
-    end_le = let a = d.inside in let b = lf_le (drop at s) in let l = length-drop at s in omega arith
+    pub run_over : length s ≤ end → RunIs r₀ s from out₀ out r at written
+    run_over h = run_none (line_none s at end e h)
 
-    pub end_lt : (end ≡ length s → ⊥) → end < length s
-    end_lt h = let a = end_le in go a (leb (length s) end) refl
-      where
-        go : end ≤ length s → (q : Bool) → leb (length s) end ≡ q → end < length s
-        go a true w = absurd (h (let g = leb-true (length s) end w in omega arith))
-        go a false w = leb-false (length s) end w
-
-    pub run_over : end ≡ length s → RunIs r₀ s from out₀ out r at written
-    run_over h =
-        let z : lines_from [] (drop at s) ≡ [] = line_none s at end e (omega (arith, h)) in
-        (sym (d.ran_is ∙ none_ran r (lines_from [] (drop at s)) at written (length out₀) z), sym (d.text_is ∙ ap (sets out written) (none_text r (lines_from [] (drop at s)) written (length out₀) z)))
-
-    module _ (h : end ≡ length s → ⊥) (fits : written + 148 ≤ length out₀) (x : Stepped) (xe : x ≡ stepped r (take (end + 1 - at) (drop at s))) (out' : List ℕ) (next : ℕ) (p : Put out out' written (row_text x.row) next) where
+    module _ (h : end < length s) (fits : written + 148 ≤ length out₀) (x : Stepped) (xe : x ≡ stepped r (take (end + 1 - at) (drop at s))) (out' : List ℕ) (next : ℕ) (p : Put out out' written (row_text x.row) next) where
       split : lines_from [] (drop at s) ≡ take (end + 1 - at) (drop at s) ∷ lines_from [] (drop (end + 1) s)
-      split = line_split s at end e (end_lt h)
+      split = line_split s at end e h
 
       ran_next : ran_of r (lines_from [] (drop at s)) at written (length out₀) ≡ ran_of x.replay (lines_from [] (drop (end + 1) s)) (end + 1) next (length out₀)
       unfolding ran_of
       ran_next =
           ap (λ (ls : List (List ℕ)). ran_of r ls at written (length out₀)) split
-          ∙ rw (le-leb (written + 148) (length out₀) fits, ← xe, line_length s at end e (end_lt h), ← p.next)
+          ∙ rw (le-leb (written + 148) (length out₀) fits, ← xe, line_length s at end e h, ← p.next)
 
       text_next : sets out written (ran_text r (lines_from [] (drop at s)) written (length out₀)) ≡ sets out' next (ran_text x.replay (lines_from [] (drop (end + 1) s)) next (length out₀))
       unfolding ran_text
@@ -168,7 +154,6 @@ module _ (r₀ : Replay) (s : List ℕ) (from : ℕ) (out₀ out : List ℕ) (r 
       done_next =
           record {
             same = p.kept ∙ d.same;
-            inside = let a = end_lt h in omega arith;
             ran_is = d.ran_is ∙ ran_next;
             text_is = d.text_is ∙ text_next;
           }

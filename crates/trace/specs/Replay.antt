@@ -1,6 +1,7 @@
 -- A replay: document 02, request j. "Each line shows the state after it, a refused line the unchanged one; the replay
 -- goes on. Before an accepted start, the state columns are empty. A second start begins afresh."
 use Rattle.std.specs.Prelude.{ℕ, ◌-◌, ◌^◌, Bool, true, false, cond, List, eqb, Option, None, Some}
+use Rattle.std.specs.Bool.{then_some}
 use Rattle.units.specs.Reply.{kind_in}
 use Rattle.filters.specs.MaxBandwidthFilter.{max_get}
 use Rattle.state.specs.declared.network_model.NetworkModel.{NetworkModel}
@@ -37,12 +38,12 @@ state_of m =
       hi = bound m.high;
     }
 
-unfoldable pub row_of : Replay → (refusal part : ℕ) → Row
+unfoldable pub row_of : Replay → (refusal : ℕ) (part : Option ℕ) → Row
 row_of r refusal part =
-    record { line = r.line; refusal = refusal; part = part; shown = r.started; state = state_of r.model }
+    record { line = r.line; refusal = refusal; part = part; state = then_some r.started (state_of r.model) }
 
 -- a line is answered: r is the replay after it, but for the tally; `ended` says that a round ended with it
-unfoldable pub answered : (refusal part : ℕ) (ended : Bool) → Replay → Stepped
+unfoldable pub answered : (refusal : ℕ) (part : Option ℕ) (ended : Bool) → Replay → Stepped
 answered refusal part ended r =
     record {
       replay = record {
@@ -54,13 +55,17 @@ answered refusal part ended r =
       row = row_of r refusal part;
     }
 
+-- the part of a 2 is the kind of its bound; no other refusal has one, and its kind is 0
+abbrev pub part_of : (kind : ℕ) → Option ℕ
+part_of kind = cond (eqb kind 0) None (Some kind)
+
 -- "2 is written 2.1 to 2.9": a call's number, and the kind of the first of its faults where that is 2
 unfoldable pub answered_by : (number : ℕ) (faults : List ℕ) (ended : Bool) → Replay → Stepped
-answered_by number faults ended r = answered number (kind_in (replied number (first faults))) ended r
+answered_by number faults ended r = answered number (part_of (kind_in (replied number (first faults)))) ended r
 
 -- refused with 6
 abbrev pub bad_text : Replay → Stepped
-bad_text r = answered 6 0 false r
+bad_text r = answered 6 None false r
 
 -- ---- the next line is counted, whatever it is
 unfoldable pub counted : Replay → Replay

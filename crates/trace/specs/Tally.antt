@@ -1,5 +1,7 @@
 -- What a summary at the end counts, line by line.
-use Rattle.std.specs.Prelude.{ℕ, min, ◌+◌, ◌-◌, ◌^◌, Bool, cond, not, ◌&&◌, eqb}
+use Rattle.std.specs.Prelude.{ℕ, min, ◌+◌, ◌-◌, ◌^◌, Bool, cond, not, ◌&&◌, eqb, Option, None, Some}
+use Rattle.std.specs.Bool.{then_some}
+use Rattle.std.specs.Option.{option_eq, option_or}
 use Rattle.rows.specs.declared.row.Row.{Row}
 use Rattle.trace.specs.declared.tally.Tally.{Tally}
 
@@ -16,7 +18,7 @@ no_tally =
     record {
       rounds = 0;
       lowest = 2 ^ 64 - 1;
-      first = 0;
+      first = None;
       refused = 0;
       text = 0;
       stored = 0;
@@ -32,8 +34,8 @@ no_tally =
       full = 0;
     }
 
-abbrev pub is : Row → (refusal part : ℕ) → Bool
-is r refusal part = eqb r.refusal refusal && eqb r.part part
+abbrev pub is : Row → (refusal : ℕ) (part : Option ℕ) → Bool
+is r refusal part = eqb r.refusal refusal && option_eq eqb r.part part
 
 -- after a row: `ended` says that a round ended, `lo` is inflight_lo as it is stored, 2^64 - 1 where it is unset
 unfoldable pub tallied : Tally → (ended : Bool) (lo : ℕ) → Row → Tally
@@ -42,19 +44,19 @@ tallied t ended lo r =
       rounds = grown ended t.rounds;
       lowest = min t.lowest lo;
       -- the line of the first refusal
-      first = cond (eqb t.first 0 && not (eqb r.refusal 0)) r.line t.first;
+      first = option_or t.first (then_some (not (eqb r.refusal 0)) r.line);
       refused = grown (not (eqb r.refusal 0)) t.refused;
       -- refusals by their number: 6, 1, 2.1 to 2.5 and 2.9, 3, 4, 10, 5
-      text = grown (is r 6 0) t.text;
-      stored = grown (is r 1 0) t.stored;
-      window = grown (is r 2 1) t.window;
-      bytes = grown (is r 2 2) t.bytes;
-      bandwidth = grown (is r 2 3) t.bandwidth;
-      length = grown (is r 2 4) t.length;
-      total = grown (is r 2 5) t.total;
-      moment = grown (is r 2 9) t.moment;
-      earlier = grown (is r 3 0) t.earlier;
-      lower = grown (is r 4 0) t.lower;
-      unsent = grown (is r 10 0) t.unsent;
-      full = grown (is r 5 0) t.full;
+      text = grown (is r 6 None) t.text;
+      stored = grown (is r 1 None) t.stored;
+      window = grown (is r 2 (Some 1)) t.window;
+      bytes = grown (is r 2 (Some 2)) t.bytes;
+      bandwidth = grown (is r 2 (Some 3)) t.bandwidth;
+      length = grown (is r 2 (Some 4)) t.length;
+      total = grown (is r 2 (Some 5)) t.total;
+      moment = grown (is r 2 (Some 9)) t.moment;
+      earlier = grown (is r 3 None) t.earlier;
+      lower = grown (is r 4 None) t.lower;
+      unsent = grown (is r 10 None) t.unsent;
+      full = grown (is r 5 None) t.full;
     }

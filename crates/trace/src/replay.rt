@@ -1,10 +1,10 @@
 // A replay: the state after a line, and the row that shows it.
 ghost use Rattle.std.specs.Prelude.{◌≡◌, cond};
 ghost use Rattle.units.specs.Reply.{number, fault, reply_word, kind_in};
-ghost use Rattle.trace.specs.Replay.{begin, bound, state_of, answered, counted, begun_with, start_read, sent_read, event_read, read_line, stepped};
+ghost use Rattle.trace.specs.Replay.{begin, bound, state_of, part_of, answered, counted, begun_with, start_read, sent_read, event_read, read_line, stepped};
 
 use crate::made::{occur, original_params};
-use crate::tally::{Tally, one_more};
+use crate::tally::Tally;
 use changes::on_packet_sent;
 use rows::row::{Row, State};
 use state::NetworkModel;
@@ -54,10 +54,12 @@ fn state_of(model: NetworkModel) -> State
     }
 }
 
-fn kind_of(word: u64) -> u64
-    ensures { result ≡ kind_in word }
+// The part of a refusal, by the reply's word: the kind of the bound.
+fn part_of(word: u64) -> Option<u64>
+    ensures { result ≡ part_of (kind_in word) }
 {
-    word / 256 % 256
+    let kind = word / 256 % 256;
+    if kind == 0 { None } else { Some(kind) }
 }
 
 impl Replay {
@@ -79,7 +81,7 @@ impl Replay {
     fn count(self) -> Replay
         ensures { result ≡ counted self }
     {
-        let line = one_more(self.line);
+        let line = self.line.saturating_add(1);
         let mut next = self;
         next.line = line;
         next
@@ -87,21 +89,16 @@ impl Replay {
 
     // A line's row, and the tally with it.
     fn answer(self, reply: Reply, ended: bool) -> Stepped
-        ensures { result ≡ answered (number reply) (kind_in (reply_word (number reply) (fault reply))) ended self }
+        ensures { result ≡ answered (number reply) (part_of (kind_in (reply_word (number reply) (fault reply)))) ended self }
     {
-        let model = self.model;
-        let state = state_of(model);
         let row = Row {
             line: self.line,
             refusal: reply.row(),
-            part: kind_of(reply.word()),
-            shown: self.started,
-            state,
+            part: part_of(reply.word()),
+            state: self.started.then_some(state_of(self.model)),
         };
-        let was = self.tally;
-        let tally = was.count(ended, model.lower.inflight, row);
         let mut replay = self;
-        replay.tally = tally;
+        replay.tally = self.tally.count(ended, self.model.lower.inflight, row);
         Stepped { replay, row }
     }
 

@@ -1,6 +1,6 @@
 // The lines of an input that comes in pieces. The bytes of a line that is not ended yet, at most 4,097 of them, stand before
 // the next piece.
-ghost use Rattle.std.specs.Prelude.{◌≡◌, [], ◌-◌, min, length, take, drop};
+ghost use Rattle.std.specs.Prelude.{◌≡◌, [], length, drop};
 ghost use Rattle.std.proofs.lemmas.List.Edits.{sets};
 ghost use Rattle.trace.specs.Stream.{lines_from, ran_of, ran_text, kept_of, between};
 
@@ -23,63 +23,25 @@ pub fn run(replay: Replay, s: &[u8], from: usize, out: &mut [u8]) -> Ran
         0
         (ran_text replay (lines_from [] (drop from s.now)) 0 (length out.old)) }
 {
-    let mut cur = replay;
-    let mut at = from;
-    let mut written: usize = 0;
-    let room = out.len();
-    if s.len() < from {
-        return Ran {
-            replay: cur,
-            at,
-            written,
-        };
-    }
-    if room < 148 {
-        return Ran {
-            replay: cur,
-            at,
-            written,
-        };
-    }
-    let last = room - 148;
-    while written <= last {
-        let end = end_of(s, at, b'\n');
-        if end == s.len() {
-            return Ran {
-                replay: cur,
-                at,
-                written,
-            };
+    let mut ran = Ran {
+        replay,
+        at: from,
+        written: 0,
+    };
+    while ran.at < s.len() && 148 <= out.len() - ran.written {
+        let end = end_of(s, ran.at, b'\n');
+        if s.len() <= end {
+            break;
         }
         let after = end + 1;
-        let stepped = cur.step(&s[at..after]);
-        let row = stepped.row;
-        written = put_row(out, written, row);
-        cur = stepped.replay;
-        at = after;
+        let stepped = ran.replay.step(&s[ran.at..after]);
+        ran = Ran {
+            replay: stepped.replay,
+            at: after,
+            written: put_row(out, ran.written, stepped.row),
+        };
     }
-    Ran {
-        replay: cur,
-        at,
-        written,
-    }
-}
-
-fn least(a: usize, b: usize) -> usize
-    ensures { result ≡ min a b }
-{
-    if a < b { a } else { b }
-}
-
-// How many of the bytes from one index to another are kept, of so many that there are.
-fn kept_count(len: usize, at: usize, end: usize) -> usize
-    ensures { result ≡ min (min end len - at) 4097 }
-{
-    let last = least(end, len);
-    if last < at {
-        return 0;
-    }
-    least(last - at, 4097)
+    ran
 }
 
 // Moves the bytes from one index to another, of which a line that is not ended consists, to the front, at most 4,097 of
@@ -88,11 +50,9 @@ pub fn keep(buf: &mut [u8], at: usize, end: usize) -> usize
     ensures counts { result ≡ length (kept_of (between buf.old at end)) }
     ensures moves { buf.new ≡ sets buf.old 0 (kept_of (between buf.old at end)) }
 {
-    let n = kept_count(buf.len(), at, end);
-    let mut i: usize = 0;
-    while i < n {
-        buf[i] = buf[at + i];
-        i += 1;
-    }
+    let end = end.min(buf.len());
+    let at = at.min(end);
+    let n = (end - at).min(4097);
+    buf.copy_within(at..at + n, 0);
     n
 }

@@ -1,17 +1,16 @@
 // What a summary at the end counts.
-ghost use Rattle.std.specs.Prelude.{◌≡◌, cond, not, ◌&&◌, eqb};
-ghost use Rattle.trace.specs.Tally.{one_more, grown, no_tally, tallied};
+ghost use Rattle.std.specs.Prelude.{◌≡◌};
+ghost use Rattle.trace.specs.Tally.{grown, is, tallied};
 
-use numbers::smaller;
 use rows::row::Row;
 
-// The rounds that ended; the lowest inflight_lo, or 2^64 - 1; the line of the first refusal, or 0; how many lines were
+// The rounds that ended; the lowest inflight_lo, or 2^64 - 1; the line of the first refusal; how many lines were
 // refused, and how many with 6, 1, 2.1 to 2.5, 2.9, 3, 4, 10 and 5.
 #[derive(Clone, Copy)]
 pub struct Tally {
     pub rounds: u64,
     pub lowest: u64,
-    pub first: u64,
+    pub first: Option<u64>,
     pub refused: u64,
     pub text: u64,
     pub stored: u64,
@@ -27,38 +26,26 @@ pub struct Tally {
     pub full: u64,
 }
 
-// One more, but not above 2^64 - 1.
-pub fn one_more(n: u64) -> u64
-    ensures { result ≡ one_more n }
-{
-    if n == 18_446_744_073_709_551_615 {
-        return n;
-    }
-    n + 1
-}
-
-fn grow(grows: bool, n: u64) -> u64
+// One more where it grows, but not above 2^64 - 1.
+fn grow(n: u64, grows: bool) -> u64
     ensures { result ≡ grown grows n }
 {
-    if grows { one_more(n) } else { n }
+    if grows { n.saturating_add(1) } else { n }
 }
 
-fn first_of(first: u64, refusal: u64, line: u64) -> u64
-    ensures { result ≡ cond (eqb first 0 && not (eqb refusal 0)) line first }
+// Whether a row has this refusal, and this part of it.
+fn is(row: Row, refusal: u64, part: Option<u64>) -> bool
+    ensures { result ≡ is row refusal part }
 {
-    if (first == 0) & (refusal != 0) {
-        line
-    } else {
-        first
-    }
+    row.refusal == refusal && row.part == part
 }
 
 impl Tally {
     // Nothing is counted yet.
     pub const NONE: Tally = Tally {
         rounds: 0,
-        lowest: 18_446_744_073_709_551_615,
-        first: 0,
+        lowest: u64::MAX,
+        first: None,
         refused: 0,
         text: 0,
         stored: 0,
@@ -78,27 +65,24 @@ impl Tally {
     pub(crate) fn count(self, ended: bool, lo: u64, row: Row) -> Tally
         ensures { result ≡ tallied self ended lo row }
     {
-        let n = row.refusal;
-        let part = row.part;
-        let whole = part == 0;
-        let two = n == 2;
+        let refused = row.refusal != 0;
         Tally {
-            rounds: grow(ended, self.rounds),
-            lowest: smaller(self.lowest, lo),
-            first: first_of(self.first, n, row.line),
-            refused: grow(n != 0, self.refused),
-            text: grow((n == 6) & whole, self.text),
-            stored: grow((n == 1) & whole, self.stored),
-            window: grow(two & (part == 1), self.window),
-            bytes: grow(two & (part == 2), self.bytes),
-            bandwidth: grow(two & (part == 3), self.bandwidth),
-            length: grow(two & (part == 4), self.length),
-            total: grow(two & (part == 5), self.total),
-            moment: grow(two & (part == 9), self.moment),
-            earlier: grow((n == 3) & whole, self.earlier),
-            lower: grow((n == 4) & whole, self.lower),
-            unsent: grow((n == 10) & whole, self.unsent),
-            full: grow((n == 5) & whole, self.full),
+            rounds: grow(self.rounds, ended),
+            lowest: self.lowest.min(lo),
+            first: self.first.or(refused.then_some(row.line)),
+            refused: grow(self.refused, refused),
+            text: grow(self.text, is(row, 6, None)),
+            stored: grow(self.stored, is(row, 1, None)),
+            window: grow(self.window, is(row, 2, Some(1))),
+            bytes: grow(self.bytes, is(row, 2, Some(2))),
+            bandwidth: grow(self.bandwidth, is(row, 2, Some(3))),
+            length: grow(self.length, is(row, 2, Some(4))),
+            total: grow(self.total, is(row, 2, Some(5))),
+            moment: grow(self.moment, is(row, 2, Some(9))),
+            earlier: grow(self.earlier, is(row, 3, None)),
+            lower: grow(self.lower, is(row, 4, None)),
+            unsent: grow(self.unsent, is(row, 10, None)),
+            full: grow(self.full, is(row, 5, None)),
         }
     }
 }

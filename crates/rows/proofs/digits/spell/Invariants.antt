@@ -1,13 +1,9 @@
--- `spell` meets its contract.
+-- `spell` meets its contract: the digits still to come, and those that stand.
+use Rattle.std.proofs.Common.{◌≡◌, length, drop, ◌++◌}
 use Rattle.rows.specs.Digits.{digits_of}
-use lib.Seq.{sets}
-use lib.ListN.{length}
-use mathlib.Core.Path.{◌≡◌}
-use Prim.Native.Nat.{◌≤◌}
 use Rattle.rows.proofs.digits.spell.Given as goal
 
 abbrev pub invariant-loop-i : goal.invariant-loop-i
-invariant-loop-i l = (l.i ≤ l.k) × (length l.out ≡ length l.initial.out) × (sets l.out l.at (digits_of l.i l.rest) ≡ sets l.initial.out l.at (digits_of l.k l.n))
-
-abbrev pub decreases-loop-i : goal.decreases-loop-i
-decreases-loop-i l = l.i
+invariant-loop-i l =
+    (length l.out ≡ length l.initial.out)
+    × (digits_of (length l.initial.out) l.n ≡ digits_of l.i l.rest ++ drop l.i l.out)

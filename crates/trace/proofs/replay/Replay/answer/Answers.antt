@@ -4,4 +4,4 @@ use Rattle.trace.proofs.replay.Replay.answer.Goals as goal
 
 pub returns : goal.returns
 unfolding answered row_of
-returns c = rw (c.count-tally.ensures, c.kind_of.ensures, c.word.ensures, c.row.ensures, c.state_of-state.ensures)
+returns c = rw (c.count-replay.ensures, c.part_of.ensures, c.word.ensures, c.row.ensures, c.then_some.ensures, c.state_of.ensures)
