@@ -1,3 +1,3 @@
 -- Laws, and theorems about the contracts.
-pub mod Room
+pub mod Rows
 pub mod Determined

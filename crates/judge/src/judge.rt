@@ -1,124 +1,79 @@
 // Calls that judge the round, by an event's record or by the parameters.
-ghost use Rattle.std.specs.Prelude.{◌≡◌, true, false, ◌+◌, ◌-◌, ◌*◌, ◌^◌, ltb, eqb};
-ghost use Rattle.units.specs.Reply.{number, fault};
+ghost use Rattle.std.specs.Prelude.{◌≡◌, true, false, ◌+◌, ltb};
+ghost use Rattle.units.specs.Reply.{number, fault, kept};
 ghost use Rattle.filters.specs.MaxBandwidthFilter.{max_get};
 ghost use Rattle.state.specs.Answers.{settled};
 ghost use Rattle.state.specs.Faults.{first, named, event_faults, gain_faults, whole_record};
-ghost use Rattle.judge.specs.Judge.{judged_number, is_given, is_due, is_expired, minrtt_expired, expire_next, is_too_high, has_grown, counts_flat, flat_after, growth_flat, growth_after, growth_full, growth_next, is_queueing, queue_after, queue_number, queue_next};
+ghost use Rattle.judge.specs.Judge.{judged_number, is_due, is_expired, expire_next, is_too_high, has_grown, counts_flat, growth_full, growth_next, is_queueing, queue_number, queue_next};
 
 use filters::MinRttFilter;
-use state::answers::Flag;
 use state::bounds::gain_ok;
 use state::congestion_event::{CongestionEvent, SendTimeState};
 use state::faults::{RecordFits, gain_fault};
-use state::network_model::Changed;
 use state::parts::{Growth, Round};
-use state::refusals::{Rows, refusal};
 use state::{NetworkModel, Params};
-use units::counter::FULL;
-use units::{Bandwidth, Duration, Moment, Reply};
-
-// A call's reply, the model after it, and its answer.
-#[derive(Clone, Copy)]
-pub struct Decided {
-    pub reply: Reply,
-    pub model: NetworkModel,
-    pub yes: bool,
-}
+use units::{Bandwidth, Duration, Moment, Refusal};
 
 // ---- maybe_expire_min_rtt
 
 // Whether the minimum round trip has expired; the event's sample then takes its place.
-pub fn maybe_expire_min_rtt(model: NetworkModel, params: Params, event: CongestionEvent) -> Decided
-    ensures reply { number result.reply ≡ judged_number model params event false }
-    ensures model { result.model ≡ settled (judged_number model params event false)
-        (expire_next model params event)
-        model }
-    ensures yes { result.yes ≡ settled (judged_number model params event false)
-        (is_expired event.rtt event.time model.minrtt params.period)
+#[tactic(auto, unfolding(crate::specs::Judge::judged_number, crate::specs::Judge::expire_next, state::specs::NetworkModel::with_minrtt, state::specs::Answers::settled))]
+pub fn maybe_expire_min_rtt(
+    model: &mut NetworkModel,
+    params: Params,
+    event: CongestionEvent,
+) -> Result<bool, Refusal>
+    ensures reply { number result ≡ judged_number model.old params event false }
+    ensures model { model.new ≡ settled (judged_number model.old params event false)
+        (expire_next model.old params event)
+        model.old }
+    ensures yes { kept result false ≡ settled (judged_number model.old params event false)
+        (is_expired event.rtt event.time model.old.minrtt params.period)
         false }
-    ensures fault { fault result.reply ≡ named (judged_number model params event false)
+    ensures fault { fault result ≡ named (judged_number model.old params event false)
         (first (event_faults whole_record event)) }
 {
-    let rtt = event.rtt;
-    let yes = is_given(rtt) & is_due(event.time, model.minrtt, params.period);
-    decide(
-        judged_reply(model, params, event, false),
-        model,
-        expire_next(model, params, event),
-        yes,
-    )
-}
-
-fn expire_next(model: NetworkModel, params: Params, event: CongestionEvent) -> NetworkModel
-    ensures { result ≡ expire_next model params event }
-{
-    let rtt = event.rtt;
-    let filter = minrtt_expired(rtt, event.time, model.minrtt, params.period);
-    let mut next = model;
-    next.minrtt = filter;
-    next
-}
-
-fn minrtt_expired(
-    sample: Option<Duration>,
-    now: Moment,
-    filter: MinRttFilter,
-    period: Duration,
-) -> MinRttFilter
-    ensures { result ≡ minrtt_expired sample now filter period }
-{
-    let Some(rtt) = sample else {
-        return filter;
+    judged(*model, params, event)?;
+    let Some(rtt) = event.rtt else {
+        return Ok(false);
     };
-    if is_due(now, filter, period) {
-        filter.force_update(rtt, now)
-    } else {
-        filter
+    let expired = is_due(event.time, model.minrtt, params.period);
+    if expired {
+        model.minrtt = MinRttFilter::new(rtt, event.time);
     }
-}
-
-fn is_given(sample: Option<Duration>) -> bool
-    ensures { result ≡ is_given sample }
-{
-    match sample {
-        None => false,
-        Some(_) => true,
-    }
+    Ok(expired)
 }
 
 // Whether the stored minimum is at least a period old.
+#[tactic(auto, unfolding(crate::specs::Judge::is_due))]
 fn is_due(now: Moment, filter: MinRttFilter, period: Duration) -> bool
     ensures { result ≡ is_due now filter period }
 {
-    let timestamp = filter.timestamp;
-    !now.is_before(timestamp.plus(period))
+    filter.timestamp.plus(period) <= now
 }
 
 // ---- is_inflight_too_high
 
 // Whether the round lost more than the threshold allows of what was in flight at the send.
+#[tactic(auto, unfolding(state::specs::Answers::settled))]
 pub fn is_inflight_too_high(
     model: NetworkModel,
     params: Params,
     event: CongestionEvent,
     limit: u64,
-) -> Flag
-    ensures reply { number result.reply ≡ judged_number model params event false }
-    ensures yes { result.yes ≡ settled (judged_number model params event false)
+) -> Result<bool, Refusal>
+    ensures reply { number result ≡ judged_number model params event false }
+    ensures yes { kept result false ≡ settled (judged_number model params event false)
         (is_too_high model.round event.state limit params.loss)
         false }
-    ensures fault { fault result.reply ≡ named (judged_number model params event false)
+    ensures fault { fault result ≡ named (judged_number model params event false)
         (first (event_faults whole_record event)) }
 {
-    let round = model.round;
-    let state = event.state;
-    Flag::of(
-        judged_reply(model, params, event, false),
-        is_too_high(round, state, limit, params.loss),
-    )
+    judged(model, params, event)?;
+    Ok(is_too_high(model.round, event.state, limit, params.loss))
 }
 
+#[tactic(auto, unfolding(crate::specs::Judge::is_too_high))]
 fn is_too_high(round: Round, state: SendTimeState, limit: u64, threshold: f32) -> bool
     ensures { result ≡ is_too_high round state limit threshold }
 {
@@ -132,98 +87,51 @@ fn is_too_high(round: Round, state: SendTimeState, limit: u64, threshold: f32) -
 // ---- has_bandwidth_growth
 
 // Whether the maximum bandwidth has grown past the threshold since the baseline was set.
-pub fn has_bandwidth_growth(model: NetworkModel, params: Params, event: CongestionEvent) -> Decided
-    ensures reply { number result.reply ≡ judged_number model params event (growth_full model params event) }
-    ensures model { result.model ≡ settled (judged_number model params event (growth_full model params event))
-        (growth_next model params event)
-        model }
-    ensures yes { result.yes ≡ settled (judged_number model params event (growth_full model params event))
-        (has_grown model.growth (max_get model.maxbw) params)
+#[tactic(auto, using(crate::proofs::Rows::full_last), unfolding(crate::specs::Judge::growth_full, crate::specs::Judge::growth_next, crate::specs::Judge::growth_after, crate::specs::Judge::growth_flat, crate::specs::Judge::flat_after, state::specs::NetworkModel::with_growth, state::specs::Answers::settled, state::specs::Faults::named))]
+pub fn has_bandwidth_growth(
+    model: &mut NetworkModel,
+    params: Params,
+    event: CongestionEvent,
+) -> Result<bool, Refusal>
+    ensures reply { number result ≡ judged_number model.old params event (growth_full model.old params event) }
+    ensures model { model.new ≡ settled (judged_number model.old params event (growth_full model.old params event))
+        (growth_next model.old params event)
+        model.old }
+    ensures yes { kept result false
+        ≡ settled (judged_number model.old params event (growth_full model.old params event))
+        (has_grown model.old.growth (max_get model.old.maxbw) params)
         false }
-    ensures fault { fault result.reply ≡ named (judged_number model params event (growth_full model params event))
+    ensures fault { fault result ≡ named (judged_number model.old params event (growth_full model.old params event))
         (first (event_faults whole_record event)) }
 {
-    let full = growth_full(model, params, event);
-    let reply = judged_reply(model, params, event, full);
-    if reply.is_done() {
-        let most = model.maxbw;
-        let growth = model.growth;
-        let state = event.state;
-        let best = most.get();
-        let yes = has_grown(growth, best, params);
-        let after = growth_after(growth, best, state, params);
-        let mut next = model;
-        next.growth = after;
-        Decided {
-            reply,
-            model: next,
-            yes,
-        }
-    } else {
-        Decided {
-            reply,
-            model,
-            yes: false,
-        }
+    judged(*model, params, event)?;
+    let most = model.maxbw.get();
+    if has_grown(model.growth, most, params) {
+        model.growth.baseline = most;
+        model.growth.flat = 0;
+        return Ok(true);
     }
-}
-
-fn growth_full(model: NetworkModel, params: Params, event: CongestionEvent) -> bool
-    ensures { result ≡ growth_full model params event }
-{
-    let most = model.maxbw;
-    let growth = model.growth;
-    let state = event.state;
-    !has_grown(growth, most.get(), params) & counts_flat(growth, state) & (growth.flat == FULL)
-}
-
-// The growth after the maximum is compared with the baseline.
-fn growth_after(growth: Growth, most: Bandwidth, state: SendTimeState, params: Params) -> Growth
-    requires { has_grown growth most params ≡ false → counts_flat growth state ≡ true
-        → eqb growth.flat (2 ^ 64 - 1) ≡ false }
-    ensures { result ≡ growth_after growth most state params }
-{
-    if has_grown(growth, most, params) {
-        let mut next = growth;
-        next.baseline = most;
-        next.flat = 0;
-        next
-    } else {
-        growth_flat(growth, state, params)
+    if counts_flat(model.growth, event.state) {
+        model.growth.flat = model
+            .growth
+            .flat
+            .checked_add(1)
+            .ok_or(Refusal::FullCounter)?;
     }
+    model.growth.reached |= event.state.valid
+        & (params.rounds <= model.growth.flat)
+        & !event.state.applimited;
+    Ok(false)
 }
 
-fn growth_flat(growth: Growth, state: SendTimeState, params: Params) -> Growth
-    requires { counts_flat growth state ≡ true → eqb growth.flat (2 ^ 64 - 1) ≡ false }
-    ensures { result ≡ growth_flat growth state params }
-{
-    let flat = flat_after(growth, state);
-    let mut next = growth;
-    next.flat = flat;
-    next.reached = growth.reached | (state.valid & (params.rounds <= flat) & !state.applimited);
-    next
-}
-
-// rounds_without_bandwidth_growth after a round without growth.
-fn flat_after(growth: Growth, state: SendTimeState) -> u64
-    requires { counts_flat growth state ≡ true → eqb growth.flat (2 ^ 64 - 1) ≡ false }
-    ensures { result ≡ flat_after growth state }
-{
-    if counts_flat(growth, state) {
-        growth.flat + 1
-    } else {
-        growth.flat
-    }
-}
-
+#[tactic(auto, unfolding(crate::specs::Judge::has_grown))]
 fn has_grown(growth: Growth, most: Bandwidth, params: Params) -> bool
     ensures { result ≡ has_grown growth most params }
 {
-    let baseline = growth.baseline;
-    let threshold = baseline.mul_f32(params.growth);
-    threshold.0 <= most.0
+    growth.baseline.mul_f32(params.growth) <= most
 }
 
+#[tactic(auto, unfolding(crate::specs::Judge::counts_flat))]
 fn counts_flat(growth: Growth, state: SendTimeState) -> bool
     ensures { result ≡ counts_flat growth state }
 {
@@ -233,44 +141,44 @@ fn counts_flat(growth: Growth, state: SendTimeState) -> bool
 // ---- check_persistent_queue
 
 // The round is judged for a queue that does not drain.
-pub fn check_persistent_queue(model: NetworkModel, params: Params, gain: f32) -> Changed
-    ensures reply { number result.reply ≡ queue_number model params gain }
-    ensures model { result.model ≡ settled (queue_number model params gain) (queue_next model params gain) model }
-    ensures fault { fault result.reply ≡ named (queue_number model params gain) (first (gain_faults true gain)) }
+#[tactic(auto, unfolding(crate::specs::Judge::queue_number, crate::specs::Judge::queue_next, crate::specs::Judge::queue_after, state::specs::Refusals::row_of, state::specs::NetworkModel::with_growth, state::specs::Answers::settled, state::specs::Faults::named))]
+pub fn check_persistent_queue(
+    model: &mut NetworkModel,
+    params: Params,
+    gain: f32,
+) -> Result<(), Refusal>
+    ensures reply { number result ≡ queue_number model.old params gain }
+    ensures model { model.new ≡ settled (queue_number model.old params gain)
+        (queue_next model.old params gain)
+        model.old }
+    ensures fault { fault result ≡ named (queue_number model.old params gain) (first (gain_faults true gain)) }
 {
-    let queueing = is_queueing(model, gain);
-    let reply = queue_reply(model, params, gain, queueing);
-    if reply.is_done() {
-        let growth = model.growth;
-        let after = queue_after(growth, queueing, params);
-        let mut next = model;
-        next.growth = after;
-        Changed { reply, model: next }
-    } else {
-        Changed { reply, model }
+    if !(model.ok() & params.ok()) {
+        return Err(Refusal::OutOfBounds);
     }
+    if !gain_ok(gain) {
+        return Err(Refusal::BadArgument(gain_fault(true, gain)));
+    }
+    if !is_queueing(*model, gain) {
+        model.growth.queueing = 0;
+        return Ok(());
+    }
+    let rounds = model
+        .growth
+        .queueing
+        .checked_add(1)
+        .ok_or(Refusal::FullCounter)?;
+    model.growth.queueing = rounds;
+    model.growth.reached |= params.queueing <= rounds;
+    Ok(())
 }
 
-fn queue_reply(model: NetworkModel, params: Params, gain: f32, queueing: bool) -> Reply
-    requires { queueing ≡ is_queueing model gain }
-    ensures reply { number result ≡ queue_number model params gain }
-    ensures fault { fault result ≡ named (queue_number model params gain) (first (gain_faults true gain)) }
-{
-    let full = queueing & (model.growth.queueing == FULL);
-    let rows = Rows {
-        stored: !(model.ok() & params.ok()),
-        argument: !gain_ok(gain),
-        full,
-        ..Rows::NONE
-    };
-    refusal(rows, gain_fault(true, gain))
-}
-
+// Whether the least in flight of the round is at least the target, the larger of two products.
+#[tactic(auto, unfolding(crate::specs::Judge::is_queueing, crate::specs::Judge::queue_target))]
 fn is_queueing(model: NetworkModel, gain: f32) -> bool
     ensures { result ≡ is_queueing model gain }
 {
-    let most = model.maxbw;
-    let best = most.get();
+    let best = model.maxbw.get();
     let least = model.round.mininflight;
     let target = model.bdp_of(best, gain);
     let plain = model.bdp_of(best, 1.0);
@@ -281,60 +189,23 @@ fn is_queueing(model: NetworkModel, gain: f32) -> bool
 fn below_sum(least: u64, n: u64, more: u64) -> bool
     ensures { result ≡ ltb least (n + more) }
 {
-    if least < more { true } else { least - more < n }
-}
-
-fn queue_after(growth: Growth, queueing: bool, params: Params) -> Growth
-    requires { queueing ≡ true → eqb growth.queueing (2 ^ 64 - 1) ≡ false }
-    ensures { result ≡ queue_after growth queueing params }
-{
-    let mut next = growth;
-    if queueing {
-        let rounds = growth.queueing + 1;
-        next.queueing = rounds;
-        next.reached = growth.reached | (params.queueing <= rounds);
-        next
-    } else {
-        next.queueing = 0;
-        next
-    }
+    least.checked_sub(more).is_none_or(|rest| rest < n)
 }
 
 // ---- what the calls share
 
-fn judged_reply(model: NetworkModel, params: Params, event: CongestionEvent, full: bool) -> Reply
-    ensures reply { number result ≡ judged_number model params event full }
-    ensures fault { fault result ≡ named (judged_number model params event full) (first (event_faults whole_record event)) }
+// Whether the model, the parameters and the event are within their bounds, or the refusal.
+#[tactic(auto, unfolding(crate::specs::Judge::judged_number, state::specs::Refusals::row_of, state::specs::Faults::named))]
+fn judged(model: NetworkModel, params: Params, event: CongestionEvent) -> Result<(), Refusal>
+    ensures reply { number result ≡ judged_number model params event false }
+    ensures fault { fault result ≡ named (judged_number model params event false)
+        (first (event_faults whole_record event)) }
 {
-    let given = event.ok();
-    let rows = Rows {
-        stored: !(model.ok() & params.ok()),
-        argument: !given,
-        full,
-        ..Rows::NONE
-    };
-    if given {
-        return refusal(rows, 0);
+    if !(model.ok() & params.ok()) {
+        return Err(Refusal::OutOfBounds);
     }
-    refusal(rows, event.fault(1, RecordFits::WHOLE))
-}
-
-fn decide(reply: Reply, model: NetworkModel, next: NetworkModel, yes: bool) -> Decided
-    ensures reply { result.reply ≡ reply }
-    ensures model { result.model ≡ settled (number reply) next model }
-    ensures yes { result.yes ≡ settled (number reply) yes false }
-{
-    if reply.is_done() {
-        Decided {
-            reply,
-            model: next,
-            yes,
-        }
-    } else {
-        Decided {
-            reply,
-            model,
-            yes: false,
-        }
+    if !event.ok() {
+        return Err(Refusal::BadArgument(event.fault(1, RecordFits::WHOLE)));
     }
+    Ok(())
 }

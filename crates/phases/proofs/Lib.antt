@@ -1,3 +1,2 @@
 -- Laws, and theorems about the contracts.
 pub mod Accepted
-pub mod Determined
