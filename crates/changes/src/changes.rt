@@ -15,7 +15,6 @@ use state::refusals::{Cause, Rows};
 use units::{Duration, Moment, Refusal};
 
 // A packet is sent, of so many bytes, while so many were in flight.
-#[tactic(auto, unfolding(state::specs::Faults::named))]
 pub fn on_packet_sent(
     model: &mut NetworkModel,
     now: Moment,
@@ -37,7 +36,6 @@ pub fn on_packet_sent(
 }
 
 // The same for a run, where it is known whether the model is within its bounds.
-#[tactic(auto, unfolding(crate::specs::Changes::sent_number, crate::specs::Changes::sent_next, state::specs::Answers::settled, state::specs::NetworkModel::with_moment, state::specs::NetworkModel::with_rounds, state::specs::NetworkModel::with_round, state::specs::NetworkModel::with_begun))]
 pub fn sent_tested(
     model: &mut NetworkModel,
     fine: bool,
@@ -76,7 +74,6 @@ fn reaches(high: u64, inflight: u64, bytes: u64) -> bool
 }
 
 // The round begins anew before its end, uncounted.
-#[tactic(auto, unfolding(state::specs::Answers::settled))]
 pub fn restart_round_early(model: &mut NetworkModel) -> Result<(), Refusal>
     ensures reply { number result ≡ stored_number model.old }
     ensures model { model.new ≡ settled (stored_number model.old) (restart_next model.old) model.old }
@@ -87,7 +84,6 @@ pub fn restart_round_early(model: &mut NetworkModel) -> Result<(), Refusal>
 }
 
 // The bottleneck's bandwidth has been found.
-#[tactic(auto, unfolding(crate::specs::Changes::reached_next, state::specs::Answers::settled, state::specs::NetworkModel::with_growth))]
 pub fn set_full_bandwidth_reached(model: &mut NetworkModel) -> Result<(), Refusal>
     ensures reply { number result ≡ stored_number model.old }
     ensures model { model.new ≡ settled (stored_number model.old) (reached_next model.old) model.old }
@@ -97,7 +93,6 @@ pub fn set_full_bandwidth_reached(model: &mut NetworkModel) -> Result<(), Refusa
     Ok(())
 }
 
-#[tactic(auto, unfolding(crate::specs::Changes::pacing_next, state::specs::Answers::settled, state::specs::NetworkModel::with_gains))]
 pub fn set_pacing_gain(model: &mut NetworkModel, gain: f32) -> Result<(), Refusal>
     ensures reply { number result ≡ given_number model.old (gain_ok gain) }
     ensures model { model.new ≡ settled (given_number model.old (gain_ok gain))
@@ -110,7 +105,6 @@ pub fn set_pacing_gain(model: &mut NetworkModel, gain: f32) -> Result<(), Refusa
     Ok(())
 }
 
-#[tactic(auto, unfolding(crate::specs::Changes::cwnd_next, state::specs::Answers::settled, state::specs::NetworkModel::with_gains))]
 pub fn set_cwnd_gain(model: &mut NetworkModel, gain: f32) -> Result<(), Refusal>
     ensures reply { number result ≡ given_number model.old (gain_ok gain) }
     ensures model { model.new ≡ settled (given_number model.old (gain_ok gain))
@@ -123,7 +117,6 @@ pub fn set_cwnd_gain(model: &mut NetworkModel, gain: f32) -> Result<(), Refusal>
     Ok(())
 }
 
-#[tactic(auto, unfolding(state::specs::Answers::settled, state::specs::NetworkModel::with_high))]
 pub fn set_inflight_hi(model: &mut NetworkModel, bytes: u64) -> Result<(), Refusal>
     ensures reply { number result ≡ given_number model.old (bytes_or_unset_ok bytes) }
     ensures model { model.new ≡ settled (given_number model.old (bytes_or_unset_ok bytes))
@@ -138,7 +131,6 @@ pub fn set_inflight_hi(model: &mut NetworkModel, bytes: u64) -> Result<(), Refus
 }
 
 // inflight_lo becomes at most the cap; an unset one stays so.
-#[tactic(auto, unfolding(state::specs::Answers::settled))]
 pub fn cap_inflight_lo(model: &mut NetworkModel, cap: u64) -> Result<(), Refusal>
     ensures reply { number result ≡ given_number model.old (bytes_or_unset_ok cap) }
     ensures model { model.new ≡ settled (given_number model.old (bytes_or_unset_ok cap))
@@ -151,7 +143,6 @@ pub fn cap_inflight_lo(model: &mut NetworkModel, cap: u64) -> Result<(), Refusal
     Ok(())
 }
 
-#[tactic(auto, unfolding(state::specs::Answers::settled))]
 pub fn clear_inflight_lo(model: &mut NetworkModel) -> Result<(), Refusal>
     ensures reply { number result ≡ stored_number model.old }
     ensures model { model.new ≡ settled (stored_number model.old) (clear_inflight_next model.old) model.old }
@@ -161,7 +152,6 @@ pub fn clear_inflight_lo(model: &mut NetworkModel) -> Result<(), Refusal>
     Ok(())
 }
 
-#[tactic(auto, unfolding(state::specs::Answers::settled))]
 pub fn clear_bandwidth_lo(model: &mut NetworkModel) -> Result<(), Refusal>
     ensures reply { number result ≡ stored_number model.old }
     ensures model { model.new ≡ settled (stored_number model.old) (clear_bandwidth_next model.old) model.old }
@@ -171,7 +161,6 @@ pub fn clear_bandwidth_lo(model: &mut NetworkModel) -> Result<(), Refusal>
     Ok(())
 }
 
-#[tactic(auto, unfolding(state::specs::Answers::settled))]
 pub fn advance_max_bandwidth_filter(model: &mut NetworkModel) -> Result<(), Refusal>
     ensures reply { number result ≡ stored_number model.old }
     ensures model { model.new ≡ settled (stored_number model.old) (advance_next model.old) model.old }
@@ -182,7 +171,6 @@ pub fn advance_max_bandwidth_filter(model: &mut NetworkModel) -> Result<(), Refu
 }
 
 // The moment of the minimum round trip is put off.
-#[tactic(auto, unfolding(crate::specs::Changes::postponed, crate::specs::Changes::postpone_number, crate::specs::Changes::postpone_next, state::specs::Answers::settled, state::specs::NetworkModel::with_minrtt))]
 pub fn postpone_min_rtt_timestamp(model: &mut NetworkModel, length: Duration) -> Result<(), Refusal>
     ensures reply { number result ≡ postpone_number model.old length }
     ensures model { model.new ≡ settled (postpone_number model.old length)

@@ -1,5 +1,5 @@
 // The calls on the network model that only answer.
-#![tactic(auto)]
+#![tactic(auto, unfolding(crate::specs::Reads::headroom_of, state::specs::Answers::settled))]
 
 pub mod reads;
 

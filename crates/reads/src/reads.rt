@@ -14,7 +14,6 @@ use state::{NetworkModel, Params};
 use units::{Bandwidth, Duration, Moment, Refusal};
 
 // The bytes that a bandwidth times a gain carries in the minimum round trip.
-#[tactic(auto, unfolding(state::specs::Answers::settled))]
 pub fn bdp(model: NetworkModel, bandwidth: Bandwidth, gain: f32) -> Result<u64, Refusal>
     ensures reply { number result ≡ given_number model (bandwidth_ok bandwidth && gain_ok gain) }
     ensures value { kept result 0 ≡ settled (given_number model (bandwidth_ok bandwidth && gain_ok gain))
@@ -29,7 +28,6 @@ pub fn bdp(model: NetworkModel, bandwidth: Bandwidth, gain: f32) -> Result<u64, 
 }
 
 // The same with a gain of 1.
-#[tactic(auto, unfolding(state::specs::Answers::settled))]
 pub fn bdp1(model: NetworkModel, bandwidth: Bandwidth) -> Result<u64, Refusal>
     ensures reply { number result ≡ given_number model (bandwidth_ok bandwidth) }
     ensures value { kept result 0 ≡ settled (given_number model (bandwidth_ok bandwidth))
@@ -43,7 +41,6 @@ pub fn bdp1(model: NetworkModel, bandwidth: Bandwidth) -> Result<u64, Refusal>
 }
 
 // The same of the maximum bandwidth.
-#[tactic(auto, unfolding(state::specs::Answers::settled))]
 pub fn bdp0(model: NetworkModel) -> Result<u64, Refusal>
     ensures reply { number result ≡ stored_number model }
     ensures value { kept result 0 ≡ settled (stored_number model) (bdp_of model (max_get model.maxbw) one) 0 }
@@ -53,7 +50,6 @@ pub fn bdp0(model: NetworkModel) -> Result<u64, Refusal>
 }
 
 // inflight_hi less the headroom that the parameters ask for.
-#[tactic(auto, unfolding(crate::specs::Reads::headroom_of, state::specs::Answers::settled))]
 pub fn inflight_hi_with_headroom(model: NetworkModel, params: Params) -> Result<u64, Refusal>
     ensures reply { number result ≡ headroom_number model params }
     ensures value { kept result 0 ≡ settled (headroom_number model params)
@@ -69,7 +65,6 @@ pub fn inflight_hi_with_headroom(model: NetworkModel, params: Params) -> Result<
 }
 
 // The smaller of bandwidth_lo, if it is set, and the maximum.
-#[tactic(auto, unfolding(state::specs::Answers::settled))]
 pub fn bandwidth_estimate(model: NetworkModel) -> Result<Bandwidth, Refusal>
     ensures reply { number result ≡ stored_number model }
     ensures bandwidth { kept result zero_bandwidth ≡ settled (stored_number model)
@@ -81,7 +76,6 @@ pub fn bandwidth_estimate(model: NetworkModel) -> Result<Bandwidth, Refusal>
     Ok(model.lower.bandwidth.map_or(most, |lo| lo.min(most)))
 }
 
-#[tactic(auto, unfolding(state::specs::Answers::settled))]
 pub fn max_bandwidth(model: NetworkModel) -> Result<Bandwidth, Refusal>
     ensures reply { number result ≡ stored_number model }
     ensures bandwidth { kept result zero_bandwidth ≡ settled (stored_number model) (max_get model.maxbw) zero_bandwidth }
@@ -90,7 +84,6 @@ pub fn max_bandwidth(model: NetworkModel) -> Result<Bandwidth, Refusal>
     Ok(model.maxbw.get())
 }
 
-#[tactic(auto, unfolding(state::specs::Answers::settled))]
 pub fn min_rtt(model: NetworkModel) -> Result<Duration, Refusal>
     ensures reply { number result ≡ stored_number model }
     ensures length { kept result zero_length ≡ settled (stored_number model) model.minrtt.rtt zero_length }
@@ -99,7 +92,6 @@ pub fn min_rtt(model: NetworkModel) -> Result<Duration, Refusal>
     Ok(model.minrtt.get())
 }
 
-#[tactic(auto, unfolding(state::specs::Answers::settled))]
 pub fn min_rtt_timestamp(model: NetworkModel) -> Result<Moment, Refusal>
     ensures reply { number result ≡ stored_number model }
     ensures moment { kept result zero_moment ≡ settled (stored_number model) model.minrtt.timestamp zero_moment }
@@ -108,7 +100,6 @@ pub fn min_rtt_timestamp(model: NetworkModel) -> Result<Moment, Refusal>
     Ok(model.minrtt.get_timestamps())
 }
 
-#[tactic(auto, unfolding(state::specs::Answers::settled))]
 pub fn full_bandwidth_reached(model: NetworkModel) -> Result<bool, Refusal>
     ensures reply { number result ≡ stored_number model }
     ensures yes { kept result false ≡ settled (stored_number model) model.growth.reached false }
@@ -117,7 +108,6 @@ pub fn full_bandwidth_reached(model: NetworkModel) -> Result<bool, Refusal>
     Ok(model.growth.reached)
 }
 
-#[tactic(auto, unfolding(state::specs::Answers::settled))]
 pub fn pacing_gain(model: NetworkModel) -> Result<f32, Refusal>
     ensures reply { number result ≡ stored_number model }
     ensures gain { kept result zero_gain ≡ settled (stored_number model) model.gains.pacing zero_gain }
@@ -126,7 +116,6 @@ pub fn pacing_gain(model: NetworkModel) -> Result<f32, Refusal>
     Ok(model.gains.pacing)
 }
 
-#[tactic(auto, unfolding(state::specs::Answers::settled))]
 pub fn cwnd_gain(model: NetworkModel) -> Result<f32, Refusal>
     ensures reply { number result ≡ stored_number model }
     ensures gain { kept result zero_gain ≡ settled (stored_number model) model.gains.cwnd zero_gain }
@@ -135,7 +124,6 @@ pub fn cwnd_gain(model: NetworkModel) -> Result<f32, Refusal>
     Ok(model.gains.cwnd)
 }
 
-#[tactic(auto, unfolding(state::specs::Answers::settled))]
 pub fn max_bytes_delivered_in_round(model: NetworkModel) -> Result<u64, Refusal>
     ensures reply { number result ≡ stored_number model }
     ensures value { kept result 0 ≡ settled (stored_number model) model.round.delivered 0 }
@@ -144,7 +132,6 @@ pub fn max_bytes_delivered_in_round(model: NetworkModel) -> Result<u64, Refusal>
     Ok(model.round.delivered)
 }
 
-#[tactic(auto, unfolding(state::specs::Answers::settled))]
 pub fn total_bytes_acked(model: NetworkModel) -> Result<u64, Refusal>
     ensures reply { number result ≡ stored_number model }
     ensures value { kept result 0 ≡ settled (stored_number model) model.totals.acked 0 }
@@ -153,7 +140,6 @@ pub fn total_bytes_acked(model: NetworkModel) -> Result<u64, Refusal>
     Ok(model.totals.acked)
 }
 
-#[tactic(auto, unfolding(state::specs::Answers::settled))]
 pub fn total_bytes_lost(model: NetworkModel) -> Result<u64, Refusal>
     ensures reply { number result ≡ stored_number model }
     ensures value { kept result 0 ≡ settled (stored_number model) model.totals.lost 0 }
@@ -162,7 +148,6 @@ pub fn total_bytes_lost(model: NetworkModel) -> Result<u64, Refusal>
     Ok(model.totals.lost)
 }
 
-#[tactic(auto, unfolding(state::specs::Answers::settled))]
 pub fn inflight_hi(model: NetworkModel) -> Result<u64, Refusal>
     ensures reply { number result ≡ stored_number model }
     ensures value { kept result 0 ≡ settled (stored_number model) model.high 0 }
@@ -171,7 +156,6 @@ pub fn inflight_hi(model: NetworkModel) -> Result<u64, Refusal>
     Ok(model.high)
 }
 
-#[tactic(auto, unfolding(state::specs::Answers::settled))]
 pub fn inflight_lo(model: NetworkModel) -> Result<u64, Refusal>
     ensures reply { number result ≡ stored_number model }
     ensures value { kept result 0 ≡ settled (stored_number model) model.lower.inflight 0 }
@@ -180,7 +164,6 @@ pub fn inflight_lo(model: NetworkModel) -> Result<u64, Refusal>
     Ok(model.lower.inflight)
 }
 
-#[tactic(auto, unfolding(state::specs::Answers::settled))]
 pub fn loss_events_in_round(model: NetworkModel) -> Result<u64, Refusal>
     ensures reply { number result ≡ stored_number model }
     ensures value { kept result 0 ≡ settled (stored_number model) model.round.losses 0 }
@@ -189,7 +172,6 @@ pub fn loss_events_in_round(model: NetworkModel) -> Result<u64, Refusal>
     Ok(model.round.losses)
 }
 
-#[tactic(auto, unfolding(state::specs::Answers::settled))]
 pub fn rounds_with_queueing(model: NetworkModel) -> Result<u64, Refusal>
     ensures reply { number result ≡ stored_number model }
     ensures value { kept result 0 ≡ settled (stored_number model) model.growth.queueing 0 }
@@ -199,7 +181,6 @@ pub fn rounds_with_queueing(model: NetworkModel) -> Result<u64, Refusal>
 }
 
 // What stands for an unset inflight_hi.
-#[tactic(auto, unfolding(state::specs::Answers::settled))]
 pub fn inflight_hi_default(model: NetworkModel) -> Result<u64, Refusal>
     ensures reply { number result ≡ stored_number model }
     ensures value { kept result 0 ≡ settled (stored_number model) (2 ^ 64 - 1) 0 }
@@ -209,7 +190,6 @@ pub fn inflight_hi_default(model: NetworkModel) -> Result<u64, Refusal>
 }
 
 // Two segments.
-#[tactic(auto, unfolding(state::specs::Answers::settled))]
 pub fn queueing_threshold_extra_bytes(model: NetworkModel) -> Result<u64, Refusal>
     ensures reply { number result ≡ stored_number model }
     ensures value { kept result 0 ≡ settled (stored_number model) (2 * 1300) 0 }
