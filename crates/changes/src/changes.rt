@@ -30,9 +30,8 @@ pub fn on_packet_sent(
         (first (sent_faults now inflight bytes)) }
 {
     let fine = model.ok();
-    sent_tested(model, fine, now, inflight, packet, bytes).map_err(|cause| cause.named(sent_fault(
-        now, inflight, bytes,
-    )))
+    let refused = |cause: Cause| cause.named(sent_fault(now, inflight, bytes));
+    sent_tested(model, fine, now, inflight, packet, bytes).map_err(refused)
 }
 
 // The same for a run, where it is known whether the model is within its bounds.
