@@ -2,10 +2,10 @@
 use Prim.Native.Nat.{ℕ, ◌+◌, ◌-◌, ◌^◌, ◌≤◌, ◌<◌}
 use mathlib.Core.Bool.{true, false, not, ◌&&◌}
 use mathlib.Core.List.{List}
-use mathlib.Core.Path.{◌≡◌, sym, ◌∙◌}
+use mathlib.Core.Path.{◌≡◌}
 use native.Mathlib.Omega.{arith}
 use lib.Dec.{ltb, eqb}
-use borrow.Author.Tests.{leb-true, eqb-true, not-false}
+use borrow.Author.Tests.{leb-true, not-false}
 use Rattle.units.specs.Time.{is_before}
 use Rattle.filters.specs.RoundTripCounter.{rounds_full}
 use Rattle.state.specs.declared.network_model.NetworkModel.{NetworkModel}
@@ -36,11 +36,11 @@ pub no_row : (m : NetworkModel) (p : Params) (e : CongestionEvent) (s : Congesti
 unfolding event_number
 no_row m p e s acked done = none_asked (not (model_ok m && params_ok p)) (not (event_ok e && sample_ok s)) (is_before e.time m.moment) (is_lower m s) (is_unsent m acked) (is_full m s acked) done
 
-pub room : (m : NetworkModel) (p : Params) (e : CongestionEvent) (s : CongestionEventSample) (acked : List ℕ) (n : ℕ) → n ≡ event_number m p e s acked → eqb n 0 ≡ true
+pub room : (m : NetworkModel) (p : Params) (e : CongestionEvent) (s : CongestionEventSample) (acked : List ℕ) → event_number m p e s acked ≡ 0
     → (m.round.lost + bytes_lost m s < 2 ^ 64) × (ltb 0 (bytes_lost m s) ≡ true → eqb m.round.losses (2 ^ 64 - 1) ≡ false)
 unfolding is_full
-room m p e s acked n i z =
-    let d = (no_row m p e s acked (sym i ∙ eqb-true n 0 z)).1 in
+room m p e s acked done =
+    let d = (no_row m p e s acked done).1 in
     let a = round_lost m (and_left (model_ok m) (params_ok p) (not-false (model_ok m && params_ok p) d.stored_fine)) in
     let b = sample_lost s (and_right (event_ok e) (sample_ok s) (not-false (event_ok e && sample_ok s) d.argument_fine)) in
     (omega arith, λ l. fails_right (ltb 0 (bytes_lost m s)) (eqb m.round.losses (2 ^ 64 - 1)) (or_right (rounds_full m.rounds acked) (ltb 0 (bytes_lost m s) && eqb m.round.losses (2 ^ 64 - 1)) d.not_full) l)

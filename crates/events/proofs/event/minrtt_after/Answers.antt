@@ -1,5 +1,0 @@
--- `minrtt_after` meets its contract: by the two cases.
-use Rattle.events.proofs.event.minrtt_after.Goals as goal
-
-pub returns : goal.returns
-returns c = rw c.in-Some.is c.update.ensures
