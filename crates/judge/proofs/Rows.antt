@@ -1,5 +1,4 @@
 -- A count that is full is the last reason to refuse a call that judges. Assumes nothing.
-use Prim.Native.Nat.{ℕ}
 use mathlib.Core.Bool.{Bool, true, false, cond, not, ◌&&◌}
 use mathlib.Core.Path.{◌≡◌, refl}
 use lib.Dec.{eqb}

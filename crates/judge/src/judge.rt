@@ -17,7 +17,7 @@ use units::{Bandwidth, Duration, Moment, Refusal};
 // ---- maybe_expire_min_rtt
 
 // Whether the minimum round trip has expired; the event's sample then takes its place.
-#[tactic(auto, unfolding(crate::specs::Judge::judged_number, crate::specs::Judge::expire_next, state::specs::NetworkModel::with_minrtt, state::specs::Answers::settled))]
+#[tactic(auto, unfolding(crate::specs::Judge::expire_next, state::specs::NetworkModel::with_minrtt, state::specs::Answers::settled))]
 pub fn maybe_expire_min_rtt(
     model: &mut NetworkModel,
     params: Params,

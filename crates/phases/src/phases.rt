@@ -226,9 +226,7 @@ pub fn enter_probe_refill(
     let given = rounds <= Cycle::MOST_ROUNDS;
     entry(*model, *cycle, true, given, now, refill_fault(rounds, now))?;
     leave_down(model, cycle);
-    let unbounded = model.clear_bandwidth_next();
-    let cleared = unbounded.clear_inflight_next();
-    *model = restarted_at(cleared, now);
+    *model = restarted_at(model.clear_bandwidth_next().clear_inflight_next(), now);
     *cycle = cycle_in(*cycle, CyclePhase::Refill, now, false);
     cycle.slope.rounds = rounds;
     cycle.slope.acked = 0;
@@ -239,7 +237,7 @@ pub fn enter_probe_refill(
 // ---- enter_probe_up
 
 // More bandwidth is probed for.
-#[tactic(auto, unfolding(crate::specs::Phases::up_cycle, crate::specs::Phases::slope_cycle, crate::specs::Phases::cycle_in, state::specs::Answers::settled))]
+#[tactic(auto, unfolding(crate::specs::Phases::up_cycle, crate::specs::Phases::slope_cycle, state::specs::Answers::settled))]
 pub fn enter_probe_up(
     model: &mut NetworkModel,
     cycle: &mut Cycle,

@@ -9,12 +9,7 @@ use state::{Cycle, NetworkModel};
 fn share(window: u64, rounds: u64) -> u64
     ensures { result ≡ window / 2 ^ rounds }
 {
-    if rounds < 64 {
-        let growth: u64 = 1 << rounds;
-        window / growth
-    } else {
-        0
-    }
+    if rounds < 64 { window >> rounds } else { 0 }
 }
 
 // One round more, up to the most.
