@@ -268,11 +268,11 @@ module _ (e : Estimates) (new : Sample) (w : ℕ) where
 pub reasons : Reasons
 reasons =
     record {
-      unchanged = λ f sample time κ x s p.
-          let same = agrees f.window f.held sample time in
+      unchanged = λ κ a x e p.
+          let same = agrees a.0.now.window a.0.now.held a.1.0 a.1.1.0 in
           (λ is. p.1.0 ∙ same.0 (sym p.1.1 ∙ is), λ is. p.1.1 ∙ same.1 (sym p.1.0 ∙ is));
-      best = λ f sample time κ x s p moves.
-          ap (λ (g : WindowedFilter). best_of g.held) p.1.0 ∙ best_stays f.window f.held sample time (sym (ap moves_best p.1.1) ∙ moves);
+      best = λ κ a x e p moves.
+          ap (λ (g : WindowedFilter). best_of g.held) p.1.0 ∙ best_stays a.0.now.window a.0.now.held a.1.0 a.1.1.0 (sym (ap moves_best p.1.1) ∙ moves);
       later = later;
       earlier = earlier;
       both = both;
