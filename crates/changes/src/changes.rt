@@ -1,5 +1,5 @@
 // The calls that change the model and carry no event.
-ghost use Rattle.std.specs.Prelude.{◌≡◌, true, ◌+◌, ◌-◌, leb};
+ghost use Rattle.std.specs.Prelude.{◌≡◌, true, ◌+◌, leb};
 ghost use Rattle.units.specs.Reply.{number, fault};
 ghost use Rattle.state.specs.Answers.{settled};
 ghost use Rattle.state.specs.NetworkModel.{model_ok, stored_number, given_number, restart_next, with_high, cap_next, clear_inflight_next, clear_bandwidth_next, advance_next};
