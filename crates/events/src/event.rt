@@ -6,7 +6,7 @@ ghost use Rattle.state.specs.Answers.{settled};
 ghost use Rattle.state.specs.Faults.{first, named, started_faults, event_faults, whole_record, whole_sample};
 ghost use Rattle.state.specs.NetworkModel.{model_ok};
 ghost use Rattle.state.specs.Refusals.{caused};
-ghost use Rattle.events.specs.Event.{cwndlimited_after, state_after, is_changed, maxbw_after, bandwidth_after, minrtt_after, rtt_after, delivered_by, round_after, raised_bandwidth, latest_raised, start_of, newest_of, latest_after, event_after, event_next, maxbw_next, round_next, adapt_lower_bounds, model_after, model_next, is_lower, is_unsent, is_full, event_rows, event_number, finish_number, finish_next};
+ghost use Rattle.events.specs.Event.{cwndlimited_after, state_after, is_changed, maxbw_after, bandwidth_after, minrtt_after, delivered_by, round_after, latest_raised, start_of, newest_of, latest_after, event_after, event_next, maxbw_next, round_next, adapt_lower_bounds, model_after, model_next, is_lower, is_unsent, is_full, event_rows, event_number, finish_number, finish_next};
 
 use filters::round_trip_counter::greatest_of;
 use filters::{MaxBandwidthFilter, MinRttFilter, RoundTripCounter};
@@ -41,7 +41,8 @@ pub fn on_congestion_event_start(
 {
     let fine = model.ok();
     let told = *event;
-    start_tested(model, fine, params, event, sample, greatest_of(acked)).map_err(|cause| {
+    let tested = start_tested(model, fine, params, event, sample, greatest_of(acked));
+    tested.map_err(|cause| {
         cause.named(started_fault(true, RecordFits::WHOLE, told, SampleFits::WHOLE, sample))
     })
 }
@@ -142,7 +143,7 @@ fn event_after(
         lost,
         ended,
         bandwidth: bandwidth_after(event.bandwidth, sample.bandwidth, is_changed(model, sample)),
-        rtt: rtt_after(event.rtt, sample.rtt),
+        rtt: sample.rtt.or(event.rtt),
         state: state_after(event.state, sample.state),
         ..event
     }
@@ -181,7 +182,7 @@ fn model_after(
     }
 }
 
-// ---- the sample: the maximum, and the round's sums
+// ---- the sample: the maximum and the round's sums
 
 #[tactic(auto, unfolding(crate::specs::Event::maxbw_next))]
 fn maxbw_next(model: NetworkModel, sample: CongestionEventSample) -> MaxBandwidthFilter
@@ -262,12 +263,6 @@ fn bandwidth_after(
     if changed { sample.or(was) } else { was }
 }
 
-fn rtt_after(was: Option<Duration>, sample: Option<Duration>) -> Option<Duration>
-    ensures { result ≡ rtt_after was sample }
-{
-    sample.or(was)
-}
-
 #[tactic(auto, unfolding(crate::specs::Event::state_after))]
 fn state_after(was: SendTimeState, new: SendTimeState) -> SendTimeState
     ensures { result ≡ state_after was new }
@@ -329,15 +324,11 @@ fn latest_raised(latest: Latest, sample: CongestionEventSample) -> Latest
     ensures { result ≡ latest_raised latest sample }
 {
     Latest {
-        bandwidth: raised_bandwidth(latest.bandwidth, sample.bandwidth),
+        bandwidth: sample
+            .bandwidth
+            .map_or(latest.bandwidth, |seen| latest.bandwidth.max(seen)),
         inflight: latest.inflight.max(sample.inflight),
     }
-}
-
-fn raised_bandwidth(was: Bandwidth, sample: Option<Bandwidth>) -> Bandwidth
-    ensures { result ≡ raised_bandwidth was sample }
-{
-    sample.map_or(was, |bandwidth| was.max(bandwidth))
 }
 
 // inflight_lo, or the window where it is unset.
@@ -382,14 +373,12 @@ pub fn on_congestion_event_finish(
         (first (event_faults whole_record event)) }
 {
     let fine = model.ok();
-    finish_tested(model, fine, event).map_err(|cause| cause.named(event.fault(
-        1,
-        RecordFits::WHOLE,
-    )))
+    let tested = finish_tested(model, fine, event);
+    tested.map_err(|cause| cause.named(event.fault(1, RecordFits::WHOLE)))
 }
 
 // The same for a run, where it is known whether the model is within its bounds.
-#[tactic(auto, unfolding(crate::specs::Event::finish_number, crate::specs::Event::finish_next, state::specs::Answers::settled, state::specs::NetworkModel::with_round, state::specs::Refusals::row_of))]
+#[tactic(auto, unfolding(crate::specs::Event::finish_number, crate::specs::Event::finish_next, state::specs::Answers::settled, state::specs::NetworkModel::with_round))]
 pub fn finish_tested(
     model: &mut NetworkModel,
     fine: bool,
