@@ -1,7 +1,8 @@
 -- Why a windowed filter's estimates moved: the laws of the reason, by the tests of the steps. Assumes nothing.
 use Rattle.std.specs.Prelude.{Option, None, Some}
+use Rattle.std.proofs.Math.Bool.{and-false}
 use Prim.Native.Nat.{ℕ, ◌/◌}
-use mathlib.Core.Bool.{Bool, true, false, cond, ◌&&◌, ◌||◌, true≢false, false≢true}
+use mathlib.Core.Bool.{Bool, true, false, cond, ◌||◌, true≢false, false≢true}
 use mathlib.Core.Logic.{◌⊎◌, inl, inr, ◌↔◌}
 use mathlib.Core.Path.{◌≡◌, refl, sym, ap, ◌∙◌, subst}
 use native.Mathlib.Nat.{sub_self, le_refl}
@@ -36,13 +37,9 @@ names {r} named is = true≢false (sym (ap is_unchanged is) ∙ named)
 fresh : (new : Sample) (limit : ℕ) → is_older new limit new.time ≡ false
 fresh new limit = rw sub_self (le-ltb limit 0 (omega arith))
 
-and_false : (b : Bool) → (b && false) ≡ false
-and_false true = refl
-and_false false = refl
-
 never_lingers : (new better : Sample) (limit : ℕ) → lingers new better limit new.time ≡ false
 unfolding lingers
-never_lingers new better limit = rw (fresh new limit) (and_false (eqb new.sample better.sample))
+never_lingers new better limit = rw (fresh new limit) (and-false (eqb new.sample better.sample))
 
 lingers_older : (s better : Sample) (limit t : ℕ) → lingers s better limit t ≡ true → is_older s limit t ≡ true
 unfolding lingers
