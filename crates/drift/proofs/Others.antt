@@ -1,6 +1,6 @@
 -- The calls that name no lower bound leave the lower bounds and the latest samples. Assumes nothing.
-use mathlib.Core.Bool.{Bool, true, false, cond}
 use mathlib.Core.Path.{◌≡◌, refl}
+use Rattle.std.proofs.lemmas.Bool.{cond_both}
 use Rattle.state.specs.declared.network_model.NetworkModel.{NetworkModel}
 use Rattle.state.specs.Parts.{round_new}
 use Rattle.state.specs.NetworkModel.{with_maxbw, with_rounds, with_round, with_minrtt, with_high, with_gains, with_growth, with_moment, with_begun, restart_next, advance_next}
@@ -19,36 +19,25 @@ pub record Same (m old : NetworkModel) : Type 0 where
 abbrev same : (m : NetworkModel) → Same m m
 same m = record { lower = refl; latest = refl }
 
-arms : (t : Bool) (a b old : NetworkModel) → Same a old → Same b old → Same (cond t a b) old
-arms true a b old p q = p
-arms false a b old p q = q
-
 exit_same : (m : NetworkModel) (c : Cycle) → Same (exit_model m c) m
 unfolding exit_model advance_next with_maxbw
-exit_same m c = arms c.advanced m (advance_next m) m (same m) (record { lower = refl; latest = refl })
+exit_same m c = cond_both c.advanced m (advance_next m) (λ x. Same x m) (λ _. same m) (λ _. record { lower = refl; latest = refl })
 
 pub left_same : (m : NetworkModel) (c : Cycle) → Same (left_model m c) m
 unfolding left_model
-left_same m c = arms (is_down c.stay.phase) (exit_model m c) m m (exit_same m c) (same m)
+left_same m c = cond_both (is_down c.stay.phase) (exit_model m c) m (λ x. Same x m) (λ _. exit_same m c) (λ _. same m)
 
 -- leaving Down leaves inflight_hi too
 pub left_high : (m : NetworkModel) (c : Cycle) → (left_model m c).high ≡ m.high
 unfolding left_model exit_model advance_next with_maxbw
-left_high m c = go (is_down c.stay.phase) c.advanced
-  where
-    go : (t u : Bool) → (cond t (cond u m (advance_next m)) m).high ≡ m.high
-    go true true = refl
-    go true false = refl
-    go false u = refl
+left_high m c =
+    let P : NetworkModel → Type 0 = λ x. x.high ≡ m.high in
+    cond_both (is_down c.stay.phase) (exit_model m c) m P (λ _. cond_both c.advanced m (advance_next m) P (λ _. refl) (λ _. refl)) (λ _. refl)
 
 pub other_same : (c : Other) (s : State) → Same (other_next c s).model s.model
 unfolding other_next sent_next with_moment with_begun with_rounds with_round finish_next expire_next with_minrtt growth_next with_growth queue_next restart_next reached_next pacing_next with_gains cwnd_next with_high advance_next with_maxbw postpone_next restarted_at
 other_same (sent now inflight packet bytes) s = record { lower = refl; latest = refl }
-other_same (finish e) s = go e.ended
-  where
-    go : (t : Bool) → Same (cond t (with_round s.model round_new) s.model) s.model
-    go true = record { lower = refl; latest = refl }
-    go false = record { lower = refl; latest = refl }
+other_same (finish e) s = cond_both e.ended (with_round s.model round_new) s.model (λ x. Same x s.model) (λ _. record { lower = refl; latest = refl }) (λ _. same s.model)
 other_same (expire p e) s = record { lower = refl; latest = refl }
 other_same (growth p e) s = record { lower = refl; latest = refl }
 other_same (queue p gain) s = record { lower = refl; latest = refl }

@@ -6,17 +6,14 @@ use mathlib.Core.List.{List, [], ◌∷◌}
 use mathlib.Core.Path.{◌≡◌, refl, sym, ap, subst, ◌∙◌}
 use lib.Dec.{eqb}
 use Rattle.numbers.specs.Scaling.{complement, parts_of}
-use Rattle.units.proofs.Outcomes.{said}
 use Rattle.units.specs.declared.time.Duration.{Duration}
 use Rattle.units.specs.declared.time.Moment.{Moment}
 use Rattle.state.specs.declared.network_model.NetworkModel.{NetworkModel}
 use Rattle.state.specs.declared.params.Params.{Params}
 use Rattle.state.specs.Answers.{settled}
 use Rattle.state.specs.NetworkModel.{start_model}
-use Rattle.state.specs.declared.congestion_event.CongestionEvent.{CongestionEvent}
-use Rattle.state.specs.declared.congestion_event.CongestionEventSample.{CongestionEventSample}
-use Rattle.events.specs.Event.{event_number, model_next}
 use Rattle.state.specs.declared.cycle.Cycle.{Cycle}
+use Rattle.laws.proofs.Contracts.{settled_both}
 use Rattle.drift.specs.Calls as Calls
 use Rattle.drift.specs.Calls.{Call, Other, State, other_number, other_next, number_of, next_of, after, run, started}
 use Rattle.drift.specs.Exact.{Effect, unset, inflight_effect, bandwidth_effect, exact_run}
@@ -26,68 +23,58 @@ use Rattle.drift.proofs.Inflight.{inflight_drift}
 use Rattle.drift.proofs.Bandwidth.{bandwidth_drift}
 use Rattle.drift.proofs.Usual.{usual_inflight_drift, usual_bandwidth_drift}
 
--- ---- the state, settled part by part
-model_made : (s t : State) (k : ℕ) (got next : NetworkModel) → got ≡ settled k next s.model → t ≡ record { model = got; cycle = s.cycle } → t ≡ settled k (record { model = next; cycle = s.cycle }) s
+-- ---- what is made of a settled part is settled
+settled_over : {A B : Type 0} (f : A → B) (k : ℕ) (next old : A) → f (settled k next old) ≡ settled k (f next) (f old)
 unfolding settled
-model_made s t k got next p q = q ∙ ap (λ (m : NetworkModel). record { model = m; cycle = s.cycle }) p ∙ go (eqb k 0)
+settled_over f k next old = go (eqb k 0)
   where
-    go : (b : Bool) → ◌≡◌ {A = State} (record { model = cond b next s.model; cycle = s.cycle }) (cond b (record { model = next; cycle = s.cycle }) s)
+    go : (t : Bool) → f (cond t next old) ≡ cond t (f next) (f old)
     go true = refl
     go false = refl
 
+-- the model, the cycle, or both
+model_made : (s t : State) (k : ℕ) (got next : NetworkModel) → got ≡ settled k next s.model → t ≡ record { model = got; cycle = s.cycle } → t ≡ settled k (record { model = next; cycle = s.cycle }) s
+model_made s t k got next p q =
+    let f : NetworkModel → State = λ m. record { model = m; cycle = s.cycle } in q ∙ ap f p ∙ settled_over f k next s.model
+
 cycle_made : (s t : State) (k : ℕ) (got next : Cycle) → got ≡ settled k next s.cycle → t ≡ record { model = s.model; cycle = got } → t ≡ settled k (record { model = s.model; cycle = next }) s
-unfolding settled
-cycle_made s t k got next p q = q ∙ ap (λ (c : Cycle). record { model = s.model; cycle = c }) p ∙ go (eqb k 0)
-  where
-    go : (b : Bool) → ◌≡◌ {A = State} (record { model = s.model; cycle = cond b next s.cycle }) (cond b (record { model = s.model; cycle = next }) s)
-    go true = refl
-    go false = refl
+cycle_made s t k got next p q =
+    let f : Cycle → State = λ c. record { model = s.model; cycle = c } in q ∙ ap f p ∙ settled_over f k next s.cycle
 
 both_made : (s t : State) (k : ℕ) (got next : NetworkModel) (turned entered : Cycle) → got ≡ settled k next s.model → turned ≡ settled k entered s.cycle → t ≡ record { model = got; cycle = turned }
     → t ≡ settled k (record { model = next; cycle = entered }) s
-unfolding settled
-both_made s t k got next turned entered p r q = q ∙ (λ i. record { model = p i; cycle = r i }) ∙ go (eqb k 0)
-  where
-    go : (b : Bool) → ◌≡◌ {A = State} (record { model = cond b next s.model; cycle = cond b entered s.cycle }) (cond b (record { model = next; cycle = entered }) s)
-    go true = refl
-    go false = refl
+both_made s t k got next turned entered p r q =
+    let f : NetworkModel × Cycle → State = λ z. record { model = z.0; cycle = z.1 } in
+    q ∙ ap f (settled_both k got next s.model turned entered s.cycle p r) ∙ settled_over f k (next, entered) (s.model, s.cycle)
 
 -- ---- the calls, by what their contracts say
 made_other : (c : Other) (s t : State) → MadeOther c s t → t ≡ settled (other_number c s) (other_next c s) s
 unfolding other_number other_next
-made_other (Calls.sent time inflight packet bytes) s t r = let q = said _ _ _ t r in model_made s t _ _ _ q.3.1.0 q.4
-made_other (Calls.finish e) s t r = let q = said _ _ _ t r in model_made s t _ _ _ q.3.1.0 q.4
-made_other (Calls.expire p e) s t r = let q = said _ _ _ t r in model_made s t _ _ _ q.3.1.0 q.4
-made_other (Calls.growth p e) s t r = let q = said _ _ _ t r in model_made s t _ _ _ q.3.1.0 q.4
-made_other (Calls.queue p gain) s t r = let q = said _ _ _ t r in model_made s t _ _ _ q.3.1.0 q.4
-made_other Calls.restart s t r = let q = said _ _ _ t r in model_made s t _ _ _ q.3.1 q.4
-made_other Calls.reached s t r = let q = said _ _ _ t r in model_made s t _ _ _ q.3.1 q.4
-made_other (Calls.pacing gain) s t r = let q = said _ _ _ t r in model_made s t _ _ _ q.3.1.0 q.4
-made_other (Calls.cwnd gain) s t r = let q = said _ _ _ t r in model_made s t _ _ _ q.3.1.0 q.4
-made_other (Calls.high bytes) s t r = let q = said _ _ _ t r in model_made s t _ _ _ q.3.1.0 q.4
-made_other Calls.advance s t r = let q = said _ _ _ t r in model_made s t _ _ _ q.3.1 q.4
-made_other (Calls.postpone d) s t r = let q = said _ _ _ t r in model_made s t _ _ _ q.3.1.0 q.4
-made_other (Calls.down p hi risky time) s t r = let q = said _ _ _ t r in both_made s t _ _ _ _ _ q.3.1.0 q.3.1.1.0 q.4
-made_other (Calls.up time window) s t r = let q = said _ _ _ t r in both_made s t _ _ _ _ _ q.3.1.0 q.3.1.1.0 q.4
-made_other Calls.exit s t r = let q = said _ _ _ t r in both_made s t _ _ _ _ _ q.3.1.0 q.3.1.1 q.4
-made_other (Calls.slope window) s t r = let q = said _ _ _ t r in cycle_made s t _ _ _ q.3.1.0 q.4
-
-event_same : {m m' : NetworkModel} {p p' : Params} {e e' : CongestionEvent} {y y' : CongestionEventSample} {l l' : List ℕ} → m ≡ m' → p ≡ p' → e ≡ e' → y ≡ y' → l ≡ l'
-    → settled (event_number m p e y l) (model_next m p e y l) m ≡ settled (event_number m' p' e' y' l') (model_next m' p' e' y' l') m'
-event_same a b c d f = λ i. settled (event_number (a i) (b i) (c i) (d i) (f i)) (model_next (a i) (b i) (c i) (d i) (f i)) (a i)
-
-event_made : (p : Params) (e : CongestionEvent) (y : CongestionEventSample) (acked : List ℕ) (s t : State) → Made (Calls.event p e y acked) s t → t ≡ settled (event_number s.model p e y acked) (record { model = model_next s.model p e y acked; cycle = s.cycle }) s
-event_made p e y acked s t r =
-    let q = r.5 in model_made s t _ _ _ (r.4.1.0 ∙ event_same q.0 q.1 q.2 q.3 q.4) q.5
+made_other (Calls.sent time inflight packet bytes) s t r = model_made s t _ _ _ (r.4.1.0 ∙ simp (r.5.0.0, r.5.0.1)) r.5.1
+made_other (Calls.finish e) s t r = model_made s t _ _ _ (r.4.1.0 ∙ simp (r.5.0.0, r.5.0.1)) r.5.1
+made_other (Calls.expire p e) s t r = model_made s t _ _ _ (r.4.1.0 ∙ simp (r.5.0.0, r.5.0.1)) r.5.1
+made_other (Calls.growth p e) s t r = model_made s t _ _ _ (r.4.1.0 ∙ simp (r.5.0.0, r.5.0.1)) r.5.1
+made_other (Calls.queue p gain) s t r = model_made s t _ _ _ (r.4.1.0 ∙ simp (r.5.0.0, r.5.0.1)) r.5.1
+made_other Calls.restart s t r = model_made s t _ _ _ (r.4.1 ∙ simp r.5.0) r.5.1
+made_other Calls.reached s t r = model_made s t _ _ _ (r.4.1 ∙ simp r.5.0) r.5.1
+made_other (Calls.pacing gain) s t r = model_made s t _ _ _ (r.4.1.0 ∙ simp (r.5.0.0, r.5.0.1)) r.5.1
+made_other (Calls.cwnd gain) s t r = model_made s t _ _ _ (r.4.1.0 ∙ simp (r.5.0.0, r.5.0.1)) r.5.1
+made_other (Calls.high bytes) s t r = model_made s t _ _ _ (r.4.1.0 ∙ simp (r.5.0.0, r.5.0.1)) r.5.1
+made_other Calls.advance s t r = model_made s t _ _ _ (r.4.1 ∙ simp r.5.0) r.5.1
+made_other (Calls.postpone d) s t r = model_made s t _ _ _ (r.4.1.0 ∙ simp (r.5.0.0, r.5.0.1)) r.5.1
+made_other (Calls.down p hi risky time) s t r = both_made s t _ _ _ _ _ (r.4.1.0 ∙ simp (r.5.0.0, r.5.0.1, r.5.0.2)) (r.4.1.1.0 ∙ simp (r.5.0.0, r.5.0.1, r.5.0.2)) r.5.1
+made_other (Calls.up time window) s t r = both_made s t _ _ _ _ _ (r.4.1.0 ∙ simp (r.5.0.0, r.5.0.1, r.5.0.2)) (r.4.1.1.0 ∙ simp (r.5.0.0, r.5.0.1, r.5.0.2)) r.5.1
+made_other Calls.exit s t r = both_made s t _ _ _ _ _ (r.4.1.0 ∙ simp (r.5.0.0, r.5.0.1)) (r.4.1.1 ∙ simp (r.5.0.0, r.5.0.1)) r.5.1
+made_other (Calls.slope window) s t r = cycle_made s t _ _ _ (r.4.1.0 ∙ simp (r.5.0.0, r.5.0.1)) r.5.1
 
 made : (c : Call) (s t : State) → Made c s t → t ≡ after c s
 unfolding after number_of next_of
-made (Calls.event p e y acked) s t r = event_made p e y acked s t r
-made (Calls.cap bytes) s t r = let q = said _ _ _ t r in model_made s t _ _ _ q.3.1.0 q.4
-made Calls.clear_inflight s t r = let q = said _ _ _ t r in model_made s t _ _ _ q.3.1 q.4
-made Calls.clear_bandwidth s t r = let q = said _ _ _ t r in model_made s t _ _ _ q.3.1 q.4
-made (Calls.cruise time) s t r = let q = said _ _ _ t r in both_made s t _ _ _ _ _ q.3.1.0 q.3.1.1.0 q.4
-made (Calls.refill rounds time) s t r = let q = said _ _ _ t r in both_made s t _ _ _ _ _ q.3.1.0 q.3.1.1.0 q.4
+made (Calls.event p v y acked) s t r = model_made s t _ _ _ (r.4.1.0 ∙ simp (r.5.0.0, r.5.0.1, r.5.0.2, r.5.0.3, r.5.0.4)) r.5.1
+made (Calls.cap bytes) s t r = model_made s t _ _ _ (r.4.1.0 ∙ simp (r.5.0.0, r.5.0.1)) r.5.1
+made Calls.clear_inflight s t r = model_made s t _ _ _ (r.4.1 ∙ simp r.5.0) r.5.1
+made Calls.clear_bandwidth s t r = model_made s t _ _ _ (r.4.1 ∙ simp r.5.0) r.5.1
+made (Calls.cruise time) s t r = both_made s t _ _ _ _ _ (r.4.1.0 ∙ simp (r.5.0.0, r.5.0.1, r.5.0.2)) (r.4.1.1.0 ∙ simp (r.5.0.0, r.5.0.1, r.5.0.2)) r.5.1
+made (Calls.refill rounds time) s t r = both_made s t _ _ _ _ _ (r.4.1.0 ∙ simp (r.5.0.0, r.5.0.1, r.5.0.2)) (r.4.1.1.0 ∙ simp (r.5.0.0, r.5.0.1, r.5.0.2)) r.5.1
 made (Calls.other c) s t r = made_other c s t r
 
 ran : (calls : List Call) (s t : State) → Ran calls s t → t ≡ run calls s

@@ -6,6 +6,7 @@ use mathlib.Core.Bool.{Bool, true, false, cond, not, ◌&&◌, ◌||◌}
 use mathlib.Core.List.{List}
 use mathlib.Core.Path.{◌≡◌, refl, sym, ◌∙◌, subst}
 use native.Mathlib.Omega.{arith}
+use Rattle.std.proofs.lemmas.Bool as Bools
 use lib.Dec.{T, leb, ltb, eqb}
 use lib.Ieee.{Float, binary32, fits, le, of_bits}
 use borrow.Author.Tests.{leb-true, le-leb, ltb-false, not-false}
@@ -29,7 +30,7 @@ use Rattle.state.specs.Bounds.{within, bytes_ok, bytes_or_unset_ok, total_ok, mo
 use Rattle.state.specs.Params.{beta_ok, params_ok}
 use Rattle.state.specs.Parts.{round_ok, latest_ok, lower_ok, totals_ok, round_new}
 use Rattle.state.specs.NetworkModel.{maxbw_ok, minrtt_ok, model_tests, model_ok, with_round, with_minrtt, with_growth}
-use Rattle.laws.proofs.Model.{round_new_ok}
+use Rattle.laws.proofs.Model.{arms, round_new_ok}
 use Rattle.state.proofs.Rows.{row_stored, row_argument, and_left, and_right, and_both, or_left, or_right, all_at, all_put}
 use Rattle.state.specs.declared.congestion_event.CongestionEvent.{CongestionEvent}
 use Rattle.state.specs.declared.congestion_event.CongestionEventSample.{CongestionEventSample}
@@ -38,11 +39,6 @@ use Rattle.events.specs.Event as E
 use Rattle.events.proofs.Room.{no_row}
 use Rattle.state.specs.CongestionEvent as H
 use Rattle.judge.specs.Judge as J
-
--- a test holds of both arms
-arms : {A : Type 0} (ok : A → Bool) (t : Bool) (x y : A) → ok x ≡ true → ok y ≡ true → ok (cond t x y) ≡ true
-arms ok true x y p q = p
-arms ok false x y p q = q
 
 larger_ok : (a b k : ℕ) → leb a k ≡ true → leb b k ≡ true → leb (max a b) k ≡ true
 larger_ok a b k p q = le-leb (max a b) k (omega (arith, leb-true a k p, leb-true b k q))
@@ -114,9 +110,6 @@ start_kept lo window h k = go (eqb lo (2 ^ 64 - 1)) refl
     go true e = k
     go false e = set_or lo h e
 
-or_first : (a c : Bool) → a ≡ true → (a || c) ≡ true
-or_first a c h = simp h
-
 lower_kept : (l : Lower) (t : Bool) (most : Bandwidth) (latest : Latest) (window : ℕ) (beta : Float) → Parts (complement beta)
     → lower_ok l ≡ true → bandwidth_ok most ≡ true → latest_ok latest ≡ true → bytes_ok window ≡ true → lower_ok (E.lower_after l t most latest window beta) ≡ true
 unfolding E.lower_after E.lower_reduced
@@ -128,13 +121,13 @@ lower_kept l t most latest window beta v h m k w =
     (and_both (bandwidth_ok x) (bytes_or_unset_ok (max latest.inflight n))
     (larger_ok latest.bandwidth.0 (times_f32 (E.seed_of l.bandwidth most) b).0 (2 ^ 40) (and_left (bandwidth_ok latest.bandwidth) (bytes_ok latest.inflight) k)
     (slower_kept b v (E.seed_of l.bandwidth most) (seed_kept l.bandwidth most (and_left (maybe_ok l.bandwidth) (bytes_or_unset_ok l.inflight) h) m)))
-    (or_first (bytes_ok (max latest.inflight n)) (eqb (max latest.inflight n) (2 ^ 64 - 1))
+    (Bools.or_left (bytes_ok (max latest.inflight n)) (eqb (max latest.inflight n) (2 ^ 64 - 1))
     (larger_ok latest.inflight n (2 ^ 40) (and_right (bandwidth_ok latest.bandwidth) (bytes_ok latest.inflight) k)
     (cut_kept b v (E.start_of l.inflight window) (start_kept l.inflight window (and_right (maybe_ok l.bandwidth) (bytes_or_unset_ok l.inflight) h) w))))) h
 
 -- ---- the round's sums: the totals rise by what the event lost and acked
 least_inflight : (least n : ℕ) → bytes_ok n ≡ true → bytes_or_unset_ok (min least n) ≡ true
-least_inflight least n h = or_first (bytes_ok (min least n)) (eqb (min least n) (2 ^ 64 - 1)) (le-leb (min least n) (2 ^ 40) (omega (arith, leb-true n (2 ^ 40) h)))
+least_inflight least n h = Bools.or_left (bytes_ok (min least n)) (eqb (min least n) (2 ^ 64 - 1)) (le-leb (min least n) (2 ^ 40) (omega (arith, leb-true n (2 ^ 40) h)))
 
 module _ (r : Round) (old new : Totals) (delivered inflight : ℕ) (H : round_ok r old ≡ true) (K : totals_ok new ≡ true)
     (A : old.acked ≤ new.acked) (L : old.lost ≤ new.lost) (D : delivered ≤ new.acked) (I : bytes_ok inflight ≡ true) where
@@ -283,14 +276,9 @@ judged m p e full h =
 
 pub finish_kept : (m : NetworkModel) (e : CongestionEvent) → E.finish_number m e ≡ 0 → model_ok (E.finish_next m e) ≡ true
 unfolding model_tests E.finish_number E.finish_next with_round
-finish_kept m e done = go e.ended
-  where
-    h : model_ok m ≡ true
-    h = row_stored (model_ok m) (not (H.event_ok e)) false false false done
-
-    go : (t : Bool) → model_ok (cond t (with_round m round_new) m) ≡ true
-    go true = all_put (model_tests m) 2 (round_ok round_new m.totals) h (round_new_ok m.totals)
-    go false = h
+finish_kept m e done =
+    let h = row_stored (model_ok m) (not (H.event_ok e)) false false false done in
+    arms model_ok e.ended (with_round m round_new) m (all_put (model_tests m) 2 (round_ok round_new m.totals) h (round_new_ok m.totals)) h
 
 pub expire_kept : (m : NetworkModel) (p : Params) (e : CongestionEvent) → J.judged_number m p e false ≡ 0 → model_ok (J.expire_next m p e) ≡ true
 unfolding model_tests H.event_tests J.expire_next with_minrtt

@@ -3,6 +3,7 @@ use Prim.Native.Nat.{ℕ, min, ◌-◌, ◌^◌}
 use mathlib.Core.Bool.{Bool, true, false, cond, not, ◌&&◌}
 use mathlib.Core.Path.{◌≡◌, refl}
 use native.Mathlib.Nat.{min-eq_left, min-eq_right, le_of_lt}
+use Rattle.std.proofs.lemmas.Bool.{cond_both}
 use lib.Dec.{leb, eqb}
 use lib.ListN.{set}
 use native.Mathlib.Omega.{arith}
@@ -24,6 +25,10 @@ use Rattle.state.specs.declared.params.Params.{Params}
 use Rattle.changes.specs.Changes.{sent_number, sent_next, reached_next, pacing_next, cwnd_next, postponed, postpone_number, postpone_next}
 use Rattle.state.proofs.Rows.{and_left, and_right, and_both, all_at, all_put, row_stored, row_argument}
 
+-- a test holds of both arms
+pub arms : {A : Type 0} (ok : A → Bool) (t : Bool) (x y : A) → ok x ≡ true → ok y ≡ true → ok (cond t x y) ≡ true
+arms ok t x y p q = cond_both t x y (λ v. ok v ≡ true) (λ _. p) (λ _. q)
+
 -- ---- the parts
 pub round_new_ok : (t : Totals) → round_ok round_new t ≡ true
 unfolding round_ok
@@ -38,21 +43,16 @@ min_ok a b p q = go (leb a b) refl
 
 pub lower_capped_ok : (l : Lower) (cap : ℕ) → lower_ok l ≡ true → bytes_or_unset_ok cap ≡ true → lower_ok (lower_capped l cap) ≡ true
 unfolding lower_capped
-lower_capped_ok l cap h k = go (eqb l.inflight (2 ^ 64 - 1))
-  where
-    go : (t : Bool) → lower_ok (cond t l (record { bandwidth = l.bandwidth; inflight = min cap l.inflight })) ≡ true
-    go true = h
-    go false =
-        and_both (maybe_ok l.bandwidth) (bytes_or_unset_ok (min cap l.inflight)) (and_left (maybe_ok l.bandwidth) (bytes_or_unset_ok l.inflight) h)
-        (min_ok cap l.inflight k (and_right (maybe_ok l.bandwidth) (bytes_or_unset_ok l.inflight) h))
+lower_capped_ok l cap h k =
+    arms lower_ok (eqb l.inflight (2 ^ 64 - 1)) l (record { bandwidth = l.bandwidth; inflight = min cap l.inflight }) h
+    (and_both (maybe_ok l.bandwidth) (bytes_or_unset_ok (min cap l.inflight)) (and_left (maybe_ok l.bandwidth) (bytes_or_unset_ok l.inflight) h)
+    (min_ok cap l.inflight k (and_right (maybe_ok l.bandwidth) (bytes_or_unset_ok l.inflight) h)))
 
 pub max_advance_ok : (f : MaxBandwidthFilter) → maxbw_ok f ≡ true → maxbw_ok (max_advance f) ≡ true
 unfolding max_advance
-max_advance_ok f h = go (eqb f.slot1.0 0)
-  where
-    go : (t : Bool) → maxbw_ok (cond t f (record { slot0 = f.slot1; slot1 = record { 0 = 0 } })) ≡ true
-    go true = h
-    go false = and_both (bandwidth_ok f.slot1) true (and_right (bandwidth_ok f.slot0) (bandwidth_ok f.slot1) h) refl
+max_advance_ok f h =
+    arms maxbw_ok (eqb f.slot1.0 0) f (record { slot0 = f.slot1; slot1 = record { 0 = 0 } }) h
+    (and_both (bandwidth_ok f.slot1) true (and_right (bandwidth_ok f.slot0) (bandwidth_ok f.slot1) h) refl)
 
 -- ---- the steps
 pub high_ok : (m : NetworkModel) → model_ok m ≡ true → bytes_or_unset_ok m.high ≡ true

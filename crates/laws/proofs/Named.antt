@@ -7,7 +7,8 @@ use native.Mathlib.Omega.{arith}
 use borrow.Author.Tests.{eq-eqb, ne_eqb, eqb-true}
 use lib.Dec.{eqb}
 use lib.ListN.{get_or}
-use Rattle.units.specs.declared.reply.Reply.{Reply}
+use Rattle.std.specs.Prelude.{Result}
+use Rattle.units.specs.declared.refusal.Refusal.{Refusal}
 use Rattle.units.specs.Reply.{number, fault}
 use Rattle.state.specs.declared.refusals.Rows.{Rows}
 use Rattle.state.specs.Refusals.{first_of}
@@ -60,7 +61,7 @@ none [] h i = refl
 none (f ∷ l) h i = next_none f l h (λ g. none l g) (eqb f 0) refl i
 
 -- ---- a contract says a reply's number by its rows, and its fault by that number
-module _ (reply : Reply) (r : Rows) (faults : List ℕ) where
+module _ {B : Type 0} (reply : Result B Refusal) (r : Rows) (faults : List ℕ) where
   pub names : number reply ≡ first_of r → fault reply ≡ named (first_of r) (first faults) → r.argument ≡ not (eqb (first faults) 0) → Names reply r faults
   unfolding named
   names p q a =
@@ -75,32 +76,32 @@ module _ (reply : Reply) (r : Rows) (faults : List ℕ) where
       }
 
 -- where the test of row 2 is that there is no fault
-flipped : (a b : Bool) → a ≡ b → not b ≡ not a
-flipped a b e = ap not (sym e)
+flipped : {a b : Bool} → a ≡ b → not b ≡ not a
+flipped e = ap not (sym e)
 
 pub every_fault : EveryFault
 unfolding start_number given_number sent_number postpone_number event_number finish_number judged_number growth_full queue_number fresh_number entry_number slope_number
 every_fault = record {
   firsts = record { found = found; none = none };
-  start = λ q rtt t κ x s p. names x.reply _ _ p.0 p.1.1 (flipped _ _ (start_complete rtt t));
-  sent = λ m t inflight packet bytes κ x s p. names x.reply _ _ p.0 p.1.1 (flipped _ _ (sent_complete t inflight bytes));
-  starts = λ κ a x s p. names x.reply _ _ p.0 p.1.1.1 (flipped _ _ (started_complete a.1.1.0 a.1.1.1.0));
-  finish = λ m e κ x s p. names x.reply _ _ p.0 p.1.1 (flipped _ _ (record_complete 1 e));
-  expire = λ m q e κ x s p. names x.reply _ _ p.0 p.1.1.1 (flipped _ _ (record_complete 1 e));
-  is_inflight_too_high = λ m q e limit κ x s p. names x.reply _ _ p.0 p.1.1 (flipped _ _ (record_complete 1 e));
-  growth = λ m q e κ x s p. names x.reply _ _ p.0 p.1.1.1 (flipped _ _ (record_complete 1 e));
-  queue = λ m q gain κ x s p. names x.reply _ _ p.0 p.1.1 (flipped _ _ (gain_complete gain));
-  bdp = λ m b gain κ x s p. names x.reply _ _ p.0 p.1.1 (flipped _ _ (bdp_complete b gain));
-  bdp1 = λ m b κ x s p. names x.reply _ _ p.0 p.1.1 (flipped _ _ (bdp1_complete b));
-  pacing = λ m gain κ x s p. names x.reply _ _ p.0 p.1.1 (flipped _ _ (gain_complete gain));
-  cwnd = λ m gain κ x s p. names x.reply _ _ p.0 p.1.1 (flipped _ _ (gain_complete gain));
-  high = λ m bytes κ x s p. names x.reply _ _ p.0 p.1.1 (flipped _ _ (limit_complete bytes));
-  cap = λ m bytes κ x s p. names x.reply _ _ p.0 p.1.1 (flipped _ _ (limit_complete bytes));
-  postpone = λ m d κ x s p. names x.reply _ _ p.0 p.1.1 (flipped _ _ (postpone_complete d _));
-  fresh = λ t κ x s p. names x.reply _ _ p.0 p.1.1 (flipped _ _ (now_complete t));
-  down = λ m c q high risky t κ x s p. names x.reply _ _ p.0 p.1.1.1 (flipped _ _ (down_complete t));
-  cruise = λ m c t κ x s p. names x.reply _ _ p.0 p.1.1.1 (flipped _ _ (cruise_complete t));
-  refill = λ m c upRounds t κ x s p. names x.reply _ _ p.0 p.1.1.1 (flipped _ _ (refill_complete upRounds t));
-  up = λ m c t window κ x s p. names x.reply _ _ p.0 p.1.1.1 (flipped _ _ (up_complete t window));
-  slope = λ c window κ x s p. names x.reply _ _ p.0 p.1.1 (flipped _ _ (slope_complete window));
+  start = λ q rtt t κ x s p. names x _ _ p.0 p.1.1 (flipped (start_complete rtt t));
+  sent = λ κ a x e p. names x _ _ p.0 p.1.1 (flipped (sent_complete a.1.0 a.1.1.0 a.1.1.1.1.0));
+  starts = λ κ a x e p. names x _ _ p.0 p.1.1.1 (flipped (started_complete a.1.1.0.now a.1.1.1.0));
+  finish = λ κ a x e p. names x _ _ p.0 p.1.1 (flipped (record_complete 1 a.1.0));
+  expire = λ κ a x e p. names x _ _ p.0 p.1.1.1 (flipped (record_complete 1 a.1.1.0));
+  is_inflight_too_high = λ m q e limit κ x s p. names x _ _ p.0 p.1.1 (flipped (record_complete 1 e));
+  growth = λ κ a x e p. names x _ _ p.0 p.1.1.1 (flipped (record_complete 1 a.1.1.0));
+  queue = λ κ a x e p. names x _ _ p.0 p.1.1 (flipped (gain_complete a.1.1.0));
+  bdp = λ m b gain κ x s p. names x _ _ p.0 p.1.1 (flipped (bdp_complete b gain));
+  bdp1 = λ m b κ x s p. names x _ _ p.0 p.1.1 (flipped (bdp1_complete b));
+  pacing = λ κ a x e p. names x _ _ p.0 p.1.1 (flipped (gain_complete a.1.0));
+  cwnd = λ κ a x e p. names x _ _ p.0 p.1.1 (flipped (gain_complete a.1.0));
+  high = λ κ a x e p. names x _ _ p.0 p.1.1 (flipped (limit_complete a.1.0));
+  cap = λ κ a x e p. names x _ _ p.0 p.1.1 (flipped (limit_complete a.1.0));
+  postpone = λ κ a x e p. names x _ _ p.0 p.1.1 (flipped (postpone_complete a.1.0 _));
+  fresh = λ t κ x s p. names x _ _ p.0 p.1.1 (flipped (now_complete t));
+  down = λ κ a x e p. names x _ _ p.0 p.1.1.1 (flipped (down_complete a.1.1.1.1.1.0));
+  cruise = λ κ a x e p. names x _ _ p.0 p.1.1.1 (flipped (cruise_complete a.1.1.0));
+  refill = λ κ a x e p. names x _ _ p.0 p.1.1.1 (flipped (refill_complete a.1.1.0 a.1.1.1.0));
+  up = λ κ a x e p. names x _ _ p.0 p.1.1.1 (flipped (up_complete a.1.1.0 a.1.1.1.0));
+  slope = λ κ a x e p. names x _ _ p.0 p.1.1 (flipped (slope_complete a.1.0));
 }

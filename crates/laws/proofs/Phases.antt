@@ -1,7 +1,7 @@
 -- A call that is done leaves model and cycle within their bounds. Assumes nothing.
 use Rattle.std.specs.Prelude.{Some}
 use Prim.Native.Nat.{ℕ, ◌+◌, ◌^◌}
-use mathlib.Core.Bool.{Bool, true, false, cond}
+use mathlib.Core.Bool.{Bool, true, false}
 use mathlib.Core.Path.{◌≡◌, refl}
 use native.Mathlib.Nat.{div-le_self}
 use native.Mathlib.Omega.{arith}
@@ -20,7 +20,7 @@ use Rattle.state.specs.Cycle.{wait_ok, rounds_ok, cycle_tests, cycle_ok, cycle_n
 use Rattle.phases.specs.Slope.{next_rounds, up_bytes, slope_raised}
 use Rattle.phases.specs.Phases.{restarted_at, is_down, exit_number, exit_model, exit_cycle, left_model, left_cycle, slope_number, slope_cycle, down_number, down_cycle, cycle_in, capped_by_high, cruise_number, cruise_model, cruise_cycle, refill_number, refill_model, refilled, refill_cycle, up_number, up_cycle}
 use Rattle.phases.proofs.Accepted as accepted
-use Rattle.laws.proofs.Model.{high_ok, moment_kept, restart_kept, cap_kept, clear_inflight_kept, clear_bandwidth_kept, advance_kept}
+use Rattle.laws.proofs.Model.{arms, high_ok, moment_kept, restart_kept, cap_kept, clear_inflight_kept, clear_bandwidth_kept, advance_kept}
 use Rattle.state.proofs.Rows.{all_put, row_argument}
 
 -- ---- the steps of the model keep its bounds
@@ -30,36 +30,20 @@ restarted_kept m now h k = moment_kept (restart_next m) now (restart_kept m h) k
 
 pub exit_model_kept : (m : NetworkModel) (c : Cycle) → model_ok m ≡ true → model_ok (exit_model m c) ≡ true
 unfolding exit_model
-exit_model_kept m c h = go c.advanced
-  where
-    go : (t : Bool) → model_ok (cond t m (advance_next m)) ≡ true
-    go true = h
-    go false = advance_kept m h
+exit_model_kept m c h = arms model_ok c.advanced m (advance_next m) h (advance_kept m h)
 
 pub left_model_kept : (m : NetworkModel) (c : Cycle) → model_ok m ≡ true → model_ok (left_model m c) ≡ true
 unfolding left_model
-left_model_kept m c h = go (is_down c.stay.phase)
-  where
-    go : (t : Bool) → model_ok (cond t (exit_model m c) m) ≡ true
-    go true = exit_model_kept m c h
-    go false = h
+left_model_kept m c h = arms model_ok (is_down c.stay.phase) (exit_model m c) m (exit_model_kept m c h) h
 
 -- ---- the steps of the cycle keep its bounds
 pub exit_cycle_kept : (c : Cycle) → cycle_ok c ≡ true → cycle_ok (exit_cycle c) ≡ true
 unfolding exit_cycle cycle_tests
-exit_cycle_kept c h = go c.advanced
-  where
-    go : (t : Bool) → cycle_ok (cond t c (record { stay = c.stay; wait = c.wait; slope = c.slope; advanced = true; probing = c.probing; last = c.last })) ≡ true
-    go true = h
-    go false = h
+exit_cycle_kept c h = arms cycle_ok c.advanced c (record { stay = c.stay; wait = c.wait; slope = c.slope; advanced = true; probing = c.probing; last = c.last }) h h
 
 pub left_cycle_kept : (c : Cycle) → cycle_ok c ≡ true → cycle_ok (left_cycle c) ≡ true
 unfolding left_cycle
-left_cycle_kept c h = go (is_down c.stay.phase)
-  where
-    go : (t : Bool) → cycle_ok (cond t (exit_cycle c) c) ≡ true
-    go true = exit_cycle_kept c h
-    go false = h
+left_cycle_kept c h = arms cycle_ok (is_down c.stay.phase) (exit_cycle c) c (exit_cycle_kept c h) h
 
 pub in_kept : (c : Cycle) (phase : CyclePhase) (now : Moment) (probing : Bool) → cycle_ok c ≡ true → moment_ok now ≡ true → cycle_ok (cycle_in c phase now probing) ≡ true
 unfolding cycle_tests cycle_in stay_from

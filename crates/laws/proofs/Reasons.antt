@@ -1,7 +1,8 @@
 -- Why a windowed filter's estimates moved: the laws of the reason, by the tests of the steps. Assumes nothing.
 use Rattle.std.specs.Prelude.{Option, None, Some}
+use Rattle.std.proofs.Math.Bool.{and-false}
 use Prim.Native.Nat.{ℕ, ◌/◌}
-use mathlib.Core.Bool.{Bool, true, false, cond, ◌&&◌, ◌||◌, true≢false, false≢true}
+use mathlib.Core.Bool.{Bool, true, false, cond, ◌||◌, true≢false, false≢true}
 use mathlib.Core.Logic.{◌⊎◌, inl, inr, ◌↔◌}
 use mathlib.Core.Path.{◌≡◌, refl, sym, ap, ◌∙◌, subst}
 use native.Mathlib.Nat.{sub_self, le_refl}
@@ -36,13 +37,9 @@ names {r} named is = true≢false (sym (ap is_unchanged is) ∙ named)
 fresh : (new : Sample) (limit : ℕ) → is_older new limit new.time ≡ false
 fresh new limit = rw sub_self (le-ltb limit 0 (omega arith))
 
-and_false : (b : Bool) → (b && false) ≡ false
-and_false true = refl
-and_false false = refl
-
 never_lingers : (new better : Sample) (limit : ℕ) → lingers new better limit new.time ≡ false
 unfolding lingers
-never_lingers new better limit = rw (fresh new limit) (and_false (eqb new.sample better.sample))
+never_lingers new better limit = rw (fresh new limit) (and-false (eqb new.sample better.sample))
 
 lingers_older : (s better : Sample) (limit t : ℕ) → lingers s better limit t ≡ true → is_older s limit t ≡ true
 unfolding lingers
@@ -268,11 +265,11 @@ module _ (e : Estimates) (new : Sample) (w : ℕ) where
 pub reasons : Reasons
 reasons =
     record {
-      unchanged = λ f sample time κ x s p.
-          let same = agrees f.window f.held sample time in
+      unchanged = λ κ a x e p.
+          let same = agrees a.0.now.window a.0.now.held a.1.0 a.1.1.0 in
           (λ is. p.1.0 ∙ same.0 (sym p.1.1 ∙ is), λ is. p.1.1 ∙ same.1 (sym p.1.0 ∙ is));
-      best = λ f sample time κ x s p moves.
-          ap (λ (g : WindowedFilter). best_of g.held) p.1.0 ∙ best_stays f.window f.held sample time (sym (ap moves_best p.1.1) ∙ moves);
+      best = λ κ a x e p moves.
+          ap (λ (g : WindowedFilter). best_of g.held) p.1.0 ∙ best_stays a.0.now.window a.0.now.held a.1.0 a.1.1.0 (sym (ap moves_best p.1.1) ∙ moves);
       later = later;
       earlier = earlier;
       both = both;

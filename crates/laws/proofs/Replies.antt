@@ -3,7 +3,8 @@ use Prim.Native.Nat.{ℕ, zero, suc}
 use mathlib.Core.Bool.{Bool, true, false, cond, not, ◌&&◌}
 use mathlib.Core.Path.{◌≡◌, refl, sym, subst, ◌∙◌}
 use borrow.Author.Tests.{eq-eqb, ne_eqb}
-use Rattle.units.specs.declared.reply.Reply.{Reply}
+use Rattle.std.specs.Prelude.{Result}
+use Rattle.units.specs.declared.refusal.Refusal.{Refusal}
 use Rattle.units.specs.Reply.{number}
 use Rattle.filters.specs.RoundTripCounter.{ends_round, rounds_full, rounds_number, rounds_ended, rounds_acked}
 use Rattle.filters.specs.declared.windowed_filter.Reason.TheVariants.{Unchanged}
@@ -80,17 +81,17 @@ module _ (r : Rows) where
       }
 
 -- ---- a contract says a reply's number by its rows, and what is left by that number
-pub answered : {A : Type 0} {reply : Reply} {got next old : A} (r : Rows) → number reply ≡ first_of r → got ≡ settled (first_of r) next old → Answered reply r got next old
+pub answered : {A B : Type 0} {reply : Result B Refusal} {got next old : A} (r : Rows) → number reply ≡ first_of r → got ≡ settled (first_of r) next old → Answered reply r got next old
 unfolding settled
-answered {A} {reply} {got} {next} {old} r p q =
+answered {A} {B} {reply} {got} {next} {old} r p q =
     record {
       row = exactly r (number reply) p;
       done = λ h. q ∙ simp (eq-eqb (first_of r) 0 (sym p ∙ h));
       refused = λ h. q ∙ simp (ne_eqb (first_of r) 0 (λ z. h (p ∙ z)));
     }
 
-pub answered_both : {X Y : Type 0} {reply : Reply} {a x x' : X} {b y y' : Y} (r : Rows) → number reply ≡ first_of r → a ≡ settled (first_of r) x x' → b ≡ settled (first_of r) y y' → Answered {A = X × Y} reply r (a, b) (x, y) (x', y')
-answered_both {X} {Y} {reply} {a} {x} {x'} {b} {y} {y'} r p q t = answered r p (settled_both (first_of r) a x x' b y y' q t)
+pub answered_both : {X Y B : Type 0} {reply : Result B Refusal} {a x x' : X} {b y y' : Y} (r : Rows) → number reply ≡ first_of r → a ≡ settled (first_of r) x x' → b ≡ settled (first_of r) y y' → Answered {A = X × Y} reply r (a, b) (x, y) (x', y')
+answered_both {X} {Y} {B} {reply} {a} {x} {x'} {b} {y} {y'} r p q t = answered r p (settled_both (first_of r) a x x' b y y' q t)
 
 -- ---- the calls
 answers : EveryAnswer
@@ -123,39 +124,39 @@ changes : EveryChange
 unfolding start_number start_model stored_number given_number sent_number postpone_number
 changes = record {
   start = λ q rtt t κ x s p. answered _ p.0 p.1.0;
-  sent = λ m t inflight packet bytes κ x s p. answered _ p.0 p.1.0;
-  restart = λ m κ x s p. answered _ p.0 p.1;
-  reached = λ m κ x s p. answered _ p.0 p.1;
-  pacing = λ m gain κ x s p. answered _ p.0 p.1.0;
-  cwnd = λ m gain κ x s p. answered _ p.0 p.1.0;
-  high = λ m bytes κ x s p. answered _ p.0 p.1.0;
-  cap = λ m bytes κ x s p. answered _ p.0 p.1.0;
-  clear_inflight = λ m κ x s p. answered _ p.0 p.1;
-  clear_bandwidth = λ m κ x s p. answered _ p.0 p.1;
-  advance = λ m κ x s p. answered _ p.0 p.1;
-  postpone = λ m d κ x s p. answered _ p.0 p.1.0;
+  sent = λ κ a x e p. answered _ p.0 p.1.0;
+  restart = λ κ a x e p. answered _ p.0 p.1;
+  reached = λ κ a x e p. answered _ p.0 p.1;
+  pacing = λ κ a x e p. answered _ p.0 p.1.0;
+  cwnd = λ κ a x e p. answered _ p.0 p.1.0;
+  high = λ κ a x e p. answered _ p.0 p.1.0;
+  cap = λ κ a x e p. answered _ p.0 p.1.0;
+  clear_inflight = λ κ a x e p. answered _ p.0 p.1;
+  clear_bandwidth = λ κ a x e p. answered _ p.0 p.1;
+  advance = λ κ a x e p. answered _ p.0 p.1;
+  postpone = λ κ a x e p. answered _ p.0 p.1.0;
 }
 
 events : EveryEvent
 unfolding event_number finish_number judged_number growth_full queue_number
 events = record {
-  starts = λ κ a x s p. answered_both _ p.0 p.1.0 p.1.1.0;
-  finish = λ m e κ x s p. answered _ p.0 p.1.0;
-  expire = λ m q e κ x s p. answered_both _ p.0 p.1.0 p.1.1.0;
-  growth = λ m q e κ x s p. answered_both _ p.0 p.1.0 p.1.1.0;
-  queue = λ m q gain κ x s p. answered _ p.0 p.1.0;
+  starts = λ κ a x e p. answered_both _ p.0 p.1.0 p.1.1.0;
+  finish = λ κ a x e p. answered _ p.0 p.1.0;
+  expire = λ κ a x e p. answered_both _ p.0 p.1.0 p.1.1.0;
+  growth = λ κ a x e p. answered_both _ p.0 p.1.0 p.1.1.0;
+  queue = λ κ a x e p. answered _ p.0 p.1.0;
 }
 
 entries : EveryPhase
 unfolding fresh_number fresh_cycle entry_number exit_number slope_number
 entries = record {
   fresh = λ t κ x s p. answered _ p.0 p.1.0;
-  down = λ m c q high risky t κ x s p. answered_both _ p.0 p.1.0 p.1.1.0;
-  cruise = λ m c t κ x s p. answered_both _ p.0 p.1.0 p.1.1.0;
-  refill = λ m c upRounds t κ x s p. answered_both _ p.0 p.1.0 p.1.1.0;
-  up = λ m c t window κ x s p. answered_both _ p.0 p.1.0 p.1.1.0;
-  exit = λ m c κ x s p. answered_both _ p.0 p.1.0 p.1.1;
-  slope = λ c window κ x s p. answered _ p.0 p.1.0;
+  down = λ κ a x e p. answered_both _ p.0 p.1.0 p.1.1.0;
+  cruise = λ κ a x e p. answered_both _ p.0 p.1.0 p.1.1.0;
+  refill = λ κ a x e p. answered_both _ p.0 p.1.0 p.1.1.0;
+  up = λ κ a x e p. answered_both _ p.0 p.1.0 p.1.1.0;
+  exit = λ κ a x e p. answered_both _ p.0 p.1.0 p.1.1;
+  slope = λ κ a x e p. answered _ p.0 p.1.0;
 }
 
 -- what a refusing test leaves: of the windowed filter; of the count of rounds, and whether one ended
@@ -179,13 +180,13 @@ ended false most = refl
 filters : EveryFilter
 unfolding row_of windowed_number windowed_update windowed_reason rounds_number rounds_full rounds_ended rounds_acked
 filters = record {
-  windowed_updates = λ f sample time κ x s p.
-      let refused = is_after f.held time in
-      answered_both _ p.0 (p.1.0 ∙ stays refused _ f) (p.1.1 ∙ stays refused _ Unchanged);
-  rounds_ack = λ κ a x s p.
-      let ends = ends_round a.0.end a.1.0.now in
-      let most = is_full_counter a.0.count in
-      answered_both _ p.0 (p.1.0 ∙ counts ends most _ a.0) (p.1.1 ∙ ended ends most);
+  windowed_updates = λ κ a x e p.
+      let refused = is_after a.0.now.held a.1.1.0 in
+      answered_both _ p.0 (p.1.0 ∙ stays refused _ a.0.now) (p.1.1 ∙ stays refused _ Unchanged);
+  rounds_ack = λ κ a x e p.
+      let ends = ends_round a.0.now.end a.1.0.now in
+      let most = is_full_counter a.0.now.count in
+      answered_both _ p.0 (p.1.0 ∙ counts ends most _ a.0.now) (p.1.1 ∙ ended ends most);
 }
 
 pub every_reply : EveryReply

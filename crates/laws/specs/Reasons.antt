@@ -1,16 +1,17 @@
 -- What holds of the reason that an update of a windowed filter answers (crates/filters/specs/Reason.antt): document 02,
 -- request f. Statements only; crates/theorems/specs/Theorems.antt says how to read them, and Replies.antt beside this
--- file what `Every` says of a contract. crates/filters/specs/Examples.antt has each of the four pairs worked out.
+-- file what `EveryOutcome` says of a contract. crates/filters/specs/Examples.antt has each of the four pairs worked
+-- out.
 use Rattle.std.specs.Prelude.{ℕ, Bool, true, false, ◌⊎◌, ◌↔◌, ◌≡◌, Some}
+use Rattle.units.specs.Reply.{kept}
 use Rattle.filters.specs.declared.windowed_filter.Estimates.{Estimates}
 use Rattle.filters.specs.declared.windowed_filter.Reason.{Reason}
 use Rattle.filters.specs.declared.windowed_filter.Reason.TheVariants.{AllReplaced, SecondRaised, ThirdRaised, PromotedOnce, PromotedTwice, QuarterRefresh, HalfRefresh, Unchanged}
 use Rattle.filters.specs.declared.windowed_filter.Sample.{Sample}
-use Rattle.filters.specs.declared.windowed_filter.WindowedFilter.{WindowedFilter}
 use Rattle.filters.specs.Reason.{raised_reason, later_reason, reason_of}
 use Rattle.filters.specs.WindowedFilter.{is_replaced, best_of}
 use Rattle.filters.proofs.windowed_filter.WindowedFilter as windowed
-use Rattle.laws.specs.Replies.{Every}
+use Rattle.laws.specs.Replies.{EveryOutcome}
 
 -- a step acts where it names anything but Unchanged
 abbrev pub Acts : Reason → Type 0
@@ -33,13 +34,13 @@ moves_best Unchanged = false
 
 pub record Reasons : Type 0 where
   -- "unchanged" exactly when the update left the filter as it was; a refused one does, and says so
-  pub unchanged : (f : WindowedFilter) (sample time : ℕ) →
-      Every windowed.update.Reads.Learnt (λ κ. (f, (sample, (time, tt))))
-      (λ x. (x.reason ≡ Unchanged) ↔ (x.filter ≡ f))
+  pub unchanged :
+      EveryOutcome windowed.update.Reads.Learnt
+      (λ κ a x e. (kept x Unchanged ≡ Unchanged) ↔ (e.0.now ≡ a.0.now))
   -- "why the best estimate moved": it moves with step 1 and step 3 alone
-  pub best : (f : WindowedFilter) (sample time : ℕ) →
-      Every windowed.update.Reads.Learnt (λ κ. (f, (sample, (time, tt))))
-      (λ x. moves_best x.reason ≡ false → best_of x.filter.held ≡ best_of f.held)
+  pub best :
+      EveryOutcome windowed.update.Reads.Learnt
+      (λ κ a x e. moves_best (kept x Unchanged) ≡ false → best_of e.0.now.held ≡ best_of a.0.now.held)
   -- where step 1 does not act: "If step 2 of document 01 and a later step both act, the later one is named", and where
   -- no later step acts, step 2
   pub later : (e : Estimates) (new : Sample) (w : ℕ) → is_replaced e new w ≡ false →
