@@ -98,8 +98,8 @@ impl RttStats {
         ensures row { caused result ≡ update_number self.old latest delay fits }
         ensures stats { self.new ≡ update_left self.old latest delay confirmed fits }
     {
-        self.rows(length_ok(latest) & length_ok(delay) & fits)
-            .first()?;
+        let rows = self.rows(length_ok(latest) & length_ok(delay) & fits);
+        rows.first()?;
         *self = self.update_next(latest, delay, confirmed);
         Ok(())
     }
