@@ -7,7 +7,6 @@ use Rattle.units.specs.Reply as Replies
 use Rattle.units.specs.declared.refusal.Refusal.{Refusal}
 use Rattle.units.proofs.refusal.Number.{number_injective, only_reply}
 use Rattle.state.specs.Answers.{zero_length}
-use Rattle.state.proofs.Causes.{only_cause}
 use Rattle.state.proofs.Determined.{one_answer}
 use Rattle.state.proofs.FirstFault.{no_two}
 use Rattle.rtt.specs.declared.rtt.RttStats.{RttStats}
@@ -27,7 +26,7 @@ pub one_rtt_rttstats_update_rtt : OneOutcome stats.update_rtt.Reads.Learnt (λ �
 one_rtt_rttstats_update_rtt κ a x y s t p q = (only_reply x y (p.0 ∙ sym q.0) (p.1.1 ∙ sym q.1.1), p.1.0 ∙ sym q.1.0)
 
 pub one_rtt_rttstats_update_taken : OneOutcome stats.update_taken.Reads.Learnt (λ κ e. e.0.now)
-one_rtt_rttstats_update_taken κ a x y s t p q = (only_cause x y (p.0 ∙ sym q.0), p.1 ∙ sym q.1)
+one_rtt_rttstats_update_taken κ a x y s t p q = (only_reply x y (p.0 ∙ sym q.0) (p.1.1 ∙ sym q.1.1), p.1.0 ∙ sym q.1.0)
 
 pub one_rtt_rttstats_given : OneReply stats.given.Reads.Learnt
 one_rtt_rttstats_given κ a x y s t p q = only_reply x y (p.0 ∙ sym q.0) (p.1 ∙ sym q.1)

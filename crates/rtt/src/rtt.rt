@@ -4,12 +4,11 @@ ghost use Rattle.units.specs.Reply.{number, fault, kept};
 ghost use Rattle.state.specs.Answers.{settled, zero_length};
 ghost use Rattle.state.specs.Bounds.{length_ok};
 ghost use Rattle.state.specs.Faults.{first, named};
-ghost use Rattle.state.specs.Refusals.{caused};
 ghost use Rattle.rtt.specs.Rtt.{stats_ok, asked_rows, given_number, stored_number, new_faults, new_number, stats_new, new_left, update_faults, update_number, first_sample, delay_taken, plausible, adjusted, smoothed_after, variation_after, later_sample, update_next, update_left, delay_faults, delay_number, delay_left, minimum_shown};
 
 use state::bounds::length_ok;
 use state::faults::{Kind, first_of, unless};
-use state::refusals::{Cause, Rows, refusal};
+use state::refusals::{Rows, refusal};
 use units::{Duration, Refusal};
 
 #[derive(Clone, Copy)]
@@ -69,7 +68,6 @@ impl RttStats {
 
     // A sample: a round trip just measured, the ack delay that the peer reported, and whether the handshake is
     // confirmed.
-    #[tactic(auto, unfolding(state::specs::Faults::named))]
     pub fn update_rtt(
         &mut self,
         latest: Duration,
@@ -82,24 +80,25 @@ impl RttStats {
             (first (update_faults latest delay true)) }
     {
         self.update_taken(latest, delay, confirmed, true)
-            .map_err(|cause| cause.named(update_fault(latest, delay, true)))
     }
 
-    // The same for a run, which is given the flag as a word that may be malformed, and finds the fault, where there is
-    // one, in the call's words.
-    #[tactic(auto, using(crate::proofs::Exact::rows_fine), unfolding(crate::specs::Rtt::given_number, crate::specs::Rtt::update_number, crate::specs::Rtt::update_left, state::specs::Answers::settled))]
+    // The same for a run, which is given the flag as a word that may be malformed.
+    #[tactic(auto, using(crate::proofs::Exact::rows_fine), unfolding(crate::specs::Rtt::given_number, crate::specs::Rtt::update_number, crate::specs::Rtt::update_left, state::specs::Answers::settled, state::specs::Faults::named))]
     pub fn update_taken(
         &mut self,
         latest: Duration,
         delay: Duration,
         confirmed: bool,
         fits: bool,
-    ) -> Result<(), Cause>
-        ensures row { caused result ≡ update_number self.old latest delay fits }
+    ) -> Result<(), Refusal>
+        ensures reply { number result ≡ update_number self.old latest delay fits }
         ensures stats { self.new ≡ update_left self.old latest delay confirmed fits }
+        ensures fault { fault result ≡ named (update_number self.old latest delay fits)
+            (first (update_faults latest delay fits)) }
     {
         let rows = self.rows(length_ok(latest) & length_ok(delay) & fits);
-        rows.first()?;
+        rows.first()
+            .map_err(|cause| cause.named(update_fault(latest, delay, fits)))?;
         *self = self.update_next(latest, delay, confirmed);
         Ok(())
     }
