@@ -8,12 +8,11 @@ use lib.Dec.{eqb}
 use lib.ListN.{length}
 use lib.Seq.{sets}
 use Rattle.state.specs.Answers.{settled}
-use Rattle.state.specs.Faults.{first, replied}
-use Rattle.words.specs.Words.{word_at, all_bytes}
+use Rattle.words.specs.Words.{all_bytes}
 use Rattle.words.proofs.Stores.{sets-append}
 use Rattle.words.proofs.Laws.{all_bytes_append, length_all_bytes}
 use Rattle.rtt.specs.declared.rtt.RttStats.{RttStats}
-use Rattle.trips.specs.Trips.{call_row, call_faults, call_left, shown, answer_words, answer_at, left_at, answers_to, left_by}
+use Rattle.trips.specs.Trips.{shown, answer_words, answer_at, left_at, answers_to, left_by}
 
 -- an answer has five words, done or refused
 pub length_settled : (n : ℕ) (s : RttStats) → length (settled n (shown s) (0 ∷ 0 ∷ 0 ∷ 0 ∷ [])) ≡ 4
@@ -27,13 +26,6 @@ length_settled n s = go (eqb n 0)
 pub length_answer : (s : RttStats) (src : List ℕ) (at : ℕ) → length (answer_at s src at) ≡ 5
 unfolding answer_at answer_words
 length_answer s src at = ap suc (length_settled _ _)
-
--- what the parts of one call have made of its words
-pub made :
-    (s left : RttStats) (src words : List ℕ) (at n a b c row word : ℕ) → n ≡ word_at src at → a ≡ word_at src (at + 8) → b ≡ word_at src (at + 16) → c ≡ word_at src (at + 24) → row ≡ call_row s n a b c →
-    left ≡ call_left s n a b c → word ≡ replied row (first (call_faults n a b c)) → words ≡ word ∷ settled row (shown left) (0 ∷ 0 ∷ 0 ∷ 0 ∷ []) → (words ≡ answer_at s src at) × (left ≡ left_at s src at)
-unfolding answer_at answer_words left_at
-made s left src words at n a b c row word en ea eb ec er el ew e = (e ∙ rw (ew, el, er, en, ea, eb, ec), el ∙ rw (en, ea, eb, ec))
 
 module _ (src : List ℕ) (i count : ℕ) (h : i < count) (s : RttStats) where
   left : count - i ≡ suc (count - (i + 1))
