@@ -1,6 +1,6 @@
 -- One turn of each loop of the filter run, over plain variables: what is still to be done leads to the same end.
 -- Assumes nothing.
-use Rattle.std.specs.Prelude.{Option, Some}
+use Rattle.std.specs.Prelude.{Option, Some, Result, Ok, Err, is_err}
 use Prim.Native.Nat.{ℕ, suc, ◌+◌, ◌-◌, ◌*◌, ◌≤◌, ◌<◌}
 use Rattle.filters.specs.declared.windowed_filter.Estimates.{Estimates}
 use mathlib.Core.Bool.{Bool, true, false, cond, not, ◌||◌, true≢false}
@@ -10,7 +10,10 @@ use native.Mathlib.Omega.{arith}
 use lib.Dec.{eqb}
 use lib.ListN.{length}
 use lib.Seq.{sets}
-use borrow.Author.Tests.{lt-ltb, le-ltb}
+use borrow.Author.Tests.{lt-ltb, le-ltb, ne_eqb}
+use Rattle.units.specs.Reply.{row_of, number}
+use Rattle.units.specs.declared.refusal.Refusal.{Refusal}
+use Rattle.units.proofs.refusal.Number.{no_row}
 use Rattle.filters.specs.declared.windowed_filter.Sample.{Sample}
 use Rattle.filters.specs.declared.windowed_filter.Stepped.{Stepped}
 use Rattle.filters.specs.declared.windowed_filter.WindowedFilter.{WindowedFilter}
@@ -21,6 +24,11 @@ use Rattle.words.proofs.Stores.{sets-append}
 use Rattle.words.proofs.Laws.{all_bytes_append, length_all_bytes}
 use Rattle.pairs.specs.Pairs.{after_pair, refuses, samples, pair_words, run_words}
 use Rattle.pairs.specs.Inner.{times_fall, pair_at, stepped_words}
+
+-- a call is refused exactly where its reply has a number
+pub is_err_number : {A : Type 0} (x : Result A Refusal) → is_err x ≡ not (eqb (number x) 0)
+is_err_number (Ok a) = refl
+is_err_number (Err r) = rw (ne_eqb (row_of r) 0 (no_row r))
 
 -- a pair is not refused, and none after it: the filter's times are not later
 unrefused : (after later : Bool) → (not (eqb (cond after 3 0) 0) || later) ≡ false → (after ≡ false) × (later ≡ false)
@@ -100,13 +108,13 @@ module _ (src : List ℕ) (i count : ℕ) (h : i < count) where
 
   module _ (f : WindowedFilter) where
     -- a pair that is refused
-    pub refused_now : {end : Bool} → eqb (windowed_number f (word_at src (16 * i))) 0 ≡ false → refuses f src (16 * i) (count - i) ≡ end → true ≡ end
+    pub refused_now : {end : Bool} → not (eqb (windowed_number f (word_at src (16 * i))) 0) ≡ true → refuses f src (16 * i) (count - i) ≡ end → true ≡ end
     unfolding refuses
     refused_now d e = rw d at (rw left at e)
 
     -- a pair that is not
     pub refused_later :
-        {end : Bool} → eqb (windowed_number f (word_at src (16 * i))) 0 ≡ true → refuses f src (16 * i) (count - i) ≡ end →
+        {end : Bool} → not (eqb (windowed_number f (word_at src (16 * i))) 0) ≡ false → refuses f src (16 * i) (count - i) ≡ end →
         refuses (after_pair f src (16 * i)) src (16 * (i + 1)) (count - (i + 1)) ≡ end
     unfolding refuses
     refused_later d e = rw next (rw d at (rw left at e))
