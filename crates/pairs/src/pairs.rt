@@ -40,6 +40,7 @@ fn is_refused(window: u64, src: &[u8]) -> bool
 }
 
 // Whether a time is earlier than the one before it.
+#[tactic(auto, using(crate::proofs::Run::falls_now, crate::proofs::Run::falls_later, crate::proofs::Run::falls_end))]
 fn times_fall(src: &[u8]) -> bool
     ensures { result ≡ times_fall 0 src.now 0 (pairs src.now) }
 {
@@ -55,6 +56,7 @@ fn times_fall(src: &[u8]) -> bool
 }
 
 // Whether the update refuses a pair, by updates from the first pair on.
+#[tactic(auto, using(crate::proofs::Run::is_err_number, crate::proofs::Run::refused_now, crate::proofs::Run::refused_later, crate::proofs::Run::refused_end), unfolding(crate::specs::Pairs::after_pair))]
 fn meets_refusal(window: u64, src: &[u8]) -> bool
     ensures { result ≡ refuses (windowed_new window) src.now 0 (pairs src.now) }
 {
@@ -69,6 +71,7 @@ fn meets_refusal(window: u64, src: &[u8]) -> bool
 }
 
 // Writes the samples that each pair leaves, and why they moved. Asks that no pair is refused.
+#[tactic(auto, using(crate::proofs::Run::length_stepped, crate::proofs::Run::taken_later, crate::proofs::Run::written, crate::proofs::Run::written_end), unfolding(crate::specs::Inner::stepped_words))]
 pub fn write_run(window: u64, src: &[u8], out: &mut [u8])
     requires { (refuses (windowed_new window) src.now 0 (pairs src.now) ≡ false) × (32 * pairs src.now ≤ length out.old) }
     ensures { out.new ≡ sets out.old 0 (all_bytes (run_words (windowed_new window) src.now 0 (pairs src.now))) }
