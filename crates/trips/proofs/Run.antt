@@ -1,5 +1,5 @@
 -- One turn of the run, over plain variables: what is still to be done leads to the same end. Assumes nothing.
-use Prim.Native.Nat.{ℕ, suc, ◌+◌, ◌-◌, ◌*◌, ◌<◌}
+use Prim.Native.Nat.{ℕ, suc, ◌+◌, ◌-◌, ◌*◌, ◌≤◌, ◌<◌}
 use mathlib.Core.Bool.{Bool, true, false, cond}
 use mathlib.Core.List.{List, [], ◌∷◌}
 use mathlib.Core.Path.{◌≡◌, refl, sym, ap, ◌∙◌}
@@ -27,7 +27,20 @@ pub length_answer : (s : RttStats) (src : List ℕ) (at : ℕ) → length (answe
 unfolding answer_at answer_words
 length_answer s src at = ap suc (length_settled _ _)
 
-module _ (src : List ℕ) (i count : ℕ) (h : i < count) (s : RttStats) where
+-- where no call is left
+module _ (s : RttStats) (src : List ℕ) (i count : ℕ) (h : count ≤ i) where
+  none_left : count - i ≡ 0
+  none_left = omega arith
+
+  pub left_end : left_by s src (32 * i) (count - i) ≡ s
+  unfolding left_by
+  left_end = rw none_left
+
+  pub answers_end : (out : List ℕ) → sets out (40 * i) (all_bytes (answers_to s src (32 * i) (count - i))) ≡ out
+  unfolding answers_to all_bytes
+  answers_end out = rw none_left
+
+module _ (s : RttStats) (src : List ℕ) (i count : ℕ) (h : i < count) where
   left : count - i ≡ suc (count - (i + 1))
   left = omega arith
 
@@ -35,17 +48,17 @@ module _ (src : List ℕ) (i count : ℕ) (h : i < count) (s : RttStats) where
   next = omega arith
 
   -- the estimator that is to be left
-  pub left_later : {end : RttStats} → left_by s src (32 * i) (count - i) ≡ end → left_by (left_at s src (32 * i)) src (32 * (i + 1)) (count - (i + 1)) ≡ end
+  pub left_later : left_by s src (32 * i) (count - i) ≡ left_by (left_at s src (32 * i)) src (32 * (i + 1)) (count - (i + 1))
   unfolding left_by
-  left_later e = rw next (rw left at e)
+  left_later = rw (left, next)
 
   -- an answer is written
   pub write_answer :
-      (out : List ℕ) {end : List ℕ} → sets out (40 * i) (all_bytes (answers_to s src (32 * i) (count - i))) ≡ end →
-      sets (sets out (40 * i) (all_bytes (answer_at s src (32 * i)))) (40 * (i + 1)) (all_bytes (answers_to (left_at s src (32 * i)) src (32 * (i + 1)) (count - (i + 1)))) ≡ end
+      (out : List ℕ) →
+      sets out (40 * i) (all_bytes (answers_to s src (32 * i) (count - i))) ≡ sets (sets out (40 * i) (all_bytes (answer_at s src (32 * i)))) (40 * (i + 1)) (all_bytes (answers_to (left_at s src (32 * i)) src (32 * (i + 1)) (count - (i + 1))))
   unfolding answers_to
-  write_answer out e =
+  write_answer out =
       let five = all_bytes (answer_at s src (32 * i)) in
       let more = answers_to (left_at s src (32 * i)) src (32 * i + 32) (count - (i + 1)) in
       let step : 40 * (i + 1) ≡ 40 * i + length five = rw (length_all_bytes (answer_at s src (32 * i)), length_answer s src (32 * i)) (omega arith) in
-      rw (next, step) (sets-append out (40 * i) five (all_bytes more) ∙ ap (sets out (40 * i)) (sym (all_bytes_append (answer_at s src (32 * i)) more)) ∙ rw left at e)
+      rw (left, next, step) (sym (sets-append out (40 * i) five (all_bytes more) ∙ ap (sets out (40 * i)) (sym (all_bytes_append (answer_at s src (32 * i)) more))))
