@@ -159,9 +159,10 @@ STEPS = [
 # its number and read from its words, which are there called a, b and c.
 RTT = {".rt": "crates/rtt/src/rtt.rt", ".antt": "crates/rtt/specs/Rtt.antt"}
 TRIPS = {".rt": "crates/trips/src/trips.rt", ".antt": "crates/trips/specs/Trips.antt"}
-# Functions that choose by the number, and with what the names end that they choose.
+# Functions that choose by the number, and what they choose: with what the names end, or the names.
+RTT_MADE = {"new": "begin", "update": "update_taken", "delay": "update_max_ack_delay"}
 RTT_CHOICES = {
-    ".rt": [(["call_fault"], "_fault"), (["call_taken", "other_taken"], "_taken")],
+    ".rt": [(["call_made"], RTT_MADE)],
     ".antt": [(["call_faults"], "_faults"), (["call_row"], "_number"), (["call_left"], "_left")],
 }
 # Functions that read a call's words, write a state's and an answer's, and test a state's form.
@@ -817,12 +818,11 @@ def check_rtt_rows(table, path):
 def rtt_choices(path, names):
     """The choices by the number of a call: number, name of what is chosen, and the words that it is given."""
     bodies = functions(path)
-    test = r"\bif number == (\d+) \{" if ending(path) == ".rt" else r"\bcond \(eqb n (\d+)\)\s*\("
+    test = r"\b(\d+) => (?:stats\.)?(\w+)\(" if ending(path) == ".rt" else r"\bcond \(eqb n (\d+)\)\s*\((\w*)"
     for body in (bodies.get(name, "") for name in names):
         for found in re.finditer(test, body):
-            chosen = closed(body, found.end() - 1)
-            name = re.search(r"(\w+)\(" if ending(path) == ".rt" else r"(\w+)", chosen)
-            yield int(found.group(1)), name.group(1) if name else "", "".join(re.findall(r"\b[abc]\b", chosen))
+            chosen = closed(body, body.rindex("(", 0, found.end()))
+            yield int(found.group(1)), found.group(2), "".join(re.findall(r"\b[abc]\b", chosen))
 
 
 def check_rtt_choices(table, path, choices):
@@ -833,12 +833,13 @@ def check_rtt_choices(table, path, choices):
         for row in table.rows("rtt_calls"):
             rows = [("_abc"[int(one["word"])], one["kind"]) for one in table.given(row["name"], "rtt_arguments")]
             flags |= {letter for letter, kind in rows if kind == "flag"}
-            due.append((int(row["number"]), row["here"] + end, "".join(letter for letter, _ in rows)))
+            name = end[row["here"]] if isinstance(end, dict) else row["here"] + end
+            due.append((int(row["number"]), name, "".join(letter for letter, _ in rows)))
         once = lambda given: "".join(one for at, one in enumerate(given) if one not in flags or given[at - 1 : at] != one)
         stands = sorted((number, name, once(given)) for number, name, given in rtt_choices(path, names))
         if stands != due:
             yield f"{path}: {', '.join(names)}: {stands} are chosen there, and should be {due}"
-    unknown = r"\n +NO_CALL\n" if ending(path) == ".rt" else r"unless false 0 list_length"
+    unknown = r"\n +_ => stats\.given\(false, NO_CALL\)," if ending(path) == ".rt" else r"unless false 0 list_length"
     if not re.search(unknown, functions(path).get(choices[0][0][0], "")):
         yield f"{path}: {choices[0][0][0]}: a number that is no call's has another fault there, and should have 2.8 at 0"
 

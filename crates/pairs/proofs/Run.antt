@@ -1,6 +1,6 @@
 -- One turn of each loop of the filter run, over plain variables: what is still to be done leads to the same end.
 -- Assumes nothing.
-use Rattle.std.specs.Prelude.{Option, Some}
+use Rattle.std.specs.Prelude.{Option, Some, Result, Ok, Err, is_err}
 use Prim.Native.Nat.{ℕ, suc, ◌+◌, ◌-◌, ◌*◌, ◌≤◌, ◌<◌}
 use Rattle.filters.specs.declared.windowed_filter.Estimates.{Estimates}
 use mathlib.Core.Bool.{Bool, true, false, cond, not, ◌||◌, true≢false}
@@ -10,7 +10,10 @@ use native.Mathlib.Omega.{arith}
 use lib.Dec.{eqb}
 use lib.ListN.{length}
 use lib.Seq.{sets}
-use borrow.Author.Tests.{lt-ltb, le-ltb}
+use borrow.Author.Tests.{lt-ltb, le-ltb, ne_eqb}
+use Rattle.units.specs.Reply.{row_of, number}
+use Rattle.units.specs.declared.refusal.Refusal.{Refusal}
+use Rattle.units.proofs.refusal.Number.{no_row}
 use Rattle.filters.specs.declared.windowed_filter.Sample.{Sample}
 use Rattle.filters.specs.declared.windowed_filter.Stepped.{Stepped}
 use Rattle.filters.specs.declared.windowed_filter.WindowedFilter.{WindowedFilter}
@@ -21,6 +24,11 @@ use Rattle.words.proofs.Stores.{sets-append}
 use Rattle.words.proofs.Laws.{all_bytes_append, length_all_bytes}
 use Rattle.pairs.specs.Pairs.{after_pair, refuses, samples, pair_words, run_words}
 use Rattle.pairs.specs.Inner.{times_fall, pair_at, stepped_words}
+
+-- a call is refused exactly where its reply has a number
+pub is_err_number : {A : Type 0} (x : Result A Refusal) → is_err x ≡ not (eqb (number x) 0)
+is_err_number (Ok a) = refl
+is_err_number (Err r) = rw (ne_eqb (row_of r) 0 (no_row r))
 
 -- a pair is not refused, and none after it: the filter's times are not later
 unrefused : (after later : Bool) → (not (eqb (cond after 3 0) 0) || later) ≡ false → (after ≡ false) × (later ≡ false)
@@ -79,6 +87,27 @@ module _ (src : List ℕ) (w : ℕ) (h : Option Estimates) (at n : ℕ) where
       let step : to + 32 ≡ to + length four = rw (length_all_bytes (stepped_words (stepped src w h at))) in
       rw step (sets-append out to four (all_bytes more) ∙ ap (sets out to) (sym (all_bytes_append (stepped_words (stepped src w h at)) more)) ∙ rw (run_words_lem e) at f)
 
+pub length_stepped : (s : Stepped) → length (stepped_words s) ≡ 4
+unfolding stepped_words
+length_stepped s = refl
+
+-- where no pair is left
+module _ (src : List ℕ) (i count : ℕ) (h : count ≤ i) where
+  none_left : count - i ≡ 0
+  none_left = omega arith
+
+  pub falls_end : (last : ℕ) → times_fall last src (16 * i) (count - i) ≡ false
+  unfolding times_fall
+  falls_end last = rw none_left
+
+  pub refused_end : (f : WindowedFilter) → refuses f src (16 * i) (count - i) ≡ false
+  unfolding refuses
+  refused_end f = rw none_left
+
+  pub written_end : (f : WindowedFilter) (out : List ℕ) → sets out (32 * i) (all_bytes (run_words f src (16 * i) (count - i))) ≡ out
+  unfolding run_words all_bytes
+  written_end f out = rw none_left
+
 module _ (src : List ℕ) (i count : ℕ) (h : i < count) where
   left : count - i ≡ suc (count - (i + 1))
   left = omega arith
@@ -87,39 +116,38 @@ module _ (src : List ℕ) (i count : ℕ) (h : i < count) where
   next = omega arith
 
   -- a time that falls
-  pub falls_now : {last : ℕ} {end : Bool} → word_at src (16 * i) < last → times_fall last src (16 * i) (count - i) ≡ end → true ≡ end
+  pub falls_now : (last : ℕ) → word_at src (16 * i) < last → times_fall last src (16 * i) (count - i) ≡ true
   unfolding times_fall
-  falls_now {last} t e = rw (lt-ltb (word_at src (16 * i)) last t) at (rw left at e)
+  falls_now last t = rw (left, lt-ltb (word_at src (16 * i)) last t)
 
   -- a time that does not
   pub falls_later :
-      {last : ℕ} {end : Bool} → last ≤ word_at src (16 * i) → times_fall last src (16 * i) (count - i) ≡ end →
-      times_fall (word_at src (16 * i)) src (16 * (i + 1)) (count - (i + 1)) ≡ end
+      (last : ℕ) → last ≤ word_at src (16 * i) →
+      times_fall last src (16 * i) (count - i) ≡ times_fall (word_at src (16 * i)) src (16 * (i + 1)) (count - (i + 1))
   unfolding times_fall
-  falls_later {last} t e = rw next (rw (le-ltb (word_at src (16 * i)) last t) at (rw left at e))
+  falls_later last t = rw (left, le-ltb (word_at src (16 * i)) last t, next)
 
   module _ (f : WindowedFilter) where
     -- a pair that is refused
-    pub refused_now : {end : Bool} → eqb (windowed_number f (word_at src (16 * i))) 0 ≡ false → refuses f src (16 * i) (count - i) ≡ end → true ≡ end
+    pub refused_now : not (eqb (windowed_number f (word_at src (16 * i))) 0) ≡ true → refuses f src (16 * i) (count - i) ≡ true
     unfolding refuses
-    refused_now d e = rw d at (rw left at e)
+    refused_now d = rw (left, d)
 
     -- a pair that is not
     pub refused_later :
-        {end : Bool} → eqb (windowed_number f (word_at src (16 * i))) 0 ≡ true → refuses f src (16 * i) (count - i) ≡ end →
-        refuses (after_pair f src (16 * i)) src (16 * (i + 1)) (count - (i + 1)) ≡ end
+        not (eqb (windowed_number f (word_at src (16 * i))) 0) ≡ false →
+        refuses f src (16 * i) (count - i) ≡ refuses (after_pair f src (16 * i)) src (16 * (i + 1)) (count - (i + 1))
     unfolding refuses
-    refused_later d e = rw next (rw d at (rw left at e))
+    refused_later d = rw (left, d, next)
 
   -- a pair is written: no later one is refused, and what is left to write makes the same end
-  module _ (w : ℕ) (h' : Option Estimates) where
-    pub taken_later : refuses (filter w h') src (16 * i) (count - i) ≡ false → refuses (filter w (held_after src w h' (16 * i))) src (16 * (i + 1)) (count - (i + 1)) ≡ false
-    taken_later e = rw next (none_later src w h' (16 * i) (count - (i + 1)) (rw left at e))
+  module _ (w : ℕ) (h' : Option Estimates) (fine : refuses (filter w h') src (16 * i) (count - i) ≡ false) where
+    pub taken_later : refuses (filter w h') src (16 * i) (count - i) ≡ refuses (filter w (held_after src w h' (16 * i))) src (16 * (i + 1)) (count - (i + 1))
+    taken_later = fine ∙ sym (rw next (none_later src w h' (16 * i) (count - (i + 1)) (rw left at fine)))
 
     pub written :
-        (out : List ℕ) {end : List ℕ} → refuses (filter w h') src (16 * i) (count - i) ≡ false →
-        sets out (32 * i) (all_bytes (run_words (filter w h') src (16 * i) (count - i))) ≡ end →
-        sets (sets out (32 * i) (all_bytes (stepped_words (stepped src w h' (16 * i))))) (32 * (i + 1)) (all_bytes (run_words (filter w (held_after src w h' (16 * i))) src (16 * (i + 1)) (count - (i + 1)))) ≡ end
-    written out e f =
+        (out : List ℕ) →
+        sets out (32 * i) (all_bytes (run_words (filter w h') src (16 * i) (count - i))) ≡ sets (sets out (32 * i) (all_bytes (stepped_words (stepped src w h' (16 * i))))) (32 * (i + 1)) (all_bytes (run_words (filter w (held_after src w h' (16 * i))) src (16 * (i + 1)) (count - (i + 1))))
+    written out =
         let to : 32 * (i + 1) ≡ 32 * i + 32 = omega arith in
-        rw (next, to) (write_pair src w h' (16 * i) (count - (i + 1)) out (32 * i) (rw left at e) (rw left at f))
+        rw (left, next, to) (sym (write_pair src w h' (16 * i) (count - (i + 1)) out (32 * i) (rw left at fine) refl))

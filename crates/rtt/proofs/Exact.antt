@@ -12,7 +12,8 @@ use Rattle.state.specs.Answers.{settled, zero_length}
 use Rattle.state.specs.Bounds.{length_ok}
 use Rattle.state.proofs.Rows.{row_stored, row_argument, and_left, and_right, all_at}
 use Rattle.rtt.specs.declared.rtt.RttStats.{RttStats}
-use Rattle.rtt.specs.Rtt.{stats_tests, stats_ok, given_number, new_number, stats_new, new_left, update_number, first_sample, smoothed_after, variation_after, plausible, adjusted, later_sample, update_next, update_left, delay_taken, delay_number, delay_next, delay_left}
+use Rattle.state.specs.Refusals.{first_of}
+use Rattle.rtt.specs.Rtt.{stats_tests, stats_ok, asked_rows, given_number, new_number, stats_new, new_left, update_number, first_sample, smoothed_after, variation_after, plausible, adjusted, later_sample, update_next, update_left, delay_taken, delay_number, delay_next, delay_left}
 use Rattle.rtt.specs.Exact.{Step, begins, updates, limits, other, Sample, Ran, sample_of, taken_by, begun, step, go_on, Exact, exact_first, exact_next, exactly, NearSmoothed, NearVariation, least, largest, Follows, Promised, Holds, EveryRun}
 use Rattle.rtt.proofs.Averages.{still_not_above, still_below, above_on, below_on, smoothed_within, variation_within}
 
@@ -81,6 +82,12 @@ update_fine s l d fits h =
     let g = given_fine s (length_ok l && length_ok d && fits) h in
     let both = and_left (length_ok l && length_ok d) fits g.1 in
     (g.0, and_left (length_ok l) (length_ok d) both, and_right (length_ok l) (length_ok d) both, and_right (length_ok l && length_ok d) fits g.1)
+
+-- the same, of the rows that the code asks
+pub rows_fine : (s : RttStats) (l d : Duration) (fits : Bool) → first_of (asked_rows s (length_ok l && length_ok d && fits)) ≡ 0 →
+    (stats_ok s ≡ true) × (length_ok l ≡ true)
+unfolding update_number given_number
+rows_fine s l d fits h = let fine = update_fine s l d fits h in (fine.0, fine.1)
 
 -- ---- one sample
 pub adjusted_most : (s : RttStats) (l d : Duration) (c : Bool) → (adjusted s l d c).0 ≤ l.0

@@ -1,16 +1,15 @@
 // The round-trip estimator of RFC 9002, section 5: rtt.rs, with the minimum over all samples.
 ghost use Rattle.std.specs.Prelude.{true, ◌≡◌, ◌^◌, ◌≤◌, None};
-ghost use Rattle.units.specs.Reply.{number, fault};
+ghost use Rattle.units.specs.Reply.{number, fault, kept};
 ghost use Rattle.state.specs.Answers.{settled, zero_length};
 ghost use Rattle.state.specs.Bounds.{length_ok};
 ghost use Rattle.state.specs.Faults.{first, named};
-ghost use Rattle.rtt.specs.Rtt.{stats_ok, given_number, stored_number, new_faults, new_number, stats_new, new_left, update_faults, update_number, first_sample, lesser, delay_taken, plausible, adjusted, distance, smoothed_after, variation_after, later_sample, update_next, update_left, delay_faults, delay_number, delay_next, delay_left, minimum_shown};
+ghost use Rattle.rtt.specs.Rtt.{stats_ok, asked_rows, given_number, stored_number, new_faults, new_number, stats_new, new_left, update_faults, update_number, first_sample, delay_taken, plausible, adjusted, smoothed_after, variation_after, later_sample, update_next, update_left, delay_faults, delay_number, delay_left, minimum_shown};
 
-use state::answers::LengthRead;
 use state::bounds::length_ok;
-use state::faults::{LENGTH, LIST_LENGTH, first_of, unless};
-use state::refusals::{Rows, first_row, refusal};
-use units::{Duration, Reply};
+use state::faults::{Kind, first_of, unless};
+use state::refusals::{Rows, refusal};
+use units::{Duration, Refusal};
 
 #[derive(Clone, Copy)]
 pub struct RttStats {
@@ -24,45 +23,21 @@ pub struct RttStats {
     pub sampled: bool,
 }
 
-// A call's reply and the estimator after it.
-#[derive(Clone, Copy)]
-pub struct Updated {
-    pub reply: Reply,
-    pub stats: RttStats,
-}
-
-// The row of a call's reply and the estimator after it: for a run.
-#[derive(Clone, Copy)]
-pub struct Taken {
-    pub row: u64,
-    pub stats: RttStats,
-}
-
-// The minimum's answer: nothing before the first sample.
-#[derive(Clone, Copy)]
-pub struct MinimumRead {
-    pub reply: Reply,
-    pub minimum: Option<Duration>,
-}
-
 impl RttStats {
     // Whether every stored length is within its bound.
+    #[tactic(auto, unfolding(crate::specs::Rtt::stats_tests))]
     fn ok(self) -> bool
         ensures { result ≡ stats_ok self }
     {
-        let latest = self.latest;
-        let minimum = self.minimum;
-        let smoothed = self.smoothed;
-        let variation = self.variation;
-        let limit = self.limit;
-        length_ok(latest)
-            & length_ok(minimum)
-            & length_ok(smoothed)
-            & length_ok(variation)
-            & length_ok(limit)
+        length_ok(self.latest)
+            & length_ok(self.minimum)
+            & length_ok(self.smoothed)
+            & length_ok(self.variation)
+            & length_ok(self.limit)
     }
 
     // An estimator without a sample.
+    #[tactic(auto, unfolding(crate::specs::Rtt::stats_new))]
     fn fresh(initial: Duration, limit: Duration) -> RttStats
         ensures { result ≡ stats_new initial limit }
     {
@@ -77,311 +52,254 @@ impl RttStats {
     }
 
     // An estimator without a sample, for an initial round trip and the peer's largest ack delay.
-    pub fn new(initial: Duration, limit: Duration) -> Updated
-        ensures reply { number result.reply ≡ new_number initial limit }
-        ensures stats { result.stats ≡ new_left initial limit }
-        ensures fault { fault result.reply ≡ named (new_number initial limit)
-            (first (new_faults initial limit)) }
+    #[tactic(auto, unfolding(crate::specs::Rtt::new_number, crate::specs::Rtt::new_left, state::specs::Answers::settled))]
+    pub fn new(initial: Duration, limit: Duration) -> Result<RttStats, Refusal>
+        ensures reply { number result ≡ new_number initial limit }
+        ensures stats { kept result (stats_new zero_length zero_length) ≡ new_left initial limit }
+        ensures fault { fault result ≡ named (new_number initial limit) (first (new_faults initial limit)) }
     {
-        let reply = new_reply(initial, limit);
-        if reply.is_done() {
-            return Updated {
-                reply,
-                stats: RttStats::fresh(initial, limit),
-            };
-        }
-        Updated {
-            reply,
-            stats: RttStats::fresh(Duration(0), Duration(0)),
-        }
+        let rows = Rows {
+            argument: !(length_ok(initial) & length_ok(limit)),
+            ..Rows::NONE
+        };
+        refusal(rows, new_fault(initial, limit))?;
+        Ok(RttStats::fresh(initial, limit))
     }
 
     // A sample: a round trip just measured, the ack delay that the peer reported, and whether the handshake is
     // confirmed.
-    pub fn update_rtt(self, latest: Duration, delay: Duration, confirmed: bool) -> Updated
-        ensures reply { number result.reply ≡ update_number self latest delay true }
-        ensures stats { result.stats ≡ update_left self latest delay confirmed true }
-        ensures fault { fault result.reply ≡ named (update_number self latest delay true)
+    pub fn update_rtt(
+        &mut self,
+        latest: Duration,
+        delay: Duration,
+        confirmed: bool,
+    ) -> Result<(), Refusal>
+        ensures reply { number result ≡ update_number self.old latest delay true }
+        ensures stats { self.new ≡ update_left self.old latest delay confirmed true }
+        ensures fault { fault result ≡ named (update_number self.old latest delay true)
             (first (update_faults latest delay true)) }
     {
-        let reply = self.update_reply(latest, delay);
-        let taken = self.update_taken(latest, delay, confirmed, true);
-        let stats = taken.stats;
-        Updated { reply, stats }
+        self.update_taken(latest, delay, confirmed, true)
     }
 
-    // The same for a run, which is given the flag as a word that may be malformed, and finds the fault, where there is
-    // one, in the call's words.
+    // The same for a run, which is given the flag as a word that may be malformed.
+    #[tactic(auto, using(crate::proofs::Exact::rows_fine), unfolding(crate::specs::Rtt::given_number, crate::specs::Rtt::update_number, crate::specs::Rtt::update_left, state::specs::Answers::settled, state::specs::Faults::named))]
     pub fn update_taken(
-        self,
+        &mut self,
         latest: Duration,
         delay: Duration,
         confirmed: bool,
         fits: bool,
-    ) -> Taken
-        ensures row { result.row ≡ update_number self latest delay fits }
-        ensures stats { result.stats ≡ update_left self latest delay confirmed fits }
+    ) -> Result<(), Refusal>
+        ensures reply { number result ≡ update_number self.old latest delay fits }
+        ensures stats { self.new ≡ update_left self.old latest delay confirmed fits }
+        ensures fault { fault result ≡ named (update_number self.old latest delay fits)
+            (first (update_faults latest delay fits)) }
     {
-        let row = self.update_row(latest, delay, fits);
-        if row == 0 {
-            return Taken {
-                row,
-                stats: self.update_next(latest, delay, confirmed),
-            };
-        }
-        Taken { row, stats: self }
+        let rows = self.rows(length_ok(latest) & length_ok(delay) & fits);
+        rows.first()
+            .map_err(|cause| cause.named(update_fault(latest, delay, fits)))?;
+        *self = self.update_next(latest, delay, confirmed);
+        Ok(())
     }
 
-    fn update_row(self, latest: Duration, delay: Duration, fits: bool) -> u64
-        ensures { result ≡ update_number self latest delay fits }
+    // Which rows hold for a call that is given what is within its bounds or not.
+    fn rows(self, fine: bool) -> Rows
+        ensures { result ≡ asked_rows self fine }
     {
-        let fine = length_ok(latest) & length_ok(delay) & fits;
-        first_row(Rows {
+        Rows {
             stored: !self.ok(),
             argument: !fine,
             ..Rows::NONE
-        })
-    }
-
-    fn update_reply(self, latest: Duration, delay: Duration) -> Reply
-        ensures reply { number result ≡ update_number self latest delay true }
-        ensures fault { fault result ≡ named (update_number self latest delay true)
-            (first (update_faults latest delay true)) }
-    {
-        let fine = length_ok(latest) & length_ok(delay) & true;
-        self.given(fine, update_fault(latest, delay, true))
+        }
     }
 
     // The reply to a call that is given what `fine` says is within its bounds or not.
-    pub fn given(self, fine: bool, blamed: u32) -> Reply
+    #[tactic(auto, unfolding(crate::specs::Rtt::given_number))]
+    pub fn given(self, fine: bool, blamed: u32) -> Result<(), Refusal>
         ensures reply { number result ≡ given_number self fine }
         ensures fault { fault result ≡ named (given_number self fine) blamed }
     {
-        let rows = Rows {
-            stored: !self.ok(),
-            argument: !fine,
-            ..Rows::NONE
-        };
-        refusal(rows, blamed)
+        refusal(self.rows(fine), blamed)
     }
 
     // The reply to a call that is given nothing.
-    fn stored(self) -> Reply
+    #[tactic(auto, unfolding(crate::specs::Rtt::stored_number))]
+    fn stored(self) -> Result<(), Refusal>
         ensures { number result ≡ stored_number self }
     {
-        let rows = Rows {
-            stored: !self.ok(),
-            ..Rows::NONE
-        };
-        refusal(rows, 0)
+        refusal(self.rows(true), 0)
     }
 
     // The estimator after a sample that is taken.
+    #[tactic(auto, using(crate::proofs::Exact::lengths, crate::proofs::Exact::adjusted_most), unfolding(crate::specs::Rtt::update_next))]
     fn update_next(self, latest: Duration, delay: Duration, confirmed: bool) -> RttStats
-        requires { (stats_ok self ≡ true) × (length_ok latest ≡ true) × (length_ok delay ≡ true) }
+        requires { (stats_ok self ≡ true) × (length_ok latest ≡ true) }
         ensures { result ≡ update_next self latest delay confirmed }
     {
         if self.sampled {
-            return self.later_sample(latest, self.adjusted(latest, delay, confirmed));
+            self.later_sample(latest, self.adjusted(latest, delay, confirmed))
+        } else {
+            self.first_sample(latest)
         }
-        self.first_sample(latest)
     }
 
     // The first sample is taken whole.
+    #[tactic(auto, unfolding(crate::specs::Rtt::first_sample))]
     fn first_sample(self, latest: Duration) -> RttStats
         ensures { result ≡ first_sample self latest }
     {
-        let limit = self.limit;
         RttStats {
             latest,
             minimum: latest,
             smoothed: latest,
             variation: Duration(latest.0 / 2),
-            limit,
             sampled: true,
+            ..self
         }
     }
 
     // The sample without the ack delay, where that leaves no less than the minimum.
+    #[tactic(auto, unfolding(crate::specs::Rtt::adjusted))]
     fn adjusted(self, latest: Duration, delay: Duration, confirmed: bool) -> Duration
-        requires { (self.minimum.0 ≤ 2 ^ 36) × (delay.0 ≤ 2 ^ 36) }
         ensures { result ≡ adjusted self latest delay confirmed }
     {
-        let minimum = self.minimum;
-        let limit = self.limit;
         plausible(
-            lesser(minimum, latest),
+            self.minimum.min(latest),
             latest,
-            delay_taken(limit, delay, confirmed),
+            delay_taken(self.limit, delay, confirmed),
         )
     }
 
     // A sample past the first. The variation is made from the smoothed value before it.
+    #[tactic(auto, unfolding(crate::specs::Rtt::later_sample))]
     fn later_sample(self, latest: Duration, adjusted: Duration) -> RttStats
         requires { (self.smoothed.0 ≤ 2 ^ 36) × (self.variation.0 ≤ 2 ^ 36) × (adjusted.0 ≤ 2 ^ 36) }
         ensures { result ≡ later_sample self latest adjusted }
     {
-        let minimum = self.minimum;
-        let smoothed = self.smoothed;
-        let variation = self.variation;
-        let limit = self.limit;
-        let next = smoothed_after(smoothed.0, adjusted.0);
+        let smoothed = self.smoothed.0;
+        let next = smoothed_after(smoothed, adjusted.0);
         RttStats {
             latest,
-            minimum: lesser(minimum, latest),
+            minimum: self.minimum.min(latest),
             smoothed: Duration(next),
-            variation: Duration(variation_after(variation.0, smoothed.0, adjusted.0)),
-            limit,
+            variation: Duration(variation_after(self.variation.0, smoothed, adjusted.0)),
             sampled: true,
+            ..self
         }
     }
 
     // The peer's largest ack delay is known, or has changed.
-    pub fn update_max_ack_delay(self, limit: Duration) -> Updated
-        ensures reply { number result.reply ≡ delay_number self limit }
-        ensures stats { result.stats ≡ delay_left self limit }
-        ensures fault { fault result.reply ≡ named (delay_number self limit) (first (delay_faults limit)) }
+    #[tactic(auto, unfolding(crate::specs::Rtt::delay_number, crate::specs::Rtt::delay_next, crate::specs::Rtt::delay_left, state::specs::Answers::settled))]
+    pub fn update_max_ack_delay(&mut self, limit: Duration) -> Result<(), Refusal>
+        ensures reply { number result ≡ delay_number self.old limit }
+        ensures stats { self.new ≡ delay_left self.old limit }
+        ensures fault { fault result ≡ named (delay_number self.old limit) (first (delay_faults limit)) }
     {
-        let reply = self.given(length_ok(limit), delay_fault(limit));
-        if reply.is_done() {
-            return Updated {
-                reply,
-                stats: self.delay_next(limit),
-            };
-        }
-        Updated { reply, stats: self }
-    }
-
-    fn delay_next(self, limit: Duration) -> RttStats
-        ensures { result ≡ delay_next self limit }
-    {
-        let mut next = self;
-        next.limit = limit;
-        next
+        self.given(length_ok(limit), delay_fault(limit))?;
+        self.limit = limit;
+        Ok(())
     }
 
     // The last sample; 0 before the first.
-    pub fn latest_rtt(self) -> LengthRead
-        ensures reply { number result.reply ≡ stored_number self }
-        ensures length { result.length ≡ settled (stored_number self) self.latest zero_length }
+    #[tactic(auto, unfolding(state::specs::Answers::settled))]
+    pub fn latest_rtt(self) -> Result<Duration, Refusal>
+        ensures reply { number result ≡ stored_number self }
+        ensures length { kept result zero_length ≡ settled (stored_number self) self.latest zero_length }
     {
-        let latest = self.latest;
-        LengthRead::of(self.stored(), latest)
+        self.stored()?;
+        Ok(self.latest)
     }
 
     // The smoothed round trip.
-    pub fn rtt(self) -> LengthRead
-        ensures reply { number result.reply ≡ stored_number self }
-        ensures length { result.length ≡ settled (stored_number self) self.smoothed zero_length }
+    #[tactic(auto, unfolding(state::specs::Answers::settled))]
+    pub fn rtt(self) -> Result<Duration, Refusal>
+        ensures reply { number result ≡ stored_number self }
+        ensures length { kept result zero_length ≡ settled (stored_number self) self.smoothed zero_length }
     {
-        let smoothed = self.smoothed;
-        LengthRead::of(self.stored(), smoothed)
+        self.stored()?;
+        Ok(self.smoothed)
     }
 
     // Its variation.
-    pub fn rttvar(self) -> LengthRead
-        ensures reply { number result.reply ≡ stored_number self }
-        ensures length { result.length ≡ settled (stored_number self) self.variation zero_length }
+    #[tactic(auto, unfolding(state::specs::Answers::settled))]
+    pub fn rttvar(self) -> Result<Duration, Refusal>
+        ensures reply { number result ≡ stored_number self }
+        ensures length { kept result zero_length ≡ settled (stored_number self) self.variation zero_length }
     {
-        let variation = self.variation;
-        LengthRead::of(self.stored(), variation)
+        self.stored()?;
+        Ok(self.variation)
     }
 
     // The least sample; nothing before the first.
-    pub fn min_rtt(self) -> MinimumRead
-        ensures reply { number result.reply ≡ stored_number self }
-        ensures minimum { result.minimum ≡ settled (stored_number self) (minimum_shown self) None }
+    #[tactic(auto, unfolding(crate::specs::Rtt::minimum_shown, state::specs::Answers::settled))]
+    pub fn min_rtt(self) -> Result<Option<Duration>, Refusal>
+        ensures reply { number result ≡ stored_number self }
+        ensures minimum { kept result None ≡ settled (stored_number self) (minimum_shown self) None }
     {
-        let reply = self.stored();
-        if reply.is_done() {
-            return MinimumRead {
-                reply,
-                minimum: self.minimum_shown(),
-            };
-        }
-        MinimumRead {
-            reply,
-            minimum: None,
-        }
+        self.stored()?;
+        Ok(self.sampled.then_some(self.minimum))
     }
+}
 
-    fn minimum_shown(self) -> Option<Duration>
-        ensures { result ≡ minimum_shown self }
-    {
-        let minimum = self.minimum;
-        if self.sampled {
-            return Some(minimum);
-        }
-        None
+// What a refused `new` leaves: a fresh estimator of 0 and 0.
+impl Default for RttStats {
+    ghost is_default = { λ s. s ≡ stats_new zero_length zero_length };
+
+    fn default() -> RttStats {
+        RttStats::fresh(Duration(0), Duration(0))
     }
 }
 
 // ---- the faults of a call's arguments
 
+#[tactic(auto, unfolding(crate::specs::Rtt::new_faults))]
 pub fn new_fault(initial: Duration, limit: Duration) -> u32
     ensures { result ≡ first (new_faults initial limit) }
 {
     first_of(&[
-        unless(length_ok(initial), 1, LENGTH),
-        unless(length_ok(limit), 2, LENGTH),
+        unless(length_ok(initial), 1, Kind::Length),
+        unless(length_ok(limit), 2, Kind::Length),
     ])
 }
 
+#[tactic(auto, unfolding(crate::specs::Rtt::update_faults))]
 pub fn update_fault(latest: Duration, delay: Duration, fits: bool) -> u32
     ensures { result ≡ first (update_faults latest delay fits) }
 {
     first_of(&[
-        unless(length_ok(latest), 1, LENGTH),
-        unless(length_ok(delay), 2, LENGTH),
-        unless(fits, 3, LIST_LENGTH),
+        unless(length_ok(latest), 1, Kind::Length),
+        unless(length_ok(delay), 2, Kind::Length),
+        unless(fits, 3, Kind::ListLength),
     ])
 }
 
+#[tactic(auto, unfolding(crate::specs::Rtt::delay_faults))]
 pub fn delay_fault(limit: Duration) -> u32
     ensures { result ≡ first (delay_faults limit) }
 {
-    first_of(&[unless(length_ok(limit), 1, LENGTH)])
-}
-
-fn new_reply(initial: Duration, limit: Duration) -> Reply
-    ensures reply { number result ≡ new_number initial limit }
-    ensures fault { fault result ≡ named (new_number initial limit) (first (new_faults initial limit)) }
-{
-    let fine = length_ok(initial) & length_ok(limit);
-    let rows = Rows {
-        argument: !fine,
-        ..Rows::NONE
-    };
-    refusal(rows, new_fault(initial, limit))
+    first_of(&[unless(length_ok(limit), 1, Kind::Length)])
 }
 
 // ---- lengths
 
-fn lesser(a: Duration, b: Duration) -> Duration
-    ensures { result ≡ lesser a b }
-{
-    if b.0 < a.0 { b } else { a }
-}
-
 // The ack delay, limited once the handshake is confirmed.
+#[tactic(auto, unfolding(crate::specs::Rtt::delay_taken))]
 fn delay_taken(limit: Duration, delay: Duration, confirmed: bool) -> Duration
     ensures { result ≡ delay_taken limit delay confirmed }
 {
-    if confirmed {
-        lesser(delay, limit)
-    } else {
-        delay
-    }
+    if confirmed { delay.min(limit) } else { delay }
 }
 
+// The sample without the delay, where no less than the minimum is left.
+#[tactic(auto, unfolding(crate::specs::Rtt::plausible))]
 fn plausible(minimum: Duration, latest: Duration, taken: Duration) -> Duration
-    requires { (minimum.0 ≤ 2 ^ 36) × (taken.0 ≤ 2 ^ 36) }
     ensures { result ≡ plausible minimum latest taken }
 {
-    if minimum.0 + taken.0 <= latest.0 {
-        return Duration(latest.0 - taken.0);
+    match latest.0.checked_sub(taken.0) {
+        Some(left) if minimum.0 <= left => Duration(left),
+        _ => latest,
     }
-    latest
 }
 
 // ---- the averages
@@ -399,12 +317,5 @@ fn variation_after(variation: u64, smoothed: u64, adjusted: u64) -> u64
     requires { (variation ≤ 2 ^ 36) × (smoothed ≤ 2 ^ 36) × (adjusted ≤ 2 ^ 36) }
     ensures { result ≡ variation_after variation smoothed adjusted }
 {
-    let away = distance(smoothed, adjusted);
-    variation * 3 / 4 + away / 4
-}
-
-fn distance(a: u64, b: u64) -> u64
-    ensures { result ≡ distance a b }
-{
-    if a < b { b - a } else { a - b }
+    variation * 3 / 4 + smoothed.abs_diff(adjusted) / 4
 }

@@ -1,5 +1,5 @@
 -- What the public functions return is what the definitions say, so the promises hold of it. Assumes nothing.
-use Rattle.std.specs.Prelude.{None, Some}
+use Rattle.std.specs.Prelude.{Option, None, Some}
 use Prim.Native.Nat.{ℕ}
 use mathlib.Core.Bool.{true}
 use mathlib.Core.List.{List, [], ◌∷◌}
@@ -8,8 +8,6 @@ use Rattle.units.proofs.Outcomes.{said}
 use Rattle.units.specs.declared.time.Duration.{Duration}
 use Rattle.state.specs.Answers.{settled, zero_length}
 use Rattle.state.specs.Refusals.{row_of}
-use Rattle.state.specs.declared.answers.LengthRead.{LengthRead}
-use Rattle.rtt.specs.declared.rtt.MinimumRead.{MinimumRead}
 use Rattle.rtt.specs.declared.rtt.RttStats.{RttStats}
 use Rattle.rtt.specs.Rtt.{stats_ok, stored_number, minimum_shown}
 use Rattle.rtt.specs.Exact.{Step, begins, updates, limits, other, Sample, Ran, sample_of, taken_by, begun, step, go_on, Promised, Holds}
@@ -26,9 +24,8 @@ fresh initial most q m = let x = said _ _ _ q m in x.4 ∙ made_of x.3.1.0 refl
 made : (c : Step) (r q : Ran) → Made c r q → q ≡ step r c
 made (begins initial most) r q m = fresh initial most q m
 made (updates l d c) r q m =
-    let x = said _ _ _ q m in
-    x.4 ∙ made_of x.3.1.0 (ap (λ (n : ℕ). taken_by n (sample_of r.stats l d c) r.taken) x.3.0)
-made (limits most) r q m = let x = said _ _ _ q m in x.4 ∙ made_of x.3.1.0 refl
+    m.5.2 ∙ made_of (rw (m.5.0, m.5.1) at m.4.1.0) (ap (λ (n : ℕ). taken_by n (sample_of r.stats l d c) r.taken) (rw (m.5.0, m.5.1) at m.4.0))
+made (limits most) r q m = m.5.2 ∙ made_of (rw (m.5.0, m.5.1) at m.4.1.0) refl
 made other r q m = m
 
 all_made : (steps : List Step) (r q : Ran) → AllMade steps r q → q ≡ go_on r steps
@@ -44,11 +41,11 @@ not_refused : (s : RttStats) → stats_ok s ≡ true → stored_number s ≡ 0
 unfolding stored_number row_of
 not_refused s h = rw h
 
-answers : (s : RttStats) (taken : List Sample) (l : LengthRead) (m : MinimumRead) (a v : LengthRead) → stored_number s ≡ 0 → Promised taken s →
-    l.length ≡ settled (stored_number s) s.latest zero_length →
-    m.minimum ≡ settled (stored_number s) (minimum_shown s) None →
-    a.length ≡ settled (stored_number s) s.smoothed zero_length →
-    v.length ≡ settled (stored_number s) s.variation zero_length →
+answers : (s : RttStats) (taken : List Sample) (l : Duration) (m : Option Duration) (a v : Duration) → stored_number s ≡ 0 → Promised taken s →
+    l ≡ settled (stored_number s) s.latest zero_length →
+    m ≡ settled (stored_number s) (minimum_shown s) None →
+    a ≡ settled (stored_number s) s.smoothed zero_length →
+    v ≡ settled (stored_number s) s.variation zero_length →
     Answers taken l m a v
 unfolding settled minimum_shown
 answers s [] l m a v z h p q r t = q ∙ rw (z, h)

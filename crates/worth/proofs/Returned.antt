@@ -18,8 +18,7 @@ made_of p q i = record { filter = p i; fed = q i }
 
 made : (c : Step) (r q : Ran) → Made c r q → q ≡ step r c
 made (update s t) r q m =
-    let x = said _ _ _ q m in
-    x.4 ∙ made_of x.3.1.0 (ap (λ (n : ℕ). fed_by n (sample_at s t) r.fed) x.3.0)
+    m.5.2 ∙ made_of (rw (m.5.0, m.5.1) at m.4.1.0) (ap (λ (n : ℕ). fed_by n (sample_at s t) r.fed) (rw (m.5.0, m.5.1) at m.4.0))
 made (reset s t) r q m = let x = said _ _ _ q m in x.4 ∙ made_of x.3 refl
 made clear r q m = let x = said _ _ _ q m in x.4 ∙ made_of x.3 refl
 

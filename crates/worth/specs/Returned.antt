@@ -1,21 +1,25 @@
 -- The same of the code: a run made by the public functions of crates/filters/src/windowed_filter.rt, of which no more
 -- is known than their contracts. Statements only. crates/units/specs/Outcomes.antt says how a statement speaks of a
--- contract (`Leaves`), Worth.antt how to read the rest. crates/theorems/specs/Theorems.antt says more: it speaks of the
--- bytes that the exported filter run writes.
+-- contract (`Allowed`, `Leaves`), Worth.antt how to read the rest. crates/theorems/specs/Theorems.antt says more: it
+-- speaks of the bytes that the exported filter run writes.
 use Rattle.std.specs.Prelude.{ℕ, List, [], ◌∷◌, ◌≡◌, Option, None, Some}
 use Rattle.filters.specs.declared.windowed_filter.Estimates.{Estimates}
-use Rattle.units.specs.Outcomes.{Leaves}
+use Rattle.units.specs.Outcomes.{Allowed, Leaves}
 use Rattle.units.specs.Reply.{number}
 use Rattle.filters.specs.declared.windowed_filter.Sample.{Sample}
 use Rattle.filters.specs.WindowedFilter.{sample_at}
 use Rattle.filters.proofs.windowed_filter.WindowedFilter as windowed
 use Rattle.worth.specs.Worth.{Step, update, reset, clear, Ran, fed_by, Holds, Shows}
 
--- ---- a step by the public function of its name: r becomes q. Whether an update was refused is what its reply says
+-- ---- a step by the public function of its name: r becomes q. An update is lent the filter: `a.0.now` is what it was
+-- lent, and `e.0.now` what it left there. Whether it was refused is what its reply says
 abbrev pub Made : Step → (r q : Ran) → Type 0
 Made (update s t) r q =
-    Leaves windowed.update.Reads.Learnt (λ κ. (r.filter, (s, (t, tt))))
-    (λ x. record { filter = x.filter; fed = fed_by (number x.reply) (sample_at s t) r.fed }) q
+    Allowed windowed.update.Reads.Learnt
+    (λ κ a x e.
+    (a.0.now ≡ r.filter)
+    × (a.1 ≡ (s, (t, tt)))
+    × (q ≡ record { filter = e.0.now; fed = fed_by (number x) (sample_at s t) r.fed }))
 Made (reset s t) r q =
     Leaves windowed.reset.Reads.Learnt (λ κ. (r.filter, (s, (t, tt))))
     (λ x. record { filter = x; fed = sample_at s t ∷ [] }) q
