@@ -9,7 +9,7 @@ use changes::on_packet_sent;
 use rows::row::{Row, State};
 use state::NetworkModel;
 use state::bounds::UNSET;
-use text::line::{Event, Line, parse};
+use text::line::{BadField, Event, Line, parse};
 use units::{Duration, Moment, Reply};
 
 // How many lines were answered, whether a start was accepted, the model, and what a summary counts.
@@ -79,10 +79,10 @@ impl Replay {
     fn count(self) -> Replay
         ensures { result ≡ counted self }
     {
-        let line = one_more(self.line);
-        let mut next = self;
-        next.line = line;
-        next
+        Replay {
+            line: one_more(self.line),
+            ..self
+        }
     }
 
     // A line's row, and the tally with it.
@@ -100,8 +100,7 @@ impl Replay {
         };
         let was = self.tally;
         let tally = was.count(ended, model.lower.inflight, row);
-        let mut replay = self;
-        replay.tally = tally;
+        let replay = Replay { tally, ..self };
         Stepped { replay, row }
     }
 
@@ -109,12 +108,15 @@ impl Replay {
     fn begun(self, done: bool, fresh: NetworkModel) -> Replay
         ensures { result ≡ cond done (begun_with self fresh) self }
     {
-        let mut next = self;
         if done {
-            next.started = true;
-            next.model = fresh;
+            Replay {
+                started: true,
+                model: fresh,
+                ..self
+            }
+        } else {
+            self
         }
-        next
     }
 
     fn start(self, time: u64, rtt: u64) -> Stepped
@@ -138,8 +140,10 @@ impl Replay {
         let sent = on_packet_sent(model, Moment(time), inflight, packet, bytes);
         let reply = sent.reply;
         let after = sent.model;
-        let mut next = self;
-        next.model = after;
+        let next = Replay {
+            model: after,
+            ..self
+        };
         next.answer(reply, false)
     }
 
@@ -154,26 +158,29 @@ impl Replay {
         let occurred = occur(model, e);
         let reply = occurred.reply;
         let after = occurred.model;
-        let mut next = self;
-        next.model = after;
+        let next = Replay {
+            model: after,
+            ..self
+        };
         next.answer(reply, occurred.ended)
     }
 
     // A line, as it is read.
-    fn read(self, l: Line) -> Stepped
+    #[tactic(auto, unfolding(crate::specs::Replay::read_line))]
+    fn read(self, l: Result<Line, BadField>) -> Stepped
         ensures { result ≡ read_line self l }
     {
         let next = self.count();
         match l {
-            Line::Refused(_) => next.answer(Reply::BadText, false),
-            Line::Start { time, rtt } => next.start(time, rtt),
-            Line::Sent {
+            Err(_) => next.answer(Reply::BadText, false),
+            Ok(Line::Start { time, rtt }) => next.start(time, rtt),
+            Ok(Line::Sent {
                 time,
                 inflight,
                 number,
                 bytes,
-            } => next.sent(time, inflight, number, bytes),
-            Line::Event(e) => next.event(e),
+            }) => next.sent(time, inflight, number, bytes),
+            Ok(Line::Event(e)) => next.event(e),
         }
     }
 

@@ -4,4 +4,4 @@ use Rattle.trace.proofs.replay.Replay.count.Goals as goal
 
 pub returns : goal.returns
 unfolding counted
-returns c = rw c.one_more-line.ensures
+returns c = rw c.one_more.ensures
