@@ -1,5 +1,4 @@
 -- One line: what the code has, over plain variables, and its definition. Assumes nothing.
-use Rattle.std.specs.Prelude.{Result, Ok, Err}
 use Prim.Native.Nat.{ℕ, ◌≤◌, ◌<◌}
 use mathlib.Core.Bool.{Bool, true, false, cond, true≢false}
 use mathlib.Core.List.{List, []}
@@ -9,8 +8,6 @@ use native.Mathlib.Nat.{add-zero}
 use lib.Dec.{leb}
 use lib.ListN.{length}
 use borrow.Author.Tests.{leb-true, leb-false}
-use Rattle.text.specs.declared.line.Line.{Line}
-use Rattle.text.specs.declared.line.BadField.{BadField}
 use Rattle.text.specs.Line.{refused}
 use Rattle.text.proofs.Lines.{line_long}
 use Rattle.rows.specs.Digits.{Put}
@@ -20,11 +17,6 @@ use Rattle.trace.specs.Placed.{early, placed_at}
 use Rattle.mending.specs.declared.mend.Mend.{Mend}
 use Rattle.mending.specs.declared.mend.Sorted.{Sorted}
 use Rattle.mending.specs.Sorted.{lists, sorted_here, sorted_as, sorted, kept_text, list_text}
-
--- by the line where it stands
-pub sort_is : (m : Mend) (l here : Result Line BadField) (x : Sorted) → here ≡ placed_at m.started l → x ≡ sorted_here m here → x ≡ sorted_as m l
-unfolding sorted_as
-sort_is m l here x e h = h ∙ ap (sorted_here m) e
 
 -- a line that is refused where it is read is refused where it stands
 pub placed_refused : (t : Bool) (k : ℕ) → placed_at t (refused k) ≡ refused k

@@ -38,6 +38,7 @@ impl Mend {
     }
 
     // A line that is kept; it may be a start that is accepted.
+    #[tactic(auto, unfolding(crate::specs::Sorted::keeps))]
     fn keep(self, begun: bool) -> Sorted
         ensures { result ≡ keeps self begun }
     {
@@ -56,6 +57,7 @@ impl Mend {
     }
 
     // A line that gives 6.
+    #[tactic(auto, unfolding(crate::specs::Sorted::lists))]
     fn list(self, field: u64) -> Sorted
         ensures { result ≡ lists self field }
     {
@@ -87,6 +89,7 @@ impl Mend {
     }
 
     // A line, by its bytes.
+    #[tactic(auto, unfolding(crate::specs::Sorted::sorted))]
     pub fn take(self, s: &[u8]) -> Sorted
         ensures { result ≡ sorted self s.now }
     {

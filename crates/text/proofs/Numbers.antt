@@ -5,28 +5,14 @@ use mathlib.Core.Path.{◌≡◌, refl}
 use mathlib.Core.Bool.{Bool, true, false, cond, ◌&&◌}
 use mathlib.Core.List.{List, [], ◌∷◌}
 use native.Mathlib.Omega.{arith}
-use native.Mathlib.Numerals.{add-one}
 use lib.Dec.{eqb, ltb}
-use lib.ListN.{length, drop, get_or, drop_of_length-le}
-use lib.Seq.{drop-cons}
+use lib.ListN.{length, get_or}
 use borrow.Author.Tests.{lt-ltb, le-ltb, ltb-true, ltb-false, eq-eqb, ne_eqb}
 use Rattle.text.specs.declared.number.Cell.TheVariants.{Empty, Number, Other}
 use Rattle.text.specs.Number.{is_digit, digits_only, value_from, leads, plain, cell_of}
 use Rattle.text.specs.Inner.{before, pushed, read_from}
 
--- the bytes before a byte, from an index on
-pub before_here : (b : ℕ) (s : List ℕ) (i : ℕ) → i < length s → get_or s i 0 ≡ b → before b (drop i s) ≡ []
-unfolding before
-before_here b s i h e = simp (drop-cons s i 0 h, eq-eqb (get_or s i 0) b e)
-
-pub before_more : (b : ℕ) (s : List ℕ) (i : ℕ) → i < length s → (get_or s i 0 ≡ b → ⊥) → before b (drop i s) ≡ get_or s i 0 ∷ before b (drop (i + 1) s)
-unfolding before
-before_more b s i h e = simp (drop-cons s i 0 h, ne_eqb (get_or s i 0) b e, add-one i)
-
-pub before_end : (b : ℕ) (s : List ℕ) (i : ℕ) → length s ≤ i → before b (drop i s) ≡ []
-unfolding before
-before_end b s i h = rw (drop_of_length-le s h)
-
+-- the bytes before a byte
 pub before_le : (b : ℕ) (t : List ℕ) → length (before b t) ≤ length t
 unfolding before
 before_le b [] = omega arith

@@ -3,7 +3,7 @@ use Rattle.std.specs.Prelude.{Result, Ok, Err}
 use Prim.Native.Nat.{ℕ}
 use mathlib.Core.Bool.{Bool, true, false, cond}
 use mathlib.Core.List.{List}
-use mathlib.Core.Path.{◌≡◌, refl, sym, ap, ◌∙◌}
+use mathlib.Core.Path.{◌≡◌, refl, ap, ◌∙◌}
 use native.Mathlib.Omega.{arith}
 use lib.Dec.{eqb}
 use Rattle.units.specs.declared.reply.Reply.{Reply}
@@ -133,24 +133,6 @@ placed_bad r (Ok (Sent time inflight packet bytes)) true b h e = absurd (let z :
 placed_bad r (Ok (Sent time inflight packet bytes)) false b h e = sent_early (counted r) time inflight packet bytes (bad_text (counted r)) h refl
 placed_bad r (Ok (Event v)) true b h e = absurd (let z : ◌≡◌ {A = ℕ} 0 1 = cc in omega arith)
 placed_bad r (Ok (Event v)) false b h e = event_early (counted r) v (bad_text (counted r)) h refl
-
--- ---- a line, as it is read, once it is counted
-module _ (r next : Replay) (ne : next ≡ counted r) (x : Stepped) where
-  pub read_refused : (l : Result Line BadField) (b : BadField) → x ≡ bad_text next → l ≡ Err b → x ≡ read_line r l
-  unfolding read_line
-  read_refused l b e h = e ∙ ap bad_text ne ∙ ap (read_line r) (sym h)
-
-  pub read_start : (l : Result Line BadField) (time rtt : ℕ) → x ≡ start_read next time rtt → l ≡ Ok (Start time rtt) → x ≡ read_line r l
-  unfolding read_line
-  read_start l time rtt e h = e ∙ ap (λ (q : Replay). start_read q time rtt) ne ∙ ap (read_line r) (sym h)
-
-  pub read_sent : (l : Result Line BadField) (time inflight packet bytes : ℕ) → x ≡ sent_read next time inflight packet bytes → l ≡ Ok (Sent time inflight packet bytes) → x ≡ read_line r l
-  unfolding read_line
-  read_sent l time inflight packet bytes e h = e ∙ ap (λ (q : Replay). sent_read q time inflight packet bytes) ne ∙ ap (read_line r) (sym h)
-
-  pub read_event : (l : Result Line BadField) (v : line.Event) → x ≡ event_read next v → l ≡ Ok (Event v) → x ≡ read_line r l
-  unfolding read_line
-  read_event l v e h = e ∙ ap (λ (q : Replay). event_read q v) ne ∙ ap (read_line r) (sym h)
 
 -- the next is started where the one before it is
 pub counted_started : (r next : Replay) → next ≡ counted r → r.started ≡ true → next.started ≡ true

@@ -29,6 +29,7 @@ pub struct Stepped {
 }
 
 // A bound as it is shown.
+#[tactic(auto, unfolding(crate::specs::Replay::bound))]
 fn bound_of(n: u64) -> Option<u64>
     ensures { result ≡ bound n }
 {
@@ -39,6 +40,7 @@ fn bound_of(n: u64) -> Option<u64>
 }
 
 // What a row shows of a model.
+#[tactic(auto, unfolding(crate::specs::Replay::state_of))]
 fn state_of(model: NetworkModel) -> State
     ensures { result ≡ state_of model }
 {
@@ -76,6 +78,7 @@ impl Replay {
     }
 
     // The next line is counted.
+    #[tactic(auto, unfolding(crate::specs::Replay::counted))]
     fn count(self) -> Replay
         ensures { result ≡ counted self }
     {
@@ -86,6 +89,7 @@ impl Replay {
     }
 
     // A line's row, and the tally with it.
+    #[tactic(auto, unfolding(crate::specs::Replay::answered, crate::specs::Replay::row_of))]
     fn answer(self, reply: Reply, ended: bool) -> Stepped
         ensures { result ≡ answered (number reply) (kind_in (reply_word (number reply) (fault reply))) ended self }
     {
@@ -174,17 +178,20 @@ impl Replay {
         match l {
             Err(_) => next.answer(Reply::BadText, false),
             Ok(Line::Start { time, rtt }) => next.start(time, rtt),
-            Ok(Line::Sent {
-                time,
-                inflight,
-                number,
-                bytes,
-            }) => next.sent(time, inflight, number, bytes),
+            Ok(
+                Line::Sent {
+                    time,
+                    inflight,
+                    number,
+                    bytes,
+                },
+            ) => next.sent(time, inflight, number, bytes),
             Ok(Line::Event(e)) => next.event(e),
         }
     }
 
     // A line, by its bytes.
+    #[tactic(auto, unfolding(crate::specs::Replay::stepped))]
     pub fn step(self, s: &[u8]) -> Stepped
         ensures { result ≡ stepped self s.now }
     {
