@@ -1,4 +1,5 @@
 -- What the code keeps and lists is what the replay says. Assumes nothing.
+use Rattle.std.specs.Prelude.{Result, Ok, Err}
 use Prim.Native.Nat.{ℕ, suc, ◌+◌, ◌^◌, ◌<◌}
 use mathlib.Core.Bool.{Bool, true, false, cond, not}
 use mathlib.Core.List.{List, [], ◌∷◌, ◌++◌}
@@ -6,7 +7,8 @@ use mathlib.Core.Path.{◌≡◌, refl, sym, ap, ap₂, ◌∙◌}
 use native.Mathlib.Omega.{arith}
 use lib.ListN.{length}
 use Rattle.text.specs.declared.line.Line.{Line}
-use Rattle.text.specs.declared.line.Line.TheVariants.{Refused, Start, Sent, Event}
+use Rattle.text.specs.declared.line.Line.TheVariants.{Start, Sent, Event}
+use Rattle.text.specs.declared.line.BadField.{BadField}
 use Rattle.text.specs.Line.{line_of}
 use Rattle.rows.specs.Entry.{entry_text}
 use Rattle.trace.specs.declared.replay.Replay.{Replay}
@@ -32,7 +34,7 @@ unfolding begin
 beside_begin = record { line = refl; started = refl }
 
 -- a line that is sorted where it stands
-record Here (m : Mend) (p : Line) (x : Sorted) : Type 0 where
+record Here (m : Mend) (p : Result Line BadField) (x : Sorted) : Type 0 where
   pub kept : x.kept ≡ not (is_refused p)
   pub line : x.mend.line ≡ one_more m.line
   pub started : x.mend.started ≡ started_after m.started p
@@ -40,12 +42,12 @@ record Here (m : Mend) (p : Line) (x : Sorted) : Type 0 where
   pub keeps_is : x.mend.kept ≡ cond (is_refused p) m.kept (one_more m.kept)
   pub lists_is : x.mend.listed ≡ cond (is_refused p) (one_more m.listed) m.listed
 
-here : (m : Mend) (p : Line) → Here m p (sorted_here m p)
+here : (m : Mend) (p : Result Line BadField) → Here m p (sorted_here m p)
 unfolding sorted_here keeps lists
-here m (Refused k) = record { kept = refl; line = refl; started = refl; field = refl; keeps_is = refl; lists_is = refl }
-here m (Start time rtt) = record { kept = refl; line = refl; started = refl; field = refl; keeps_is = refl; lists_is = refl }
-here m (Sent time inflight packet bytes) = record { kept = refl; line = refl; started = or_false m.started; field = refl; keeps_is = refl; lists_is = refl }
-here m (Event e) = record { kept = refl; line = refl; started = or_false m.started; field = refl; keeps_is = refl; lists_is = refl }
+here m (Err b) = record { kept = refl; line = refl; started = refl; field = refl; keeps_is = refl; lists_is = refl }
+here m (Ok (Start time rtt)) = record { kept = refl; line = refl; started = refl; field = refl; keeps_is = refl; lists_is = refl }
+here m (Ok (Sent time inflight packet bytes)) = record { kept = refl; line = refl; started = or_false m.started; field = refl; keeps_is = refl; lists_is = refl }
+here m (Ok (Event e)) = record { kept = refl; line = refl; started = or_false m.started; field = refl; keeps_is = refl; lists_is = refl }
 
 -- and so beside a replay
 pub record Sorts (m : Mend) (r : Replay) (l : List ℕ) (x : Sorted) : Type 0 where

@@ -9,8 +9,7 @@ use lib.ListN.{length, take, drop, get_or, take-append-drop, drop_of_length-le}
 use lib.Seq.{drop-cons}
 use borrow.Author.Tests.{leb-true, eqb-true}
 use Rattle.state.proofs.Rows.{and_left, and_right}
-use Rattle.text.specs.declared.line.Line.TheVariants.{Refused}
-use Rattle.text.specs.Line.{body_of, ended, line_of}
+use Rattle.text.specs.Line.{refused, body_of, ended, line_of}
 use Rattle.text.proofs.Numbers.{both_false}
 use Rattle.rows.specs.Row.{row_text}
 use Rattle.trace.specs.declared.replay.Replay.{Replay}
@@ -127,11 +126,11 @@ unended s h e =
         some : (p : List ℕ) → lines_from p (10 ∷ []) ≡ [] → ⊥
         some p q = absurd (let z : ◌≡◌ {A = ℕ} 0 1 = cc in omega arith)
 
-unended_line : (s : List ℕ) → lines_from [] s ≡ [] → line_of s ≡ Refused 0
+unended_line : (s : List ℕ) → lines_from [] s ≡ [] → line_of s ≡ refused 0
 unfolding line_of
 unended_line s h = go (ended s) refl
   where
-    go : (t : Bool) → ended s ≡ t → cond (leb (length s) 4096 && t) (body_of (take (length s - 2) s)) (Refused 0) ≡ Refused 0
+    go : (t : Bool) → ended s ≡ t → cond (leb (length s) 4096 && t) (body_of (take (length s - 2) s)) (refused 0) ≡ refused 0
     go true e = absurd (unended s h e)
     go false e = rw (both_false (leb (length s) 4096))
 

@@ -1,4 +1,5 @@
 -- What the program writes for the pieces of an input is what it would write for the whole. Assumes nothing.
+use Rattle.std.specs.Prelude.{Result}
 use Prim.Native.Nat.{ℕ, ◌^◌, ◌≤◌, ◌<◌}
 use native.Mathlib.Nat.{zero-add}
 use mathlib.Core.Bool.{Bool, true, false, cond}
@@ -9,6 +10,7 @@ use lib.Dec.{leb}
 use lib.ListN.{length}
 use borrow.Author.Tests.{le-leb, lt-leb}
 use Rattle.text.specs.declared.line.Line.{Line}
+use Rattle.text.specs.declared.line.BadField.{BadField}
 use Rattle.text.specs.Line.{line_of}
 use Rattle.text.proofs.Lines.{line_long}
 use Rattle.trace.specs.Replay.{begin}
@@ -83,7 +85,7 @@ end_is_lem x ls held = ap (λ (s : List ℕ). fed_lines (fed_lines x ls held) (l
 
 -- ---- lines that are too long are all alike
 record Seen : Type 0 where
-  pub line : Line
+  pub line : Result Line BadField
   pub text : List ℕ
 
 short : List ℕ → List ℕ

@@ -1,4 +1,5 @@
 -- What is kept and what is listed of any lines. Assumes nothing.
+use Rattle.std.specs.Prelude.{Result, Ok, Err}
 use Prim.Native.Nat.{ℕ, suc, ◌+◌, ◌-◌, ◌^◌, ◌<◌, ◌≤◌}
 use mathlib.Core.Bool.{Bool, true, false, cond}
 use mathlib.Core.List.{List, [], ◌∷◌, ◌++◌, map}
@@ -8,8 +9,9 @@ use lib.Dec.{eqb}
 use lib.ListN.{length}
 use borrow.Author.Tests.{ne_eqb}
 use Rattle.text.specs.declared.line.Line.{Line}
-use Rattle.text.specs.declared.line.Line.TheVariants.{Refused, Start, Sent, Event}
-use Rattle.text.specs.Line.{line_of}
+use Rattle.text.specs.declared.line.Line.TheVariants.{Start, Sent, Event}
+use Rattle.text.specs.declared.line.BadField.{BadField}
+use Rattle.text.specs.Line.{refused, line_of}
 use Rattle.rows.specs.declared.row.Row.{Row}
 use Rattle.trace.specs.declared.replay.Replay.{Replay}
 use Rattle.trace.specs.Placed.{early, placed_at}
@@ -25,25 +27,23 @@ pub six_is : (r : Replay) (l : List ℕ) → gives_six r l ≡ is_refused (place
 unfolding gives_six stepped
 six_is r l = (goes r (line_of l)).six
 
-refused_some : (l : Line) → is_refused l ≡ true → (k : ℕ) × (l ≡ Refused k)
-refused_some (Refused k) h = (k, refl)
-refused_some (Start time rtt) h = absurd (let z : ◌≡◌ {A = ℕ} 0 1 = cc in omega arith)
-refused_some (Sent time inflight packet bytes) h = absurd (let z : ◌≡◌ {A = ℕ} 0 1 = cc in omega arith)
-refused_some (Event e) h = absurd (let z : ◌≡◌ {A = ℕ} 0 1 = cc in omega arith)
+refused_some : (l : Result Line BadField) → is_refused l ≡ true → (k : ℕ) × (l ≡ refused k)
+refused_some (Err b) h = (b.field, refl)
+refused_some (Ok l) h = absurd (let z : ◌≡◌ {A = ℕ} 0 1 = cc in omega arith)
 
-pub six_some : (r : Replay) (l : List ℕ) → gives_six r l ≡ true → (k : ℕ) × (placed_at r.started (line_of l) ≡ Refused k)
+pub six_some : (r : Replay) (l : List ℕ) → gives_six r l ≡ true → (k : ℕ) × (placed_at r.started (line_of l) ≡ refused k)
 six_some r l h = refused_some (placed_at r.started (line_of l)) (sym (six_is r l) ∙ h)
 
 -- the field that is named where it stands is the line's own
-pub placed_field : (t : Bool) (l : Line) → field_of (placed_at t l) ≡ field_of l
+pub placed_field : (t : Bool) (l : Result Line BadField) → field_of (placed_at t l) ≡ field_of l
 unfolding placed_at early
 placed_field true l = refl
-placed_field false (Refused k) = refl
-placed_field false (Start time rtt) = refl
-placed_field false (Sent time inflight packet bytes) = refl
-placed_field false (Event e) = refl
+placed_field false (Err b) = refl
+placed_field false (Ok (Start time rtt)) = refl
+placed_field false (Ok (Sent time inflight packet bytes)) = refl
+placed_field false (Ok (Event e)) = refl
 
-pub six_where : (r : Replay) (l : List ℕ) (k : ℕ) → placed_at r.started (line_of l) ≡ Refused k → (gives_six r l ≡ true) × (field_of (line_of l) ≡ k)
+pub six_where : (r : Replay) (l : List ℕ) (k : ℕ) → placed_at r.started (line_of l) ≡ refused k → (gives_six r l ≡ true) × (field_of (line_of l) ≡ k)
 six_where r l k e = (six_is r l ∙ ap is_refused e, sym (placed_field r.started (line_of l)) ∙ ap field_of e)
 
 -- ---- two parts

@@ -8,8 +8,7 @@ use native.Mathlib.Nat.{add-zero}
 use lib.Dec.{leb}
 use lib.ListN.{length}
 use borrow.Author.Tests.{leb-true, leb-false}
-use Rattle.text.specs.declared.line.Line.{Line}
-use Rattle.text.specs.declared.line.Line.TheVariants.{Refused}
+use Rattle.text.specs.Line.{refused}
 use Rattle.text.proofs.Lines.{line_long}
 use Rattle.rows.specs.Digits.{Put}
 use Rattle.rows.specs.Entry.{entry_text}
@@ -19,13 +18,8 @@ use Rattle.mending.specs.declared.mend.Mend.{Mend}
 use Rattle.mending.specs.declared.mend.Sorted.{Sorted}
 use Rattle.mending.specs.Sorted.{lists, sorted_here, sorted_as, sorted, kept_text, list_text}
 
--- by the line where it stands
-pub sort_is : (m : Mend) (l here : Line) (x : Sorted) → here ≡ placed_at m.started l → x ≡ sorted_here m here → x ≡ sorted_as m l
-unfolding sorted_as
-sort_is m l here x e h = h ∙ ap (sorted_here m) e
-
 -- a line that is refused where it is read is refused where it stands
-pub placed_refused : (t : Bool) (k : ℕ) → placed_at t (Refused k) ≡ Refused k
+pub placed_refused : (t : Bool) (k : ℕ) → placed_at t (refused k) ≡ refused k
 unfolding placed_at early
 placed_refused true k = refl
 placed_refused false k = refl

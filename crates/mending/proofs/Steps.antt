@@ -1,4 +1,5 @@
 -- A line in a replay, beside what `mend` knows of it. Assumes nothing.
+use Rattle.std.specs.Prelude.{Result, Ok, Err}
 use Prim.Native.Nat.{ℕ}
 use Rattle.std.specs.Prelude.{Option, None}
 use mathlib.Core.Bool.{Bool, true, false, cond, ◌||◌, true≢false}
@@ -14,7 +15,8 @@ use Rattle.changes.specs.Changes.{sent_rows, sent_number, sent_next}
 use Rattle.events.specs.Event.{event_number, event_rows}
 use Rattle.text.specs.declared.line.Event as line
 use Rattle.text.specs.declared.line.Line.{Line}
-use Rattle.text.specs.declared.line.Line.TheVariants.{Refused, Start, Sent, Event}
+use Rattle.text.specs.declared.line.Line.TheVariants.{Start, Sent, Event}
+use Rattle.text.specs.declared.line.BadField.{BadField}
 use Rattle.trace.specs.Made.{params, moment, duration, begins, record_of, sample_of, acked_by, occurs_number, occurs_next, ends_round}
 use Rattle.trace.specs.Placed.{early, placed_at}
 use Rattle.trace.specs.Tally.{one_more, no_tally}
@@ -56,18 +58,16 @@ unfolding occurs_number event_number
 occurs_not_six m e = first_not_six (event_rows m params (record_of e) (sample_of e) (acked_by e.number))
 
 -- ---- a line where it stands
-abbrev pub is_refused : Line → Bool
-is_refused (Refused k) = true
-is_refused (Start time rtt) = false
-is_refused (Sent time inflight number bytes) = false
-is_refused (Event e) = false
+abbrev pub is_refused : Result Line BadField → Bool
+is_refused (Err b) = true
+is_refused (Ok l) = false
 
 -- whether a start was accepted after it
-abbrev pub started_after : Bool → Line → Bool
-started_after t (Refused k) = t
-started_after t (Start time rtt) = t || begins time rtt
-started_after t (Sent time inflight number bytes) = t
-started_after t (Event e) = t
+abbrev pub started_after : Bool → Result Line BadField → Bool
+started_after t (Err b) = t
+started_after t (Ok (Start time rtt)) = t || begins time rtt
+started_after t (Ok (Sent time inflight number bytes)) = t
+started_after t (Ok (Event e)) = t
 
 or_true : (t : Bool) → (t || true) ≡ true
 or_true true = refl
@@ -82,37 +82,37 @@ abbrev pub bare : Replay → Replay
 bare r = record { line = 0; started = r.started; model = r.model; tally = no_tally }
 
 -- what a line does to a replay
-pub record Goes (r : Replay) (l : Line) (x : Stepped) : Type 0 where
+pub record Goes (r : Replay) (l : Result Line BadField) (x : Stepped) : Type 0 where
   pub six : eqb x.row.refusal 6 ≡ is_refused (placed_at r.started l)
   pub number : x.row.line ≡ one_more r.line
   pub line : x.replay.line ≡ one_more r.line
   pub started : x.replay.started ≡ started_after r.started (placed_at r.started l)
   pub dropped : is_refused (placed_at r.started l) ≡ true → bare x.replay ≡ bare r
 
-goes_bad : (r : Replay) (l : Line) (k : ℕ) → placed_at r.started l ≡ Refused k → Goes r l (bad_text (counted r))
+goes_bad : (r : Replay) (l : Result Line BadField) (b : BadField) → placed_at r.started l ≡ Err b → Goes r l (bad_text (counted r))
 unfolding answered Read.row_of counted
-goes_bad r l k e = record { six = sym (ap is_refused e); number = refl; line = refl; started = sym (ap (started_after r.started) e); dropped = λ _. refl }
+goes_bad r l b e = record { six = sym (ap is_refused e); number = refl; line = refl; started = sym (ap (started_after r.started) e); dropped = λ _. refl }
 
 -- a call is made, and R is the replay after it
-goes_call : (r : Replay) (l p : Line) (n : ℕ) (part : Option ℕ) (ended : Bool) (R : Replay) → placed_at r.started l ≡ p → is_refused p ≡ false → eqb n 6 ≡ false → R.line ≡ one_more r.line → R.started ≡ started_after r.started p → Goes r l (answered n part ended R)
+goes_call : (r : Replay) (l p : Result Line BadField) (n : ℕ) (part : Option ℕ) (ended : Bool) (R : Replay) → placed_at r.started l ≡ p → is_refused p ≡ false → eqb n 6 ≡ false → R.line ≡ one_more r.line → R.started ≡ started_after r.started p → Goes r l (answered n part ended R)
 unfolding answered Read.row_of
 goes_call r l p n part ended R e f six number started =
     record { six = six ∙ sym (ap is_refused e ∙ f); number = number; line = number; started = started ∙ sym (ap (started_after r.started) e); dropped = λ h. absurd (true≢false (sym h ∙ ap is_refused e ∙ f)) }
 
-placed_is : (t : Bool) (l : Line) → t ≡ true → placed_at t l ≡ l
+placed_is : (t : Bool) (l : Result Line BadField) → t ≡ true → placed_at t l ≡ l
 unfolding placed_at
 placed_is t l h = rw h
 
-placed_first : (t : Bool) (time rtt : ℕ) → placed_at t (Start time rtt) ≡ Start time rtt
+placed_first : (t : Bool) (time rtt : ℕ) → placed_at t (Ok (Start time rtt)) ≡ Ok (Start time rtt)
 unfolding placed_at early
 placed_first true time rtt = refl
 placed_first false time rtt = refl
 
-placed_early : (t : Bool) (l : Line) → t ≡ false → placed_at t l ≡ early l
+placed_early : (t : Bool) (l : Result Line BadField) → t ≡ false → placed_at t l ≡ early l
 unfolding placed_at
 placed_early t l h = rw h
 
-goes_start : (r : Replay) (time rtt : ℕ) → Goes r (Start time rtt) (start_read (counted r) time rtt)
+goes_start : (r : Replay) (time rtt : ℕ) → Goes r (Ok (Start time rtt)) (start_read (counted r) time rtt)
 unfolding start_read answered_by settled counted begins
 goes_start r time rtt = go (eqb (start_number params (duration rtt) (moment time)) 0) refl
   where
@@ -127,37 +127,37 @@ goes_start r time rtt = go (eqb (start_number params (duration rtt) (moment time
     begun true = sym (or_true r.started)
     begun false = sym (or_false r.started)
 
-    go : (d : Bool) → eqb (start_number params (duration rtt) (moment time)) 0 ≡ d → Goes r (Start time rtt) (answered_by (start_number params (duration rtt) (moment time)) (start_faults (duration rtt) (moment time)) false (next d))
-    go d e = goes_call r (Start time rtt) (Start time rtt) _ _ false (next d) (placed_first r.started time rtt) refl (start_not_six time rtt) (line d) (begun d ∙ ap (λ (b : Bool). r.started || b) (sym e))
+    go : (d : Bool) → eqb (start_number params (duration rtt) (moment time)) 0 ≡ d → Goes r (Ok (Start time rtt)) (answered_by (start_number params (duration rtt) (moment time)) (start_faults (duration rtt) (moment time)) false (next d))
+    go d e = goes_call r (Ok (Start time rtt)) (Ok (Start time rtt)) _ _ false (next d) (placed_first r.started time rtt) refl (start_not_six time rtt) (line d) (begun d ∙ ap (λ (b : Bool). r.started || b) (sym e))
 
-goes_sent : (r : Replay) (time inflight packet bytes : ℕ) → Goes r (Sent time inflight packet bytes) (sent_read (counted r) time inflight packet bytes)
+goes_sent : (r : Replay) (time inflight packet bytes : ℕ) → Goes r (Ok (Sent time inflight packet bytes)) (sent_read (counted r) time inflight packet bytes)
 unfolding sent_read answered_by counted early
 goes_sent r time inflight packet bytes = go r.started refl
   where
     n : ℕ
     n = sent_number r.model (moment time) inflight bytes
 
-    go : (t : Bool) → r.started ≡ t → Goes r (Sent time inflight packet bytes) (cond t (answered_by n (sent_faults (moment time) inflight bytes) false (with_model (counted r) (settled n (sent_next r.model (moment time) inflight packet bytes) r.model))) (bad_text (counted r)))
-    go true e = goes_call r (Sent time inflight packet bytes) (Sent time inflight packet bytes) n _ false _ (placed_is r.started (Sent time inflight packet bytes) e) refl (sent_not_six r.model time inflight bytes) refl refl
-    go false e = goes_bad r (Sent time inflight packet bytes) 0 (placed_early r.started (Sent time inflight packet bytes) e)
+    go : (t : Bool) → r.started ≡ t → Goes r (Ok (Sent time inflight packet bytes)) (cond t (answered_by n (sent_faults (moment time) inflight bytes) false (with_model (counted r) (settled n (sent_next r.model (moment time) inflight packet bytes) r.model))) (bad_text (counted r)))
+    go true e = goes_call r (Ok (Sent time inflight packet bytes)) (Ok (Sent time inflight packet bytes)) n _ false _ (placed_is r.started (Ok (Sent time inflight packet bytes)) e) refl (sent_not_six r.model time inflight bytes) refl refl
+    go false e = goes_bad r (Ok (Sent time inflight packet bytes)) (record { field = 0 }) (placed_early r.started (Ok (Sent time inflight packet bytes)) e)
 
-goes_event : (r : Replay) (v : line.Event) → Goes r (Event v) (event_read (counted r) v)
+goes_event : (r : Replay) (v : line.Event) → Goes r (Ok (Event v)) (event_read (counted r) v)
 unfolding event_read answered_by counted early
 goes_event r v = go r.started refl
   where
     n : ℕ
     n = occurs_number r.model v
 
-    go : (t : Bool) → r.started ≡ t → Goes r (Event v) (cond t (answered_by n (started_faults true whole_record (record_of v) whole_sample (sample_of v)) (ends_round r.model v) (with_model (counted r) (settled n (occurs_next r.model v) r.model))) (bad_text (counted r)))
-    go true e = goes_call r (Event v) (Event v) n _ _ _ (placed_is r.started (Event v) e) refl (occurs_not_six r.model v) refl refl
-    go false e = goes_bad r (Event v) 0 (placed_early r.started (Event v) e)
+    go : (t : Bool) → r.started ≡ t → Goes r (Ok (Event v)) (cond t (answered_by n (started_faults true whole_record (record_of v) whole_sample (sample_of v)) (ends_round r.model v) (with_model (counted r) (settled n (occurs_next r.model v) r.model))) (bad_text (counted r)))
+    go true e = goes_call r (Ok (Event v)) (Ok (Event v)) n _ _ _ (placed_is r.started (Ok (Event v)) e) refl (occurs_not_six r.model v) refl refl
+    go false e = goes_bad r (Ok (Event v)) (record { field = 0 }) (placed_early r.started (Ok (Event v)) e)
 
-pub goes : (r : Replay) (l : Line) → Goes r l (read_line r l)
+pub goes : (r : Replay) (l : Result Line BadField) → Goes r l (read_line r l)
 unfolding read_line
-goes r (Refused k) = goes_bad r (Refused k) k (placed_refused r.started k)
-goes r (Start time rtt) = goes_start r time rtt
-goes r (Sent time inflight packet bytes) = goes_sent r time inflight packet bytes
-goes r (Event v) = goes_event r v
+goes r (Err b) = goes_bad r (Err b) b (placed_refused r.started b.field)
+goes r (Ok (Start time rtt)) = goes_start r time rtt
+goes r (Ok (Sent time inflight packet bytes)) = goes_sent r time inflight packet bytes
+goes r (Ok (Event v)) = goes_event r v
 
 -- ---- neither the number of a line nor the tally decides anything else
 pub record Alike (x y : Stepped) : Type 0 where
@@ -172,10 +172,10 @@ alike_answered n part ended r q e =
       replay = e;
     }
 
-bare_step : (r : Replay) (l : Line) → Alike (read_line r l) (read_line (bare r) l)
+bare_step : (r : Replay) (l : Result Line BadField) → Alike (read_line r l) (read_line (bare r) l)
 unfolding read_line start_read sent_read event_read answered_by counted settled
-bare_step r (Refused k) = alike_answered 6 None false (counted r) (counted (bare r)) refl
-bare_step r (Start time rtt) = go (eqb n 0)
+bare_step r (Err b) = alike_answered 6 None false (counted r) (counted (bare r)) refl
+bare_step r (Ok (Start time rtt)) = go (eqb n 0)
   where
     n : ℕ
     n = start_number params (duration rtt) (moment time)
@@ -189,7 +189,7 @@ bare_step r (Start time rtt) = go (eqb n 0)
 
     go : (d : Bool) → Alike (answered_by n (start_faults (duration rtt) (moment time)) false (cond d (begun_with (counted r) m) (counted r))) (answered_by n (start_faults (duration rtt) (moment time)) false (cond d (begun_with (counted (bare r)) m) (counted (bare r))))
     go d = alike_answered n _ false _ _ (same d)
-bare_step r (Sent time inflight packet bytes) = go r.started
+bare_step r (Ok (Sent time inflight packet bytes)) = go r.started
   where
     n : ℕ
     n = sent_number r.model (moment time) inflight bytes
@@ -200,7 +200,7 @@ bare_step r (Sent time inflight packet bytes) = go r.started
     go : (t : Bool) → Alike (cond t (next r) (bad_text (counted r))) (cond t (next (bare r)) (bad_text (counted (bare r))))
     go true = alike_answered n _ false _ _ refl
     go false = alike_answered 6 None false (counted r) (counted (bare r)) refl
-bare_step r (Event v) = go r.started
+bare_step r (Ok (Event v)) = go r.started
   where
     n : ℕ
     n = occurs_number r.model v
@@ -212,7 +212,7 @@ bare_step r (Event v) = go r.started
     go true = alike_answered n _ _ _ _ refl
     go false = alike_answered 6 None false (counted r) (counted (bare r)) refl
 
-pub same_step : (r q : Replay) (l : Line) → bare r ≡ bare q → Alike (read_line r l) (read_line q l)
+pub same_step : (r q : Replay) (l : Result Line BadField) → bare r ≡ bare q → Alike (read_line r l) (read_line q l)
 same_step r q l e =
     let a = bare_step r l in
     let b = bare_step q l in

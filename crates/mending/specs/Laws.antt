@@ -1,7 +1,6 @@
 -- What holds of every mended trace: document 02, request k. Statements only; proofs/ proves them.
 use Rattle.std.specs.Prelude.{ℕ, ◌+◌, ◌-◌, ◌^◌, ◌≤◌, ◌<◌, true, cond, List, [], ◌∷◌, ◌++◌, map, ◌≡◌, length, drop}
-use Rattle.text.specs.declared.line.Line.TheVariants.{Refused}
-use Rattle.text.specs.Line.{line_of}
+use Rattle.text.specs.Line.{refused, line_of}
 use Rattle.rows.specs.declared.row.Row.{Row}
 use Rattle.rows.specs.Row.{row_text}
 use Rattle.trace.specs.declared.replay.Replay.{Replay}
@@ -41,8 +40,8 @@ Rising n (e ∷ es) = (n < e.line) × Rising e.line es
 pub record MendLaws : Type 0 where
   -- A line gives 6 exactly where it is refused where it stands: by itself, or as a send or an event before any accepted
   -- start; and the field that is listed is the one that is named there
-  pub six : (r : Replay) (l : List ℕ) → gives_six r l ≡ true → (k : ℕ) × (placed_at r.started (line_of l) ≡ Refused k)
-  pub six_where : (r : Replay) (l : List ℕ) (k : ℕ) → placed_at r.started (line_of l) ≡ Refused k →
+  pub six : (r : Replay) (l : List ℕ) → gives_six r l ≡ true → (k : ℕ) × (placed_at r.started (line_of l) ≡ refused k)
+  pub six_where : (r : Replay) (l : List ℕ) (k : ℕ) → placed_at r.started (line_of l) ≡ refused k →
       (gives_six r l ≡ true) × (field_of (line_of l) ≡ k)
   -- Lines in two parts: in each the lines kept are kept in order, and the others listed
   pub kept_parts : (r : Replay) (a b : List (List ℕ)) →

@@ -1,9 +1,9 @@
 -- A trace mended: document 02, request k. "A second program copies a trace, drops every line that gives 6 in the replay
 -- as it then stands, and writes a separate list, also RFC 4180, of line number and first field at fault, in order ..
 -- The lines kept are unchanged and in order".
-use Rattle.std.specs.Prelude.{ℕ, Bool, cond, List, [], ◌∷◌, ◌++◌, eqb}
+use Rattle.std.specs.Prelude.{ℕ, Bool, cond, List, [], ◌∷◌, ◌++◌, eqb, Result, Ok, Err}
 use Rattle.text.specs.declared.line.Line.{Line}
-use Rattle.text.specs.declared.line.Line.TheVariants.{Refused, Start, Sent, Event}
+use Rattle.text.specs.declared.line.BadField.{BadField}
 use Rattle.text.specs.Line.{line_of}
 use Rattle.text.specs.Text.{line}
 use Rattle.rows.specs.Entry.{entry_text}
@@ -18,12 +18,10 @@ unfoldable pub gives_six : Replay → List ℕ → Bool
 gives_six r l = eqb (stepped r l).row.refusal 6
 
 -- "first field at fault .. (0 for length, a missing CR LF or field count, and for a missing start where no field is at
--- fault)": of a line that is none by itself it is in `Refused` (crates/text/specs/Line.antt)
-abbrev pub field_of : Line → ℕ
-field_of (Refused k) = k
-field_of (Start time rtt) = 0
-field_of (Sent time inflight number bytes) = 0
-field_of (Event e) = 0
+-- fault)": of a line that is none by itself it is in the error (crates/text/specs/Line.antt)
+abbrev pub field_of : Result Line BadField → ℕ
+field_of (Err b) = b.field
+field_of (Ok l) = 0
 
 pub record Entry : Type 0 where
   pub line : ℕ

@@ -1,8 +1,9 @@
 -- How the code goes over lines: of a replay it needs only how many lines there were, and whether a start was accepted.
 -- That it keeps and lists what Mend.antt says is a law (Laws.antt, `follows`).
-use Rattle.std.specs.Prelude.{ℕ, Bool, true, false, cond, ◌||◌, List, []}
+use Rattle.std.specs.Prelude.{ℕ, Bool, true, false, cond, ◌||◌, List, [], Result, Ok, Err}
 use Rattle.text.specs.declared.line.Line.{Line}
-use Rattle.text.specs.declared.line.Line.TheVariants.{Refused, Start, Sent, Event}
+use Rattle.text.specs.declared.line.Line.TheVariants.{Start, Sent, Event}
+use Rattle.text.specs.declared.line.BadField.{BadField}
 use Rattle.text.specs.Line.{line_of}
 use Rattle.rows.specs.Entry.{entry_text}
 use Rattle.trace.specs.Made.{begins}
@@ -44,14 +45,14 @@ lists m field =
     }
 
 -- a line where it stands (crates/trace/specs/Placed.antt)
-unfoldable pub sorted_here : Mend → Line → Sorted
-sorted_here m (Refused k) = lists m k
-sorted_here m (Start time rtt) = keeps m (begins time rtt)
-sorted_here m (Sent time inflight number bytes) = keeps m false
-sorted_here m (Event e) = keeps m false
+unfoldable pub sorted_here : Mend → Result Line BadField → Sorted
+sorted_here m (Err b) = lists m b.field
+sorted_here m (Ok (Start time rtt)) = keeps m (begins time rtt)
+sorted_here m (Ok (Sent time inflight number bytes)) = keeps m false
+sorted_here m (Ok (Event e)) = keeps m false
 
 -- a line, as it is read, and by its bytes
-unfoldable pub sorted_as : Mend → Line → Sorted
+unfoldable pub sorted_as : Mend → Result Line BadField → Sorted
 sorted_as m l = sorted_here m (placed_at m.started l)
 
 unfoldable pub sorted : Mend → List ℕ → Sorted

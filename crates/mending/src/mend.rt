@@ -2,7 +2,7 @@
 ghost use Rattle.std.specs.Prelude.{◌≡◌, true, false, ◌||◌};
 ghost use Rattle.mending.specs.Sorted.{unread, keeps, lists, sorted_as, sorted};
 
-use text::line::{Line, parse};
+use text::line::{BadField, Line, parse};
 use trace::made::is_begun;
 use trace::placed::placed;
 
@@ -37,6 +37,7 @@ impl Mend {
     }
 
     // A line that is kept; it may be a start that is accepted.
+    #[tactic(auto, unfolding(crate::specs::Sorted::keeps))]
     fn keep(self, begun: bool) -> Sorted
         ensures { result ≡ keeps self begun }
     {
@@ -55,6 +56,7 @@ impl Mend {
     }
 
     // A line that gives 6.
+    #[tactic(auto, unfolding(crate::specs::Sorted::lists))]
     fn list(self, field: u64) -> Sorted
         ensures { result ≡ lists self field }
     {
@@ -73,24 +75,20 @@ impl Mend {
     }
 
     // A line, as it is read.
-    fn sort(self, l: Line) -> Sorted
+    #[tactic(auto, unfolding(crate::specs::Sorted::sorted_as, crate::specs::Sorted::sorted_here))]
+    fn sort(self, l: Result<Line, BadField>) -> Sorted
         ensures { result ≡ sorted_as self l }
     {
-        let here = placed(self.started, l);
-        match here {
-            Line::Refused(field) => self.list(field),
-            Line::Start { time, rtt } => self.keep(is_begun(time, rtt)),
-            Line::Sent {
-                time: _,
-                inflight: _,
-                number: _,
-                bytes: _,
-            } => self.keep(false),
-            Line::Event(_) => self.keep(false),
+        match placed(self.started, l) {
+            Err(bad) => self.list(bad.field),
+            Ok(Line::Start { time, rtt }) => self.keep(is_begun(time, rtt)),
+            Ok(Line::Sent { .. }) => self.keep(false),
+            Ok(Line::Event(_)) => self.keep(false),
         }
     }
 
     // A line, by its bytes.
+    #[tactic(auto, unfolding(crate::specs::Sorted::sorted))]
     pub fn take(self, s: &[u8]) -> Sorted
         ensures { result ≡ sorted self s.now }
     {

@@ -1,15 +1,15 @@
 -- The lines of specs/Examples.antt. Assumes nothing.
 use mathlib.Core.Path.{refl, sym}
 use Rattle.text.specs.Text.{bytes}
-use Rattle.text.specs.Number.{digits_only, value_from, leads, plain, tag_of, number_of}
-use Rattle.text.specs.Word.{same, kind_of}
-use Rattle.text.specs.Fields.{fields, rules_of, accepts, fault_from}
-use Rattle.text.specs.Line.{given, made_of, unless, rest_of, fields_line, body_of, ended, line_of}
+use Rattle.text.specs.Number.{digits_only, value_from, leads, plain, cell_of}
+use Rattle.text.specs.Word.{same}
+use Rattle.text.specs.Fields.{fields, fault_from}
+use Rattle.text.specs.Line.{rest_of, fields_line, body_of, ended, line_of}
 use Rattle.text.specs.Examples.{LinesWorked}
 use Rattle.text.proofs.Lines.{line_long}
 
 pub lines_worked : LinesWorked
-unfolding bytes digits_only value_from leads plain tag_of number_of same kind_of fields rules_of accepts fault_from given made_of unless rest_of fields_line body_of ended line_of
+unfolding bytes digits_only value_from leads plain cell_of same fields fault_from rest_of fields_line body_of ended line_of
 lines_worked =
     record {
       start = refl;

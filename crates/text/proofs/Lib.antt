@@ -1,6 +1,5 @@
 -- Laws on the text of a trace.
 pub mod Numbers
-pub mod Words
 pub mod Splits
 pub mod Lines
 pub mod Examples

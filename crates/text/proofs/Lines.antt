@@ -1,28 +1,26 @@
 -- A line from its fields. Assumes nothing.
-use Rattle.std.specs.Prelude.{Option}
+use Rattle.std.specs.Prelude.{Option, None, Some, Ok}
+use Rattle.std.specs.List.{slice_range}
 use Prim.Native.Nat.{ℕ, suc, ◌+◌, ◌-◌, ◌<◌, ◌≤◌}
 use mathlib.Core.Path.{◌≡◌, refl, sym, ap, ◌∙◌}
-use mathlib.Core.Bool.{Bool, true, false, cond}
+use mathlib.Core.Bool.{Bool, true, false, cond, ◌&&◌}
 use mathlib.Core.List.{List, [], ◌∷◌, map}
 use native.Mathlib.Omega.{arith}
+use native.Mathlib.Numerals.{add-one}
 use lib.Dec.{eqb, leb}
-use lib.ListN.{length, drop, take, get_or}
-use borrow.Author.Tests.{eq-eqb, ne_eqb, le-leb, lt-leb, leb-true, leb-false}
-use Rattle.text.specs.declared.line.Line.{Line}
-use Rattle.text.specs.declared.line.Line.TheVariants.{Refused, Event}
-use Rattle.text.specs.declared.fields.Cells.{Cells}
-use Rattle.text.specs.Number.{tag_of, number_of}
-use Rattle.text.specs.Inner.{before, upto, cells_of, no_cells}
+use lib.ListN.{length, drop, take, get_or, drop_of_length-le, length-drop}
+use lib.Pointwise.{pointwise}
+use lib.Seq.{drop-cons, take_all}
+use borrow.Author.Tests.{le-leb, lt-leb, leb-true, leb-false}
+use Rattle.text.specs.declared.number.Cell.{Cell}
+use Rattle.text.specs.declared.word.Kind.{Kind}
+use Rattle.text.specs.Number.{cell_of}
+use Rattle.text.specs.Inner.{before, upto, cells_of}
 use Rattle.text.specs.Word.{kind_of}
 use Rattle.text.specs.Fields.{fields, rules_of, fault_from}
-use Rattle.text.specs.Line.{given, made_of, unless, rest_of, fields_line, body_of, ended, line_of}
+use Rattle.text.specs.Line.{made_of, refused, unless, rest_of, fields_line, body_of, ended, line_of}
 use Rattle.text.proofs.Numbers.{before_le, both_false}
 use Rattle.text.proofs.Splits.{fields_last, fields_more}
-
--- what an event's line makes
-pub made_event : (kind : ℕ) (ts vs : List ℕ) (number bw rtt : Option ℕ) → (kind ≡ 1 → ⊥) → (kind ≡ 2 → ⊥) → number ≡ given (get_or ts 3 0) (get_or vs 3 0) → bw ≡ given (get_or ts 7 0) (get_or vs 7 0) → rtt ≡ given (get_or ts 8 0) (get_or vs 8 0) → Event record { time = get_or vs 0 0; cwnd = get_or vs 1 0; inflight = get_or vs 2 0; number = number; acked = get_or vs 5 0; lost = get_or vs 6 0; bw = bw; rtt = rtt; probing = eqb (get_or vs 9 0) 1 } ≡ made_of kind ts vs
-unfolding made_of
-made_event kind ts vs number bw rtt a b x y z = simp (ne_eqb kind 1 a, ne_eqb kind 2 b, x, y, z)
 
 pub take_upto : (s : List ℕ) → take (length (upto s)) s ≡ upto s
 unfolding before
@@ -34,24 +32,28 @@ take_upto (b ∷ s) = go (take_upto s) (eqb b 44)
     go h false = ap (λ (l : List ℕ). b ∷ l) h
 
 -- what ten fields give
-pub cells_whole : (fs : List (List ℕ)) (c : Cells) → c ≡ cells_of fs → c.whole ≡ eqb (length fs) 10
+pub cells_none : (fs : List (List ℕ)) → None ≡ cells_of fs → eqb (length fs) 10 ≡ false
 unfolding cells_of
-cells_whole fs c e = rw e (go (eqb (length fs) 10))
+cells_none fs e = go (eqb (length fs) 10) e
   where
-    go : (q : Bool) → (cond q (record { whole = true; tags = map tag_of fs; values = map number_of fs }) no_cells).whole ≡ q
-    go true = refl
-    go false = refl
+    go : (q : Bool) → None ≡ cond q (Some (map cell_of fs)) None → q ≡ false
+    go true h = absurd (cc)
+    go false h = refl
 
-pub cells_tags : (fs : List (List ℕ)) (c : Cells) → c ≡ cells_of fs → c.whole ≡ true → c.tags ≡ map tag_of fs
+pub cells_some : (fs : List (List ℕ)) (cs : List Cell) → Some cs ≡ cells_of fs → (eqb (length fs) 10 ≡ true) × (cs ≡ map cell_of fs)
 unfolding cells_of
-cells_tags fs c e h = let q : eqb (length fs) 10 ≡ true = sym (cells_whole fs c e) ∙ h in rw (e, q)
+cells_some fs cs e = go (eqb (length fs) 10) e
+  where
+    go : (q : Bool) → Some cs ≡ cond q (Some (map cell_of fs)) None → (q ≡ true) × (cs ≡ map cell_of fs)
+    go true h = (refl, cc)
+    go false h = absurd (cc)
 
-pub cells_values : (fs : List (List ℕ)) (c : Cells) → c ≡ cells_of fs → c.whole ≡ true → c.values ≡ map number_of fs
-unfolding cells_of
-cells_values fs c e h = let q : eqb (length fs) 10 ≡ true = sym (cells_whole fs c e) ∙ h in rw (e, q)
+-- all that follows an index is read
+pub cells_past : (s : List ℕ) (at : ℕ) (o : Option (List Cell)) → o ≡ cells_of (fields (slice_range s at (length s))) → o ≡ cells_of (fields (drop at s))
+cells_past s at o e = e ∙ ap (λ l. cells_of (fields l)) (take_all _ (drop at s) (omega (arith, length-drop at s)))
 
 module _ (s : List ℕ) (end : ℕ) (e : end ≡ length (upto s)) where
-  pub body_one : end ≡ length s → Refused 0 ≡ body_of s
+  pub body_one : end ≡ length s → refused 0 ≡ body_of s
   unfolding body_of fields_line
   body_one h = sym (rw (fields_last s (sym e ∙ h)))
 
@@ -65,56 +67,70 @@ module _ (s : List ℕ) (end : ℕ) (e : end ≡ length (upto s)) where
   pub end_least : end ≤ length s
   end_least = let u = before_le 44 s in omega arith
 
-  body_more : (end ≡ length s → ⊥) → fields s ≡ upto s ∷ fields (drop (end + 1) s)
-  body_more h = let w = end_within h in let q : suc (length (upto s)) ≡ end + 1 = omega arith in
-      fields_more s (omega arith) ∙ ap (λ (n : ℕ). upto s ∷ fields (drop n s)) q
+  kind_is : kind_of (take end s) ≡ kind_of (upto s)
+  kind_is = ap (λ (n : ℕ). kind_of (take n s)) e ∙ ap kind_of (take_upto s)
 
-  module _ (h : end ≡ length s → ⊥) (c : Cells) (ce : c ≡ cells_of (fields (drop (end + 1) s))) where
-    pub body_count : c.whole ≡ false → Refused 0 ≡ body_of s
+  module _ (h : end ≡ length s → ⊥) where
+    body_more : fields s ≡ upto s ∷ fields (drop (end + 1) s)
+    body_more =
+        let w = end_within h in
+        let q : suc (length (upto s)) ≡ end + 1 = omega arith in
+        fields_more s (omega arith) ∙ ap (λ (n : ℕ). upto s ∷ fields (drop n s)) q
+
+    pub body_count : None ≡ cells_of (fields (drop (end + 1) s)) → refused 0 ≡ body_of s
     unfolding body_of fields_line
-    body_count f = let q : eqb (length (fields (drop (end + 1) s))) 10 ≡ false = sym (cells_whole _ c ce) ∙ f in sym (rw (body_more h, q))
+    body_count f = sym (rw (body_more, cells_none _ f))
 
-    body_whole : c.whole ≡ true → body_of s ≡ rest_of (kind_of (upto s)) (fields (drop (end + 1) s))
-    unfolding body_of fields_line
-    body_whole f = let q : eqb (length (fields (drop (end + 1) s))) 10 ≡ true = sym (cells_whole _ c ce) ∙ f in rw (body_more h, q)
+    module _ (cs : List Cell) (f : Some cs ≡ cells_of (fields (drop (end + 1) s))) where
+      body_whole : body_of s ≡ rest_of (kind_of (take end s)) (fields (drop (end + 1) s))
+      unfolding body_of fields_line
+      body_whole = rw (body_more, (cells_some _ cs f).0, kind_is)
 
-    module _ (f : c.whole ≡ true) (k : ℕ) (ke : k ≡ kind_of (take end s)) where
-      kind_is : k ≡ kind_of (upto s)
-      kind_is = ke ∙ ap (λ (n : ℕ). kind_of (take n s)) e ∙ ap kind_of (take_upto s)
-
-      pub body_unknown : k ≡ 0 → Refused 1 ≡ body_of s
+      pub body_unknown : None ≡ kind_of (take end s) → refused 1 ≡ body_of s
       unfolding rest_of
-      body_unknown z = sym (body_whole f ∙ rw (← kind_is, z))
+      body_unknown z = sym (body_whole ∙ rw (← z))
 
-      module _ (n : k ≡ 0 → ⊥) (rs : List ℕ) (re : rs ≡ rules_of k) (at : ℕ) (ae : at ≡ fault_from 2 rs c.tags c.values) where
-        fault_is : at ≡ fault_from 2 (rules_of k) (map tag_of (fields (drop (end + 1) s))) (map number_of (fields (drop (end + 1) s)))
-        fault_is = ae ∙ rw (re, cells_tags _ c ce f, cells_values _ c ce f)
+      module _ (k : Kind) (z : Some k ≡ kind_of (take end s)) where
+        body_ruled : body_of s ≡ unless (fault_from 2 (rules_of k) cs) (made_of k cs)
+        unfolding rest_of
+        body_ruled = body_whole ∙ rw (← z, (cells_some _ cs f).1)
 
-        pub body_fault : (at ≡ 0 → ⊥) → Refused at ≡ body_of s
-        unfolding rest_of unless
-        body_fault z = sym (body_whole f ∙ rw (← kind_is, ne_eqb k 0 n, ← fault_is, ne_eqb at 0 z))
+        pub body_fault : (n : ℕ) → Some n ≡ fault_from 2 (rules_of k) cs → refused n ≡ body_of s
+        body_fault n g = sym (body_ruled ∙ rw (← g))
 
-        pub body_made : at ≡ 0 → (m : Line) → m ≡ made_of k c.tags c.values → m ≡ body_of s
-        unfolding rest_of unless
-        body_made z m me = me ∙ rw (cells_tags _ c ce f, cells_values _ c ce f) (sym (body_whole f ∙ rw (← kind_is, ne_eqb k 0 n, ← fault_is, z)))
+        pub body_made : None ≡ fault_from 2 (rules_of k) cs → Ok (made_of k cs) ≡ body_of s
+        body_made g = sym (body_ruled ∙ rw (← g))
 
 -- the end of a line
-pub line_long : (s : List ℕ) → 4096 < length s → Refused 0 ≡ line_of s
+and_true : (a : Bool) → (a && true) ≡ a
+and_true true = refl
+and_true false = refl
+
+ended_short : (s : List ℕ) → length s < 2 → pointwise eqb (drop (length s - 2) s) (13 ∷ 10 ∷ []) ≡ false
+ended_short [] h = refl
+ended_short (a ∷ []) h = both_false (eqb a 13)
+ended_short (a ∷ b ∷ t) h = absurd (omega arith)
+
+pub ended_is : (s : List ℕ) → pointwise eqb (drop (length s - 2) s) (13 ∷ 10 ∷ []) ≡ ended s
+unfolding ended
+ended_is s = go (leb 2 (length s)) refl
+  where
+    go : (q : Bool) → leb 2 (length s) ≡ q → pointwise eqb (drop (length s - 2) s) (13 ∷ 10 ∷ []) ≡ (q && (eqb (get_or s (length s - 2) 0) 13 && eqb (get_or s (length s - 2 + 1) 0) 10))
+    go true w =
+        let l = leb-true 2 (length s) w in
+        let k = length s - 2 in
+        let e : drop (suc (suc k)) s ≡ [] = drop_of_length-le s (let g : length s ≤ suc (suc k) = omega arith in g) in
+        rw (drop-cons s k 0 (omega arith), drop-cons s (suc k) 0 (omega arith), e, add-one k) (ap (λ q. eqb (get_or s k 0) 13 && q) (and_true _))
+    go false w = ended_short s (leb-false 2 (length s) w)
+
+pub line_long : (s : List ℕ) → 4096 < length s → refused 0 ≡ line_of s
 unfolding line_of
 line_long s h = rw (lt-leb (length s) 4096 h)
 
-pub line_short : (s : List ℕ) → length s < 2 → Refused 0 ≡ line_of s
-unfolding line_of ended
-line_short s h = simp (lt-leb 2 (length s) h, both_false)
+pub line_unended : (s : List ℕ) → ended s ≡ false → refused 0 ≡ line_of s
+unfolding line_of
+line_unended s h = simp (h, both_false)
 
-pub line_no_cr : (s : List ℕ) → (get_or s (length s - 2) 0 ≡ 13 → ⊥) → Refused 0 ≡ line_of s
-unfolding line_of ended
-line_no_cr s h = simp (ne_eqb _ _ h, both_false)
-
-pub line_no_lf : (s : List ℕ) → (get_or s (length s - 2 + 1) 0 ≡ 10 → ⊥) → Refused 0 ≡ line_of s
-unfolding line_of ended
-line_no_lf s h = simp (ne_eqb _ _ h, both_false)
-
-pub line_sound : (s : List ℕ) → length s ≤ 4096 → 2 ≤ length s → get_or s (length s - 2) 0 ≡ 13 → get_or s (length s - 2 + 1) 0 ≡ 10 → body_of (take (length s - 2) s) ≡ line_of s
-unfolding line_of ended
-line_sound s a b c d = simp (le-leb (length s) 4096 a, le-leb 2 (length s) b, eq-eqb _ _ c, eq-eqb _ _ d)
+pub line_sound : (s : List ℕ) → length s ≤ 4096 → ended s ≡ true → body_of (take (length s - 2) s) ≡ line_of s
+unfolding line_of
+line_sound s a h = simp (le-leb (length s) 4096 a, h)

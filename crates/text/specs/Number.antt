@@ -1,6 +1,8 @@
 -- Numbers of a trace. Document 02, request j: "a number not in plain digits (no quotes, no leading zero but in 0
 -- itself) or above 2^64 - 1" is refused.
 use Rattle.std.specs.Prelude.{ℕ, ◌+◌, ◌-◌, ◌*◌, ◌^◌, Bool, true, false, cond, not, ◌&&◌, List, [], ◌∷◌, eqb, ltb, leb, length}
+use Rattle.text.specs.declared.number.Cell.{Cell}
+use Rattle.text.specs.declared.number.Cell.TheVariants.{Empty, Number, Other}
 
 -- ---- "plain digits": '0' is 48, '9' is 57
 abbrev pub is_digit : ℕ → Bool
@@ -24,10 +26,12 @@ leads (b ∷ c ∷ s) = not (eqb b 48)
 unfoldable pub plain : List ℕ → Bool
 plain s = leads s && (digits_only s && ltb (value_from 0 s) (2 ^ 64))
 
--- ---- a field: 0 where it is empty, 1 where it is a number, 2 where it is neither
-unfoldable pub tag_of : List ℕ → ℕ
-tag_of s = cond (eqb (length s) 0) 0 (cond (plain s) 1 2)
+-- ---- a field: empty, a number, or neither
+unfoldable pub cell_of : List ℕ → Cell
+cell_of s = cond (eqb (length s) 0) Empty (cond (plain s) (Number (value_from 0 s)) Other)
 
 -- its number, or 0 where it is none
-unfoldable pub number_of : List ℕ → ℕ
-number_of s = cond (plain s) (value_from 0 s) 0
+abbrev pub number_of : Cell → ℕ
+number_of Empty = 0
+number_of (Number n) = n
+number_of Other = 0

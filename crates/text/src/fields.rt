@@ -1,91 +1,78 @@
 // The ten fields of a line after its kind, split at commas.
-ghost use Rattle.std.specs.Prelude.{◌≡◌, ◌+◌, ◌≤◌, length, drop};
+ghost use Rattle.std.specs.Prelude.{◌≡◌};
 ghost use Rattle.text.specs.Fields.{fields, rules_of, accepts, fault_from};
-ghost use Rattle.text.specs.Inner.{cells_of, no_cells};
+ghost use Rattle.text.specs.Inner.{cells_of};
 
-use crate::number::cell_at;
+use crate::number::Cell;
+use crate::word::Kind;
 
-// The tags and numbers of ten fields; not whole where there are more or fewer.
-#[derive(Clone, Copy)]
-pub struct Cells {
-    pub whole: bool,
-    pub tags: [u8; 10],
-    pub values: [u64; 10],
-}
-
-fn no_cells() -> Cells
-    ensures { result ≡ no_cells }
+// The fields of a text, where they are ten.
+pub(crate) fn cells(s: &[u8]) -> Option<[Cell; 10]>
+    ensures { result ≡ cells_of (fields s.now) }
 {
-    Cells {
-        whole: false,
-        tags: [0; 10],
-        values: [0; 10],
-    }
-}
-
-// The fields from an index on.
-pub(crate) fn cells_from(s: &[u8], from: usize) -> Cells
-    requires { from ≤ length s.now }
-    ensures { result ≡ cells_of (fields (drop from s.now)) }
-{
-    let mut tags = [0u8; 10];
-    let mut values = [0u64; 10];
-    let mut at = from;
-    let mut k: usize = 0;
-    while k < 10 {
-        let c = cell_at(s, at);
-        let end = c.end;
-        tags[k] = c.tag;
-        values[k] = c.value;
-        k += 1;
-        if end == s.len() {
-            if k == 10 {
-                return Cells {
-                    whole: true,
-                    tags,
-                    values,
-                };
-            }
-            return no_cells();
+    let mut cells = [Cell::Empty; 10];
+    let mut count: usize = 0;
+    for field in s.split(|b| *b == b',') {
+        if count == 10 {
+            return None;
         }
-        at = end + 1;
+        cells[count] = Cell::new(field);
+        count += 1;
     }
-    no_cells()
+    if count == 10 { Some(cells) } else { None }
 }
 
-// What each field of a kind may be: 0 empty, 1 a number, 2 either, 3 the number 0 or 1.
-pub(crate) fn rules(kind: u8) -> [u8; 10]
-    ensures { result ≡ rules_of kind }
-{
-    match kind {
-        1 => [1, 0, 0, 0, 0, 0, 0, 0, 1, 0],
-        2 => [1, 0, 1, 1, 1, 0, 0, 0, 0, 0],
-        _ => [1, 1, 1, 2, 0, 1, 1, 2, 2, 3],
-    }
+// What a field may be: empty, a number, either, or the number 0 or 1.
+#[derive(Clone, Copy, Debug, PartialEq, Eq)]
+pub enum Rule {
+    Blank,
+    Filled,
+    Either,
+    Flag,
 }
 
-fn accept(rule: u8, tag: u8, value: u64) -> bool
-    ensures { result ≡ accepts rule tag value }
-{
-    match rule {
-        0 => tag == 0,
-        1 => tag == 1,
-        2 => tag < 2,
-        _ => (tag == 1) & (value < 2),
-    }
-}
-
-// The first field at fault, counted from 2, or 0.
-pub(crate) fn fault(rules: &[u8; 10], tags: &[u8; 10], values: &[u64; 10]) -> u64
-    requires { (length rules.now ≡ 10) × (length tags.now ≡ 10) × (length values.now ≡ 10) }
-    ensures { result ≡ fault_from 2 rules.now tags.now values.now }
-{
-    let mut k: usize = 0;
-    while k < 10 {
-        if !accept(rules[k], tags[k], values[k]) {
-            return k as u64 + 2;
+impl Rule {
+    fn accepts(self, cell: Cell) -> bool
+        ensures { result ≡ accepts self cell }
+    {
+        match (self, cell) {
+            (Rule::Blank | Rule::Either, Cell::Empty) => true,
+            (Rule::Filled | Rule::Either, Cell::Number(_)) => true,
+            (Rule::Flag, Cell::Number(n)) => n < 2,
+            _ => false,
         }
-        k += 1;
     }
-    0
+}
+
+impl Kind {
+    // What each field of a line of this kind may be.
+    pub(crate) fn rules(self) -> [Rule; 10]
+        ensures { result ≡ rules_of self }
+    {
+        use Rule::{Blank, Either, Filled, Flag};
+
+        match self {
+            Kind::Start => [
+                Filled, Blank, Blank, Blank, Blank, Blank, Blank, Blank, Filled, Blank,
+            ],
+            Kind::Sent => [
+                Filled, Blank, Filled, Filled, Filled, Blank, Blank, Blank, Blank, Blank,
+            ],
+            Kind::Event => [
+                Filled, Filled, Filled, Either, Blank, Filled, Filled, Either, Either, Flag,
+            ],
+        }
+    }
+}
+
+// The first field at fault, counted from 2.
+pub(crate) fn fault(rules: &[Rule; 10], cells: &[Cell; 10]) -> Option<u64>
+    ensures { result ≡ fault_from 2 rules.now cells.now }
+{
+    for k in 0..10 {
+        if !rules[k].accepts(cells[k]) {
+            return Some(k as u64 + 2);
+        }
+    }
+    None
 }

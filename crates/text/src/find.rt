@@ -6,12 +6,6 @@ ghost use Rattle.text.specs.Inner.{before};
 pub fn end_of(s: &[u8], at: usize, b: u8) -> usize
     ensures { result ≡ at + length (before b (drop at s.now)) }
 {
-    let mut i = at;
-    while i < s.len() {
-        if s[i] == b {
-            return i;
-        }
-        i += 1;
-    }
-    i
+    let rest = s.get(at..).unwrap_or(&[]);
+    at + rest.iter().position(|x| *x == b).unwrap_or(rest.len())
 }

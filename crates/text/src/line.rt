@@ -2,9 +2,10 @@
 ghost use Rattle.std.specs.Prelude.{◌≡◌};
 ghost use Rattle.text.specs.Line.{line_of, body_of, made_of, given};
 
-use crate::fields::{Cells, cells_from, fault, rules};
+use crate::fields::{cells, fault};
 use crate::find::end_of;
-use crate::word::kind;
+use crate::number::Cell;
+use crate::word::Kind;
 
 // time, cwnd, inflight, number, acked, lost, bw, rtt, probing.
 #[derive(Clone, Copy)]
@@ -22,8 +23,6 @@ pub struct Event {
 
 #[derive(Clone, Copy)]
 pub enum Line {
-    // Refused with 6: the first field at fault, or 0.
-    Refused(u64),
     Start {
         time: u64,
         rtt: u64,
@@ -37,88 +36,84 @@ pub enum Line {
     Event(Event),
 }
 
-fn give(tag: u8, value: u64) -> Option<u64>
-    ensures { result ≡ given tag value }
-{
-    if tag == 0 { None } else { Some(value) }
+// A line that is refused with 6: the first field at fault, or 0.
+#[derive(Clone, Copy, Debug, PartialEq, Eq)]
+pub struct BadField {
+    pub field: u64,
 }
 
-fn made(kind: u8, tags: &[u8; 10], values: &[u64; 10]) -> Line
-    ensures { result ≡ made_of kind tags.now values.now }
+// The number of a field that may be empty.
+fn give(cell: Cell) -> Option<u64>
+    ensures { result ≡ given cell }
 {
-    if kind == 1 {
-        return Line::Start {
-            time: values[0],
-            rtt: values[8],
-        };
+    match cell {
+        Cell::Empty => None,
+        filled => Some(filled.number()),
     }
-    if kind == 2 {
-        return Line::Sent {
-            time: values[0],
-            inflight: values[2],
-            number: values[3],
-            bytes: values[4],
-        };
-    }
-    let number = give(tags[3], values[3]);
-    let bw = give(tags[7], values[7]);
-    let rtt = give(tags[8], values[8]);
-    Line::Event(Event {
-        time: values[0],
-        cwnd: values[1],
-        inflight: values[2],
+}
+
+fn made(kind: Kind, cells: &[Cell; 10]) -> Line
+    ensures { result ≡ made_of kind cells.now }
+{
+    let [
+        time,
+        cwnd,
+        inflight,
         number,
-        acked: values[5],
-        lost: values[6],
+        bytes,
+        acked,
+        lost,
         bw,
         rtt,
-        probing: values[9] == 1,
-    })
+        probing,
+    ] = *cells;
+    match kind {
+        Kind::Start => Line::Start {
+            time: time.number(),
+            rtt: rtt.number(),
+        },
+        Kind::Sent => Line::Sent {
+            time: time.number(),
+            inflight: inflight.number(),
+            number: number.number(),
+            bytes: bytes.number(),
+        },
+        Kind::Event => Line::Event(Event {
+            time: time.number(),
+            cwnd: cwnd.number(),
+            inflight: inflight.number(),
+            number: give(number),
+            acked: acked.number(),
+            lost: lost.number(),
+            bw: give(bw),
+            rtt: give(rtt),
+            probing: probing.number() == 1,
+        }),
+    }
 }
 
 // A line without its CR LF.
-fn body(s: &[u8]) -> Line
+fn body(s: &[u8]) -> Result<Line, BadField>
     ensures { result ≡ body_of s.now }
 {
     let end = end_of(s, 0, b',');
     if end == s.len() {
-        return Line::Refused(0);
+        return Err(BadField { field: 0 });
     }
-    let from = end + 1;
-    let cells = cells_from(s, from);
-    let tags = cells.tags;
-    let values = cells.values;
-    if !cells.whole {
-        return Line::Refused(0);
+    let cells = cells(&s[end + 1..]).ok_or(BadField { field: 0 })?;
+    let kind = Kind::named(&s[..end]).ok_or(BadField { field: 1 })?;
+    match fault(&kind.rules(), &cells) {
+        Some(field) => Err(BadField { field }),
+        None => Ok(made(kind, &cells)),
     }
-    let kind = kind(&s[..end]);
-    if kind == 0 {
-        return Line::Refused(1);
-    }
-    let at = fault(&rules(kind), &tags, &values);
-    if at != 0 {
-        return Line::Refused(at);
-    }
-    made(kind, &tags, &values)
 }
 
 // A line with its end.
-pub fn parse(s: &[u8]) -> Line
+pub fn parse(s: &[u8]) -> Result<Line, BadField>
     ensures { result ≡ line_of s.now }
 {
-    let n = s.len();
-    if 4096 < n {
-        return Line::Refused(0);
+    if 4096 < s.len() {
+        return Err(BadField { field: 0 });
     }
-    if n < 2 {
-        return Line::Refused(0);
-    }
-    let end = n - 2;
-    if s[end] != b'\r' {
-        return Line::Refused(0);
-    }
-    if s[end + 1] != b'\n' {
-        return Line::Refused(0);
-    }
-    body(&s[..end])
+    body(s.strip_suffix(b"\r\n").ok_or(BadField { field: 0 })?)
 }

@@ -1,5 +1,5 @@
 -- The lo that a row shows follows the exact run. Assumes nothing.
-use Rattle.std.specs.Prelude.{Option, None}
+use Rattle.std.specs.Prelude.{Option, None, Some, Result, Ok, Err}
 use Rattle.std.specs.Bool.{then_some}
 use Prim.Native.Nat.{ℕ, ◌-◌, ◌^◌, ◌≤◌}
 use mathlib.Core.Bool.{Bool, true, false, cond, true≢false}
@@ -27,7 +27,8 @@ use Rattle.drift.specs.Drift.{inflight_low, Follows, Along, OfEvent, usual_beta,
 use Rattle.drift.proofs.Usual.{usual_inflight_drift, usual_inflight_follows}
 use Rattle.text.specs.declared.line.Event as line
 use Rattle.text.specs.declared.line.Line.{Line}
-use Rattle.text.specs.declared.line.Line.TheVariants.{Refused, Start, Sent, Event}
+use Rattle.text.specs.declared.line.Line.TheVariants.{Start, Sent, Event}
+use Rattle.text.specs.declared.line.BadField.{BadField}
 use Rattle.text.specs.Line.{line_of}
 use Rattle.trace.specs.declared.replay.Replay.{Replay}
 use Rattle.trace.specs.Made.{params, acked_by, record_of, sample_of, occurs_number, record_after, started_model, occurs_next, ends_round}
@@ -93,12 +94,12 @@ chosen_lo : (t : Bool) (n : ℕ) (part : Option ℕ) (ended : Bool) (q r : Repla
 chosen_lo true n part ended q r = answered_lo n part ended q
 chosen_lo false n part ended q r = answered_lo 6 None false r
 
-read_lo : (r : Replay) (l : Line) → let s = read_line r l in shown_lo s.row.state ≡ lo_of s.replay.started s.replay.model
+read_lo : (r : Replay) (l : Result Line BadField) → let s = read_line r l in shown_lo s.row.state ≡ lo_of s.replay.started s.replay.model
 unfolding read_line start_read sent_read event_read answered_by
-read_lo r (Refused k) = answered_lo 6 None false (counted r)
-read_lo r (Start time rtt) = answered_lo _ _ _ _
-read_lo r (Sent time inflight packet bytes) = chosen_lo (counted r).started _ _ _ _ (counted r)
-read_lo r (Event e) = chosen_lo (counted r).started _ _ _ _ (counted r)
+read_lo r (Err b) = answered_lo 6 None false (counted r)
+read_lo r (Ok (Start time rtt)) = answered_lo _ _ _ _
+read_lo r (Ok (Sent time inflight packet bytes)) = chosen_lo (counted r).started _ _ _ _ (counted r)
+read_lo r (Ok (Event e)) = chosen_lo (counted r).started _ _ _ _ (counted r)
 
 step_lo : (r : Replay) (l : List ℕ) → let s = stepped r l in shown_lo s.row.state ≡ lo_of s.replay.started s.replay.model
 unfolding stepped
@@ -130,7 +131,7 @@ module _ (parts : ℕ) where
   unfolding after_start
   from p d t = reached_start inflight_effect parts P p d t
 
-  start_inv : (r : Replay) (x : Exact) (time rtt : ℕ) → Inv r.started r.model x → let q = (start_read r time rtt).replay in Inv q.started q.model (exact_line parts r (Start time rtt) x)
+  start_inv : (r : Replay) (x : Exact) (time rtt : ℕ) → Inv r.started r.model x → let q = (start_read r time rtt).replay in Inv q.started q.model (exact_line parts r (Ok (Start time rtt)) x)
   unfolding start_read answered_by answered exact_line line_step exact_step settled
   start_inv r x time rtt h = go (eqb (start_number params (duration rtt) (moment time)) 0)
     where
@@ -145,7 +146,7 @@ module _ (parts : ℕ) where
       subst (λ (s : State). Reached inflight_effect parts P s (exactly parts (settled (sent_number m t inflight bytes) X.stays X.stays) x)) (sent_after_lem m t inflight packet bytes y)
       (reached_step inflight_effect parts P (makes (C.other (C.sent t inflight packet bytes))) (pair m y) x (λ _. tt) a)
 
-  sent_inv : (r : Replay) (x : Exact) (time inflight packet bytes : ℕ) → Inv r.started r.model x → let q = (sent_read r time inflight packet bytes).replay in Inv q.started q.model (exact_line parts r (Sent time inflight packet bytes) x)
+  sent_inv : (r : Replay) (x : Exact) (time inflight packet bytes : ℕ) → Inv r.started r.model x → let q = (sent_read r time inflight packet bytes).replay in Inv q.started q.model (exact_line parts r (Ok (Sent time inflight packet bytes)) x)
   unfolding sent_read answered_by answered exact_line line_step exact_step number_of other_number inflight_effect
   sent_inv r x time inflight packet bytes h = go r.started refl
     where
@@ -182,7 +183,7 @@ module _ (parts : ℕ) where
       go true q = let z = eqb-true (occurs_number m e) 0 q in finish_step m e y _ z (event_first m x e y small a)
       go false q = subst (λ (k : NetworkModel). At k y (exact_step inflight_effect parts (makes (event_call e)) (pair m y) x)) (settled_false (occurs_number m e) q (started_model m e) (occurs_next m e) m) (event_first m x e y small a)
 
-  event_inv : (r : Replay) (x : Exact) (e : line.Event) → ((event_read r e).row.refusal ≡ 0 → e.cwnd ≤ 2 ^ 24) → Inv r.started r.model x → let q = (event_read r e).replay in Inv q.started q.model (exact_line parts r (Event e) x)
+  event_inv : (r : Replay) (x : Exact) (e : line.Event) → ((event_read r e).row.refusal ≡ 0 → e.cwnd ≤ 2 ^ 24) → Inv r.started r.model x → let q = (event_read r e).replay in Inv q.started q.model (exact_line parts r (Ok (Event e)) x)
   unfolding event_read answered_by answered Read.row_of exact_line line_step exact_step number_of inflight_effect
   event_inv r x e small h = go r.started refl small
     where
@@ -196,16 +197,16 @@ module _ (parts : ℕ) where
       go false f k = h
 
   -- ---- a line, and lines
-  none : (r : Replay) (x : Exact) (k : ℕ) → Inv r.started r.model x → let q = (bad_text (counted r)).replay in Inv q.started q.model (exact_line parts r (Refused k) x)
+  none : (r : Replay) (x : Exact) (b : BadField) → Inv r.started r.model x → let q = (bad_text (counted r)).replay in Inv q.started q.model (exact_line parts r (Err b) x)
   unfolding answered counted exact_line line_step exact_step
-  none r x k h = h
+  none r x b h = h
 
-  read_inv : (r : Replay) (x : Exact) (l : Line) → ((read_line r l).row.refusal ≡ 0 → window_of l ≤ 2 ^ 24) → Inv r.started r.model x → let q = (read_line r l).replay in Inv q.started q.model (exact_line parts r l x)
+  read_inv : (r : Replay) (x : Exact) (l : Result Line BadField) → ((read_line r l).row.refusal ≡ 0 → window_of l ≤ 2 ^ 24) → Inv r.started r.model x → let q = (read_line r l).replay in Inv q.started q.model (exact_line parts r l x)
   unfolding read_line counted exact_line line_step
-  read_inv r x (Refused k) small h = none r x k h
-  read_inv r x (Start time rtt) small h = start_inv (counted r) x time rtt h
-  read_inv r x (Sent time inflight packet bytes) small h = sent_inv (counted r) x time inflight packet bytes h
-  read_inv r x (Event e) small h = event_inv (counted r) x e small h
+  read_inv r x (Err b) small h = none r x b h
+  read_inv r x (Ok (Start time rtt)) small h = start_inv (counted r) x time rtt h
+  read_inv r x (Ok (Sent time inflight packet bytes)) small h = sent_inv (counted r) x time inflight packet bytes h
+  read_inv r x (Ok (Event e)) small h = event_inv (counted r) x e small h
 
   lines_inv : (ls : List (List ℕ)) (r : Replay) (x : Exact) → SmallLines r ls → Inv r.started r.model x → let q = after r ls in Inv q.started q.model (exact_lines parts r ls x)
   unfolding after exact_lines stepped

@@ -2,7 +2,7 @@
 -- value of inflight_lo beside a replay (crates/trace/specs/Replay.antt), by the rules of
 -- crates/drift/specs/Exact.antt on the calls that the lines make. Definitions only; Theorems.antt says how to read
 -- them.
-use Rattle.std.specs.Prelude.{ℕ, ◌^◌, ◌≤◌, cond, List, [], ◌∷◌, ◌++◌, ◌≡◌, length, Option, None, Some}
+use Rattle.std.specs.Prelude.{ℕ, ◌^◌, ◌≤◌, cond, List, [], ◌∷◌, ◌++◌, ◌≡◌, length, Option, None, Some, Result, Ok, Err}
 use Rattle.std.proofs.lemmas.List.Edits.{sets}
 use Rattle.state.specs.declared.network_model.NetworkModel.{NetworkModel}
 use Rattle.state.specs.Answers.{settled, zero_moment}
@@ -12,7 +12,8 @@ use Rattle.drift.specs.Calls as C
 use Rattle.drift.specs.Calls.{State}
 use Rattle.drift.specs.Exact.{Exact, unset, inflight_effect}
 use Rattle.text.specs.declared.line.Line.{Line}
-use Rattle.text.specs.declared.line.Line.TheVariants.{Refused, Start, Sent, Event}
+use Rattle.text.specs.declared.line.Line.TheVariants.{Start, Sent, Event}
+use Rattle.text.specs.declared.line.BadField.{BadField}
 use Rattle.text.specs.Line.{line_of}
 use Rattle.text.specs.Word.{same}
 use Rattle.rows.specs.Digits.{Put}
@@ -72,13 +73,13 @@ pub record TraceDefined : Type 0 where
 
 -- ---- the exact value. The call that a line makes: an accepted start, or a send or an event after one. (An event's
 -- finish does nothing to inflight_lo)
-unfoldable pub line_step : Replay → Line → Step
-line_step r (Refused k) = keeps
-line_step r (Start time rtt) =
+unfoldable pub line_step : Replay → Result Line BadField → Step
+line_step r (Err b) = keeps
+line_step r (Ok (Start time rtt)) =
     settled (start_number params (duration rtt) (moment time)) (begins params (duration rtt) (moment time)) keeps
-line_step r (Sent time inflight number bytes) =
+line_step r (Ok (Sent time inflight number bytes)) =
     cond r.started (makes (C.other (C.sent (moment time) inflight number bytes))) keeps
-line_step r (Event e) =
+line_step r (Ok (Event e)) =
     cond r.started (makes (C.event params (record_of e) (sample_of e) (acked_by e.number))) keeps
 
 -- a model beside a cycle, of which these calls read nothing
@@ -86,7 +87,7 @@ abbrev pub beside : NetworkModel → State
 beside m = record { model = m; cycle = cycle_new zero_moment }
 
 -- the exact value after a line, and after lines, by b = parts / 2^24
-unfoldable pub exact_line : (parts : ℕ) → Replay → Line → Exact → Exact
+unfoldable pub exact_line : (parts : ℕ) → Replay → Result Line BadField → Exact → Exact
 exact_line parts r l x = exact_step inflight_effect parts (line_step r l) (beside r.model) x
 
 unfoldable pub exact_lines : (parts : ℕ) → Replay → List (List ℕ) → Exact → Exact
@@ -94,11 +95,11 @@ exact_lines parts r [] x = x
 exact_lines parts r (l ∷ ls) x = exact_lines parts (stepped r l).replay ls (exact_line parts r (line_of l) x)
 
 -- the window that a line has
-abbrev pub window_of : Line → ℕ
-window_of (Refused k) = 0
-window_of (Start time rtt) = 0
-window_of (Sent time inflight number bytes) = 0
-window_of (Event e) = e.cwnd
+abbrev pub window_of : Result Line BadField → ℕ
+window_of (Err b) = 0
+window_of (Ok (Start time rtt)) = 0
+window_of (Ok (Sent time inflight number bytes)) = 0
+window_of (Ok (Event e)) = e.cwnd
 
 -- every accepted line, so one whose row shows 0 as its refusal, has a window of at most 16,777,216 bytes
 abbrev pub SmallLines : Replay → List (List ℕ) → Type 0

@@ -1,6 +1,6 @@
 -- A number that is written is read back as the same number. Assumes nothing.
 use Prim.Native.Nat.{ℕ, zero, suc, ◌+◌, ◌-◌, ◌*◌, ◌/◌, ◌%◌, ◌^◌, ◌<◌, ◌≤◌}
-use mathlib.Core.Path.{◌≡◌, refl, sym, ◌∙◌, subst}
+use mathlib.Core.Path.{◌≡◌, refl, sym, ap, ◌∙◌, subst}
 use mathlib.Core.Bool.{Bool, true, false, cond}
 use mathlib.Core.List.{List, [], ◌∷◌, ◌++◌}
 use native.Mathlib.Omega.{arith}
@@ -9,7 +9,8 @@ use lib.Dec.{ltb, leb}
 use lib.ListN.{length, get_or}
 use borrow.Author.Tests.{ltb-true, ltb-false, leb-true, leb-false, le-leb, lt-ltb, ne_eqb}
 use Rattle.state.proofs.Rows.{and_left, and_right, and_both}
-use Rattle.text.specs.Number.{is_digit, digits_only, value_from, leads, plain, tag_of, number_of}
+use Rattle.text.specs.Number.{is_digit, digits_only, value_from, leads, plain, cell_of}
+use Rattle.text.specs.declared.number.Cell.TheVariants.{Number}
 use Rattle.text.proofs.Numbers.{leads_one, leads_other}
 use Rattle.rows.specs.Digits.{places_from, places_of, digits_of, decimal}
 use Rattle.rows.proofs.Decimals.{ten_more, places_range, length_digits, length_decimal}
@@ -120,9 +121,9 @@ written_plain n h =
     let v : ltb (value_from 0 (decimal n)) (2 ^ 64) ≡ true = lt-ltb (value_from 0 (decimal n)) (2 ^ 64) (subst (λ (m : ℕ). m < 2 ^ 64) (sym (reads_back n h)) h) in
     simp (decimal_leads n h, d, v)
 
-pub written : (n : ℕ) → n < 2 ^ 64 → (tag_of (decimal n) ≡ 1) × (number_of (decimal n) ≡ n)
-unfolding tag_of number_of
+pub written : (n : ℕ) → n < 2 ^ 64 → cell_of (decimal n) ≡ Number n
+unfolding cell_of
 written n h =
     let p = written_plain n h in
     let some : (length (decimal n) ≡ 0 → ⊥) = λ z. absurd (omega (arith, z, length_decimal n, decimal_some n)) in
-    (simp (ne_eqb (length (decimal n)) 0 some, p), simp p (reads_back n h))
+    simp (ne_eqb (length (decimal n)) 0 some, p) (ap Number (reads_back n h))

@@ -1,8 +1,9 @@
 -- A line by its kind: what the code has, over plain variables, and its definition. Assumes nothing.
+use Rattle.std.specs.Prelude.{Result, Ok, Err}
 use Prim.Native.Nat.{ℕ}
 use mathlib.Core.Bool.{Bool, true, false, cond}
 use mathlib.Core.List.{List}
-use mathlib.Core.Path.{◌≡◌, refl, sym, ap, ◌∙◌}
+use mathlib.Core.Path.{◌≡◌, refl, ap, ◌∙◌}
 use native.Mathlib.Omega.{arith}
 use lib.Dec.{eqb}
 use Rattle.units.specs.declared.reply.Reply.{Reply}
@@ -15,7 +16,8 @@ use Rattle.state.specs.Faults.{first, named, start_faults, sent_faults, started_
 use Rattle.changes.specs.Changes.{sent_number, sent_next}
 use Rattle.text.specs.declared.line.Event as line
 use Rattle.text.specs.declared.line.Line.{Line}
-use Rattle.text.specs.declared.line.Line.TheVariants.{Refused, Start, Sent, Event}
+use Rattle.text.specs.declared.line.Line.TheVariants.{Start, Sent, Event}
+use Rattle.text.specs.declared.line.BadField.{BadField}
 use Rattle.trace.specs.Made.{params, moment, duration, record_of, sample_of, occurs_number, occurs_next, ends_round}
 use Rattle.trace.specs.Placed.{early, placed_at}
 use Rattle.trace.specs.Replay.{part_of, answered, answered_by, bad_text, counted, with_model, begun_with, start_read, sent_read, event_read, read_line}
@@ -97,58 +99,40 @@ event_is r e reply m ended x h ne me de fe xe =
     ∙ cond_true r.started _ (bad_text r) h
 
 -- ---- a line where it stands: as it is, or refused
-pub placed_start : (t : Bool) (l : Line) (time rtt : ℕ) → placed_at t l ≡ Start time rtt → l ≡ Start time rtt
+pub placed_start : (t : Bool) (l : Result Line BadField) (time rtt : ℕ) → placed_at t l ≡ Ok (Start time rtt) → l ≡ Ok (Start time rtt)
 unfolding placed_at early
 placed_start true l time rtt h = h
-placed_start false (Refused k) time rtt h = absurd (let z : ◌≡◌ {A = ℕ} 0 1 = cc in omega arith)
-placed_start false (Start t r) time rtt h = h
-placed_start false (Sent t i n b) time rtt h = absurd (let z : ◌≡◌ {A = ℕ} 0 1 = cc in omega arith)
-placed_start false (Event e) time rtt h = absurd (let z : ◌≡◌ {A = ℕ} 0 1 = cc in omega arith)
+placed_start false (Err b) time rtt h = absurd (let z : ◌≡◌ {A = ℕ} 0 1 = cc in omega arith)
+placed_start false (Ok (Start t r)) time rtt h = h
+placed_start false (Ok (Sent t i n b)) time rtt h = absurd (let z : ◌≡◌ {A = ℕ} 0 1 = cc in omega arith)
+placed_start false (Ok (Event e)) time rtt h = absurd (let z : ◌≡◌ {A = ℕ} 0 1 = cc in omega arith)
 
-pub placed_sent : (t : Bool) (l : Line) (time inflight packet bytes : ℕ) → placed_at t l ≡ Sent time inflight packet bytes → (t ≡ true) × (l ≡ Sent time inflight packet bytes)
+pub placed_sent : (t : Bool) (l : Result Line BadField) (time inflight packet bytes : ℕ) → placed_at t l ≡ Ok (Sent time inflight packet bytes) → (t ≡ true) × (l ≡ Ok (Sent time inflight packet bytes))
 unfolding placed_at early
 placed_sent true l time inflight packet bytes h = (refl, h)
-placed_sent false (Refused k) time inflight packet bytes h = absurd (let z : ◌≡◌ {A = ℕ} 0 1 = cc in omega arith)
-placed_sent false (Start t r) time inflight packet bytes h = absurd (let z : ◌≡◌ {A = ℕ} 0 1 = cc in omega arith)
-placed_sent false (Sent t i n b) time inflight packet bytes h = absurd (let z : ◌≡◌ {A = ℕ} 0 1 = cc in omega arith)
-placed_sent false (Event e) time inflight packet bytes h = absurd (let z : ◌≡◌ {A = ℕ} 0 1 = cc in omega arith)
+placed_sent false (Err b) time inflight packet bytes h = absurd (let z : ◌≡◌ {A = ℕ} 0 1 = cc in omega arith)
+placed_sent false (Ok (Start t r)) time inflight packet bytes h = absurd (let z : ◌≡◌ {A = ℕ} 0 1 = cc in omega arith)
+placed_sent false (Ok (Sent t i n b)) time inflight packet bytes h = absurd (let z : ◌≡◌ {A = ℕ} 0 1 = cc in omega arith)
+placed_sent false (Ok (Event e)) time inflight packet bytes h = absurd (let z : ◌≡◌ {A = ℕ} 0 1 = cc in omega arith)
 
-pub placed_event : (t : Bool) (l : Line) (v : line.Event) → placed_at t l ≡ Event v → (t ≡ true) × (l ≡ Event v)
+pub placed_event : (t : Bool) (l : Result Line BadField) (v : line.Event) → placed_at t l ≡ Ok (Event v) → (t ≡ true) × (l ≡ Ok (Event v))
 unfolding placed_at early
 placed_event true l v h = (refl, h)
-placed_event false (Refused k) v h = absurd (let z : ◌≡◌ {A = ℕ} 0 1 = cc in omega arith)
-placed_event false (Start t r) v h = absurd (let z : ◌≡◌ {A = ℕ} 0 1 = cc in omega arith)
-placed_event false (Sent t i n b) v h = absurd (let z : ◌≡◌ {A = ℕ} 0 1 = cc in omega arith)
-placed_event false (Event e) v h = absurd (let z : ◌≡◌ {A = ℕ} 0 1 = cc in omega arith)
+placed_event false (Err b) v h = absurd (let z : ◌≡◌ {A = ℕ} 0 1 = cc in omega arith)
+placed_event false (Ok (Start t r)) v h = absurd (let z : ◌≡◌ {A = ℕ} 0 1 = cc in omega arith)
+placed_event false (Ok (Sent t i n b)) v h = absurd (let z : ◌≡◌ {A = ℕ} 0 1 = cc in omega arith)
+placed_event false (Ok (Event e)) v h = absurd (let z : ◌≡◌ {A = ℕ} 0 1 = cc in omega arith)
 
 -- where it is refused, it is answered so
-pub placed_bad : (r : Replay) (l : Line) (t : Bool) (k : ℕ) → r.started ≡ t → placed_at t l ≡ Refused k → bad_text (counted r) ≡ read_line r l
+pub placed_bad : (r : Replay) (l : Result Line BadField) (t : Bool) (b : BadField) → r.started ≡ t → placed_at t l ≡ Err b → bad_text (counted r) ≡ read_line r l
 unfolding placed_at early read_line counted
-placed_bad r (Refused j) t k h e = refl
-placed_bad r (Start time rtt) true k h e = absurd (let z : ◌≡◌ {A = ℕ} 0 1 = cc in omega arith)
-placed_bad r (Start time rtt) false k h e = absurd (let z : ◌≡◌ {A = ℕ} 0 1 = cc in omega arith)
-placed_bad r (Sent time inflight packet bytes) true k h e = absurd (let z : ◌≡◌ {A = ℕ} 0 1 = cc in omega arith)
-placed_bad r (Sent time inflight packet bytes) false k h e = sent_early (counted r) time inflight packet bytes (bad_text (counted r)) h refl
-placed_bad r (Event v) true k h e = absurd (let z : ◌≡◌ {A = ℕ} 0 1 = cc in omega arith)
-placed_bad r (Event v) false k h e = event_early (counted r) v (bad_text (counted r)) h refl
-
--- ---- a line, as it is read, once it is counted
-module _ (r next : Replay) (ne : next ≡ counted r) (x : Stepped) where
-  pub read_refused : (l : Line) (k : ℕ) → x ≡ bad_text next → l ≡ Refused k → x ≡ read_line r l
-  unfolding read_line
-  read_refused l k e h = e ∙ ap bad_text ne ∙ ap (read_line r) (sym h)
-
-  pub read_start : (l : Line) (time rtt : ℕ) → x ≡ start_read next time rtt → l ≡ Start time rtt → x ≡ read_line r l
-  unfolding read_line
-  read_start l time rtt e h = e ∙ ap (λ (q : Replay). start_read q time rtt) ne ∙ ap (read_line r) (sym h)
-
-  pub read_sent : (l : Line) (time inflight packet bytes : ℕ) → x ≡ sent_read next time inflight packet bytes → l ≡ Sent time inflight packet bytes → x ≡ read_line r l
-  unfolding read_line
-  read_sent l time inflight packet bytes e h = e ∙ ap (λ (q : Replay). sent_read q time inflight packet bytes) ne ∙ ap (read_line r) (sym h)
-
-  pub read_event : (l : Line) (v : line.Event) → x ≡ event_read next v → l ≡ Event v → x ≡ read_line r l
-  unfolding read_line
-  read_event l v e h = e ∙ ap (λ (q : Replay). event_read q v) ne ∙ ap (read_line r) (sym h)
+placed_bad r (Err j) t b h e = refl
+placed_bad r (Ok (Start time rtt)) true b h e = absurd (let z : ◌≡◌ {A = ℕ} 0 1 = cc in omega arith)
+placed_bad r (Ok (Start time rtt)) false b h e = absurd (let z : ◌≡◌ {A = ℕ} 0 1 = cc in omega arith)
+placed_bad r (Ok (Sent time inflight packet bytes)) true b h e = absurd (let z : ◌≡◌ {A = ℕ} 0 1 = cc in omega arith)
+placed_bad r (Ok (Sent time inflight packet bytes)) false b h e = sent_early (counted r) time inflight packet bytes (bad_text (counted r)) h refl
+placed_bad r (Ok (Event v)) true b h e = absurd (let z : ◌≡◌ {A = ℕ} 0 1 = cc in omega arith)
+placed_bad r (Ok (Event v)) false b h e = event_early (counted r) v (bad_text (counted r)) h refl
 
 -- the next is started where the one before it is
 pub counted_started : (r next : Replay) → next ≡ counted r → r.started ≡ true → next.started ≡ true

@@ -1,4 +1,5 @@
 -- The rows of a text, however it is cut into pieces, and what is held between two pieces. Assumes nothing.
+use Rattle.std.specs.Prelude.{Result}
 use Prim.Native.Nat.{ℕ, ◌<◌}
 use mathlib.Core.Path.{◌≡◌, refl, sym, ap, ◌∙◌}
 use mathlib.Core.Bool.{Bool, true, false, cond}
@@ -7,6 +8,7 @@ use native.Mathlib.Omega.{arith}
 use lib.Dec.{eqb}
 use lib.ListN.{length, take, drop, take-append-drop}
 use Rattle.text.specs.declared.line.Line.{Line}
+use Rattle.text.specs.declared.line.BadField.{BadField}
 use Rattle.text.specs.Line.{line_of}
 use Rattle.text.proofs.Lines.{line_long}
 use Rattle.rows.specs.Row.{row_text}
@@ -19,11 +21,11 @@ use Rattle.trace.specs.Pieces.{joined}
 use Rattle.trace.proofs.Pieces.{Alike, alike, longs, lines_in, rest_in, lines_append, rest_append, any_pieces, rest_pieces}
 
 -- rows and states by the lines as they are read
-rows_by : Replay → List Line → List ℕ
+rows_by : Replay → List (Result Line BadField) → List ℕ
 rows_by r [] = []
 rows_by r (l ∷ ls) = row_text (read_line r l).row ++ rows_by (read_line r l).replay ls
 
-after_by : Replay → List Line → Replay
+after_by : Replay → List (Result Line BadField) → Replay
 after_by r [] = r
 after_by r (l ∷ ls) = after_by (read_line r l).replay ls
 
@@ -45,7 +47,7 @@ unfolding stepped
 step_same r l m h g = ap (read_line r) (long_same l m h g)
 
 same_lines : (cs : List (List ℕ)) → map line_of (lines_in [] cs) ≡ map line_of (lines_from [] (joined cs))
-same_lines cs = any_pieces Line line_of long_same [] [] cs alike
+same_lines cs = any_pieces (Result Line BadField) line_of long_same [] [] cs alike
 
 -- any cutting of the input into pieces gives the same rows, and the same state
 pub any_cut_rows : (r : Replay) (cs : List (List ℕ)) → rows_of r (lines_in [] cs) ≡ rows_of r (lines_from [] (joined cs))

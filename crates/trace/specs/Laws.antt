@@ -3,7 +3,8 @@ use Rattle.std.specs.Prelude.{ℕ, ◌^◌, ◌≤◌, ◌<◌, List, [], ◌++�
 use Rattle.state.specs.declared.network_model.NetworkModel.{NetworkModel}
 use Rattle.events.specs.Event.{finish_number}
 use Rattle.text.specs.declared.line.Event.{Event}
-use Rattle.text.specs.Number.{tag_of, number_of}
+use Rattle.text.specs.declared.number.Cell.TheVariants.{Number}
+use Rattle.text.specs.Number.{cell_of}
 use Rattle.rows.specs.Digits.{decimal}
 use Rattle.rows.specs.declared.row.Row.{Row}
 use Rattle.rows.specs.Row.{row_text}
@@ -33,4 +34,4 @@ pub record TraceLaws : Type 0 where
   -- No row is longer than 148 bytes
   pub row : (r : Row) → length (row_text r) ≤ 148
   -- A number that is written is a number of a trace, and the same one
-  pub written : (n : ℕ) → n < 2 ^ 64 → (tag_of (decimal n) ≡ 1) × (number_of (decimal n) ≡ n)
+  pub written : (n : ℕ) → n < 2 ^ 64 → cell_of (decimal n) ≡ Number n

@@ -1,6 +1,6 @@
 -- A replay: document 02, request j. "Each line shows the state after it, a refused line the unchanged one; the replay
 -- goes on. Before an accepted start, the state columns are empty. A second start begins afresh."
-use Rattle.std.specs.Prelude.{ℕ, ◌-◌, ◌^◌, Bool, true, false, cond, List, eqb, Option, None, Some}
+use Rattle.std.specs.Prelude.{ℕ, ◌-◌, ◌^◌, Bool, true, false, cond, List, eqb, Option, None, Some, Result, Ok, Err}
 use Rattle.std.specs.Bool.{then_some}
 use Rattle.units.specs.Reply.{kind_in}
 use Rattle.filters.specs.MaxBandwidthFilter.{max_get}
@@ -11,7 +11,8 @@ use Rattle.state.specs.Faults.{first, replied, start_faults, sent_faults, starte
 use Rattle.changes.specs.Changes.{sent_number, sent_next}
 use Rattle.text.specs.declared.line.Event as line
 use Rattle.text.specs.declared.line.Line.{Line}
-use Rattle.text.specs.declared.line.Line.TheVariants.{Refused, Start, Sent, Event}
+use Rattle.text.specs.declared.line.Line.TheVariants.{Start, Sent, Event}
+use Rattle.text.specs.declared.line.BadField.{BadField}
 use Rattle.text.specs.Line.{line_of}
 use Rattle.rows.specs.declared.row.Row.{Row}
 use Rattle.rows.specs.declared.row.State.{State}
@@ -104,11 +105,11 @@ event_read r e =
     (bad_text r)
 
 -- ---- a line, as it is read, on the state before it: the state after it, and its row
-unfoldable pub read_line : Replay → Line → Stepped
-read_line r (Refused k) = bad_text (counted r)
-read_line r (Start time rtt) = start_read (counted r) time rtt
-read_line r (Sent time inflight number bytes) = sent_read (counted r) time inflight number bytes
-read_line r (Event e) = event_read (counted r) e
+unfoldable pub read_line : Replay → Result Line BadField → Stepped
+read_line r (Err b) = bad_text (counted r)
+read_line r (Ok (Start time rtt)) = start_read (counted r) time rtt
+read_line r (Ok (Sent time inflight number bytes)) = sent_read (counted r) time inflight number bytes
+read_line r (Ok (Event e)) = event_read (counted r) e
 
 -- the same by its bytes
 unfoldable pub stepped : Replay → List ℕ → Stepped

@@ -4,7 +4,7 @@ ghost use Rattle.units.specs.Reply.{number, fault};
 ghost use Rattle.state.specs.Answers.{settled};
 ghost use Rattle.state.specs.Faults.{first, named, started_faults, whole_record, whole_sample};
 ghost use Rattle.events.specs.Event.{event_number, event_next, model_next};
-ghost use Rattle.trace.specs.Made.{params, begins, rate_of, length_of, acked_by, no_state, record_of, sample_of, occurs_number, occurs_next, ends_round};
+ghost use Rattle.trace.specs.Made.{params, begins, acked_by, no_state, record_of, sample_of, occurs_number, occurs_next, ends_round};
 
 use events::event::Started;
 use events::{on_congestion_event_finish, on_congestion_event_start};
@@ -42,24 +42,6 @@ pub fn is_begun(time: u64, rtt: u64) -> bool
     reply.is_done()
 }
 
-fn rate_of(number: Option<u64>) -> Option<Bandwidth>
-    ensures { result ≡ rate_of number }
-{
-    match number {
-        None => None,
-        Some(n) => Some(Bandwidth(n)),
-    }
-}
-
-fn length_of(number: Option<u64>) -> Option<Duration>
-    ensures { result ≡ length_of number }
-{
-    match number {
-        None => None,
-        Some(n) => Some(Duration(n)),
-    }
-}
-
 fn no_state() -> SendTimeState
     ensures { result ≡ no_state }
 {
@@ -72,6 +54,7 @@ fn no_state() -> SendTimeState
 }
 
 // The event's record before the call.
+#[tactic(auto, unfolding(crate::specs::Made::record_of))]
 fn record_of(e: Event) -> CongestionEvent
     ensures { result ≡ record_of e }
 {
@@ -92,20 +75,17 @@ fn record_of(e: Event) -> CongestionEvent
 }
 
 // What the sampler would say.
+#[tactic(auto, unfolding(crate::specs::Made::sample_of))]
 fn sample_of(e: Event) -> CongestionEventSample
     ensures { result ≡ sample_of e }
 {
-    let bw = e.bw;
-    let rtt = e.rtt;
-    let bandwidth = rate_of(bw);
-    let length = length_of(rtt);
     let state = no_state();
     CongestionEventSample {
-        bandwidth,
+        bandwidth: e.bw.map(Bandwidth),
         send: None,
         ack: None,
         applimited: false,
-        rtt: length,
+        rtt: e.rtt.map(Duration),
         inflight: 0,
         extra: 0,
         state,

@@ -9,7 +9,7 @@ use changes::on_packet_sent;
 use rows::row::{Row, State};
 use state::NetworkModel;
 use state::bounds::UNSET;
-use text::line::{Event, Line, parse};
+use text::line::{BadField, Event, Line, parse};
 use units::{Duration, Moment, Reply};
 
 // How many lines were answered, whether a start was accepted, the model, and what a summary counts.
@@ -29,6 +29,7 @@ pub struct Stepped {
 }
 
 // A bound as it is shown.
+#[tactic(auto, unfolding(crate::specs::Replay::bound))]
 fn bound_of(n: u64) -> Option<u64>
     ensures { result ≡ bound n }
 {
@@ -39,6 +40,7 @@ fn bound_of(n: u64) -> Option<u64>
 }
 
 // What a row shows of a model.
+#[tactic(auto, unfolding(crate::specs::Replay::state_of))]
 fn state_of(model: NetworkModel) -> State
     ensures { result ≡ state_of model }
 {
@@ -78,16 +80,18 @@ impl Replay {
     }
 
     // The next line is counted.
+    #[tactic(auto, unfolding(crate::specs::Replay::counted))]
     fn count(self) -> Replay
         ensures { result ≡ counted self }
     {
-        let line = self.line.saturating_add(1);
-        let mut next = self;
-        next.line = line;
-        next
+        Replay {
+            line: self.line.saturating_add(1),
+            ..self
+        }
     }
 
     // A line's row, and the tally with it.
+    #[tactic(auto, unfolding(crate::specs::Replay::answered, crate::specs::Replay::row_of))]
     fn answer(self, reply: Reply, ended: bool) -> Stepped
         ensures { result ≡ answered (number reply) (part_of (kind_in (reply_word (number reply) (fault reply)))) ended self }
     {
@@ -97,8 +101,8 @@ impl Replay {
             part: part_of(reply.word()),
             state: self.started.then_some(state_of(self.model)),
         };
-        let mut replay = self;
-        replay.tally = self.tally.count(ended, self.model.lower.inflight, row);
+        let tally = self.tally.count(ended, self.model.lower.inflight, row);
+        let replay = Replay { tally, ..self };
         Stepped { replay, row }
     }
 
@@ -106,12 +110,15 @@ impl Replay {
     fn begun(self, done: bool, fresh: NetworkModel) -> Replay
         ensures { result ≡ cond done (begun_with self fresh) self }
     {
-        let mut next = self;
         if done {
-            next.started = true;
-            next.model = fresh;
+            Replay {
+                started: true,
+                model: fresh,
+                ..self
+            }
+        } else {
+            self
         }
-        next
     }
 
     fn start(self, time: u64, rtt: u64) -> Stepped
@@ -135,8 +142,10 @@ impl Replay {
         let sent = on_packet_sent(model, Moment(time), inflight, packet, bytes);
         let reply = sent.reply;
         let after = sent.model;
-        let mut next = self;
-        next.model = after;
+        let next = Replay {
+            model: after,
+            ..self
+        };
         next.answer(reply, false)
     }
 
@@ -151,30 +160,36 @@ impl Replay {
         let occurred = occur(model, e);
         let reply = occurred.reply;
         let after = occurred.model;
-        let mut next = self;
-        next.model = after;
+        let next = Replay {
+            model: after,
+            ..self
+        };
         next.answer(reply, occurred.ended)
     }
 
     // A line, as it is read.
-    fn read(self, l: Line) -> Stepped
+    #[tactic(auto, unfolding(crate::specs::Replay::read_line))]
+    fn read(self, l: Result<Line, BadField>) -> Stepped
         ensures { result ≡ read_line self l }
     {
         let next = self.count();
         match l {
-            Line::Refused(_) => next.answer(Reply::BadText, false),
-            Line::Start { time, rtt } => next.start(time, rtt),
-            Line::Sent {
-                time,
-                inflight,
-                number,
-                bytes,
-            } => next.sent(time, inflight, number, bytes),
-            Line::Event(e) => next.event(e),
+            Err(_) => next.answer(Reply::BadText, false),
+            Ok(Line::Start { time, rtt }) => next.start(time, rtt),
+            Ok(
+                Line::Sent {
+                    time,
+                    inflight,
+                    number,
+                    bytes,
+                },
+            ) => next.sent(time, inflight, number, bytes),
+            Ok(Line::Event(e)) => next.event(e),
         }
     }
 
     // A line, by its bytes.
+    #[tactic(auto, unfolding(crate::specs::Replay::stepped))]
     pub fn step(self, s: &[u8]) -> Stepped
         ensures { result ≡ stepped self s.now }
     {

@@ -1,24 +1,22 @@
 -- `parse` meets its contract.
-use Rattle.text.proofs.Lines.{line_long, line_short, line_no_cr, line_no_lf, line_sound}
-use lib.Seq.{length-take-le}
-use mathlib.Core.Path.{◌∙◌, sym}
-use native.Mathlib.Omega.{arith}
+use Rattle.std.proofs.Common.{rules, Some, None}
+use Rattle.std.specs.Result.{result_ok}
+use mathlib.Core.Path.{◌≡◌, ◌∙◌, sym, ap}
+use Rattle.text.specs.Line.{refused, body_of}
+use Rattle.text.proofs.Lines.{ended_is, line_long, line_unended, line_sound}
 use Rattle.text.proofs.line.parse.Goals as goal
 
-pub returns-then-n-gt4096 : goal.returns-then-n-gt4096
-returns-then-n-gt4096 c = line_long c.args.s.now c.if-n-gt4096.true
+pub returns-then-s-gt4096 : goal.returns-then-s-gt4096
+returns-then-s-gt4096 c = line_long c.args.s.now c.if-s-gt4096.true
 
-pub returns-then-n-lt2 : goal.returns-then-n-lt2
-returns-then-n-lt2 c = line_short c.args.s.now c.if-n-lt2.true
-
-pub returns-then-s-end-ne13 : goal.returns-then-s-end-ne13
-returns-then-s-end-ne13 c = line_no_cr c.args.s.now c.if-s-end-ne13.true
-
-pub returns-then-s-end-ne10 : goal.returns-then-s-end-ne10
-returns-then-s-end-ne10 c = line_no_lf c.args.s.now c.if-s-end-ne10.true
-
-pub slice_bounds-body-end : goal.slice_bounds-body-end
-slice_bounds-body-end c = sym (length-take-le _ c.args.s.now (omega arith))
+pub returns-in_err-ok_or : goal.returns-in_err-ok_or
+returns-in_err-ok_or c =
+    let r : c.from_residual.result ≡ refused 0 = search rules in
+    let n : c.strip_suffix.result ≡ None = c.ok_or.ensures.ok_part ∙ ap result_ok c.in_err-ok_or.was in
+    r ∙ line_unended c.args.s.now (sym (ended_is c.args.s.now) ∙ (rw n at c.strip_suffix.ensures.cases))
 
 pub returns : goal.returns
-returns c = c.body.ensures ∙ line_sound c.args.s.now c.if-n-gt4096.false c.if-n-lt2.false c.if-s-end-ne13.false c.if-s-end-ne10.false
+returns c =
+    let n : c.strip_suffix.result ≡ Some c.in_ok-ok_or.field-0 = c.ok_or.ensures.ok_part ∙ ap result_ok c.in_ok-ok_or.was in
+    let h = rw n at c.strip_suffix.ensures.cases in
+    c.body.ensures ∙ ap body_of h.1 ∙ line_sound c.args.s.now c.if-s-gt4096.false (sym (ended_is c.args.s.now) ∙ h.0)
