@@ -50,7 +50,10 @@ fn number(asked: Asked, n: &[u64; 16]) -> bool {
         Asked::ToU64 => numbers::to_u64(f32_from_bits_with_nan(low_bits(n[0]))) == n[1],
         Asked::RoundToU64 => numbers::round_to_u64(f64_from_bits_with_nan(n[0])) == n[1],
         Asked::Scale => numbers::scale(n[0], f32_from_bits_with_nan(low_bits(n[1]))) == n[2],
-        Asked::BandwidthMul => Bandwidth(n[0]).mul_f32(f32_from_bits_with_nan(low_bits(n[1]))).0 == n[2],
+        Asked::BandwidthMul => Bandwidth(n[0])
+            .mul_f32(f32_from_bits_with_nan(low_bits(n[1])))
+            .0
+            == n[2],
         Asked::BandwidthPeriod => Bandwidth(n[0]).to_bytes_per_period(Duration(n[1])) == n[2],
         Asked::BandwidthOrder => order(Bandwidth(n[0]), Bandwidth(n[1]), n),
         _ => false,
@@ -63,7 +66,7 @@ fn low_bits(n: u64) -> u32 {
 }
 
 fn order(a: Bandwidth, b: Bandwidth, n: &[u64; 16]) -> bool {
-    (a.lt(b) == (n[2] == 1)) & (a.max(b).0 == n[3]) & (a.min(b).0 == n[4])
+    ((a < b) == (n[2] == 1)) & (a.max(b).0 == n[3]) & (a.min(b).0 == n[4])
 }
 
 fn windowed(filter: WindowedFilter, n: &[u64; 16]) -> Compared {
@@ -82,13 +85,13 @@ fn windowed(filter: WindowedFilter, n: &[u64; 16]) -> Compared {
 
 // An update, with its reason. No line expects a refusal.
 fn updated(filter: WindowedFilter, n: &[u64; 16]) -> Compared {
-    let answer = filter.update(n[1], n[2]);
-    let reply = answer.reply;
-    let next = answer.filter;
-    let reason = answer.reason;
+    let mut next = filter;
+    let named = next
+        .update(n[1], n[2])
+        .is_ok_and(|reason| reason.number() == n[10]);
     Compared {
         asked: Asked::Windowed(next),
-        same: reply.is_done() & (reason.number() == n[10]) & holds(next, n),
+        same: named & holds(next, n),
     }
 }
 
@@ -101,10 +104,7 @@ fn holds(filter: WindowedFilter, n: &[u64; 16]) -> bool {
 }
 
 fn is_sample(answer: Option<u64>, full: u64, sample: u64) -> bool {
-    match answer {
-        None => (full == 0) & (sample == 0),
-        Some(held) => (full == 1) & (held == sample),
-    }
+    (full == u64::from(answer.is_some())) & (sample == answer.unwrap_or(0))
 }
 
 fn has_times(filter: WindowedFilter, n: &[u64; 16]) -> bool {
@@ -160,19 +160,14 @@ fn rounds(counter: RoundTripCounter, n: &[u64; 16]) -> Compared {
 fn acked(counter: RoundTripCounter, n: &[u64; 16]) -> Compared {
     let packets = [n[2], n[3], n[4]];
     let few = (n[1] % 4) as usize;
-    let answer = counter.on_packets_acked(&packets[..few]);
-    let next = answer.counter;
+    let mut next = counter;
+    let ended = next.on_packets_acked(&packets[..few]).unwrap_or(false);
     Compared {
         asked: Asked::Rounds(next),
-        same: (answer.ended == (n[5] == 1)) & stands(next, n),
+        same: (ended == (n[5] == 1)) & stands(next, n),
     }
 }
 
 fn stands(counter: RoundTripCounter, n: &[u64; 16]) -> bool {
-    let end = counter.end;
-    let set = match end {
-        None => (n[8] == 0) & (n[9] == 0),
-        Some(packet) => (n[8] == 1) & (packet == n[9]),
-    };
-    (counter.count == n[6]) & (counter.sent == n[7]) & set
+    (counter.count == n[6]) & (counter.sent == n[7]) & is_sample(counter.end, n[8], n[9])
 }

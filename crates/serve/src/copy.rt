@@ -5,7 +5,5 @@ ghost use Rattle.std.specs.Prelude.{◌+◌, ◌≤◌, length};
 pub fn copy(from: &[u8], to: &mut [u8], at: usize)
     requires { at + length from.now ≤ length to.old }
 {
-    for i in 0..from.len() {
-        to[at + i] = from[i];
-    }
+    to[at..at + from.len()].copy_from_slice(from);
 }

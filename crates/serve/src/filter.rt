@@ -2,7 +2,7 @@
 ghost use Rattle.std.specs.Prelude.{◌≡◌, length};
 
 use filters::WindowedFilter;
-use filters::windowed_filter::{Estimates, Sample, Updated};
+use filters::windowed_filter::{Estimates, Reason, Sample};
 use words::{get_words, put_words};
 
 // Words 1 to 3 of the call are the operation and its two numbers, 4 to 11 the filter. The answer is the reply, the reason
@@ -17,24 +17,20 @@ pub fn answer(call: &[u8], out: &mut [u8])
 
 fn operated(filter: WindowedFilter, op: u64, x: u64, y: u64) -> [u64; 18] {
     match op {
-        0 => done(WindowedFilter::new(x)),
-        1 => done(filter.reset(x, y)),
-        2 => updated(filter.update(x, y)),
-        _ => done(filter.clear()),
+        0 => answer_words(0, 0, WindowedFilter::new(x)),
+        1 => answer_words(0, 0, filter.reset(x, y)),
+        2 => updated(filter, x, y),
+        _ => answer_words(0, 0, filter.clear()),
     }
 }
 
-// The words of a filter that an operation without a reason leaves.
-fn done(filter: WindowedFilter) -> [u64; 18] {
-    answer_words(0, 0, filter)
-}
-
-// The words of an update.
-fn updated(updated: Updated) -> [u64; 18] {
-    let reply = updated.reply;
-    let reason = updated.reason;
-    let filter = updated.filter;
-    answer_words(reply.row(), reason.number(), filter)
+// The words of an update. A refused one leaves the filter unchanged, and says so.
+fn updated(filter: WindowedFilter, sample: u64, time: u64) -> [u64; 18] {
+    let mut next = filter;
+    match next.update(sample, time) {
+        Ok(reason) => answer_words(0, reason.number(), next),
+        Err(refusal) => answer_words(refusal.row(), Reason::Unchanged.number(), next),
+    }
 }
 
 fn filter_of(n: &[u64; 12]) -> WindowedFilter {
