@@ -16,7 +16,7 @@ use Rattle.words.specs.Word.{word}
 use Rattle.places.specs.Places.{entry_faults, number_faults, other_faults, faults_of}
 use Rattle.places.proofs.Complete.{event_asked, started_asked, gain_asked, bdp_asked, down_asked}
 use Rattle.units.specs.Reply.{row_in, fault_in}
-use Rattle.units.proofs.reply.Number.{row_back, fault_back}
+use Rattle.units.proofs.refusal.Number.{row_back, fault_back}
 use Rattle.state.specs.declared.refusals.Rows.{Rows}
 use Rattle.dispatch.specs.OneCall.{call_word}
 use Rattle.dispatch.proofs.OneCall.{plain_word}

@@ -9,7 +9,7 @@ use lib.Dec.{eqb}
 use lib.ListN.{length}
 use borrow.Author.Tests.{eq-eqb, ne_eqb, eqb-true}
 use Rattle.units.specs.Reply.{row_in}
-use Rattle.units.proofs.reply.Number.{row_back}
+use Rattle.units.proofs.refusal.Number.{row_back}
 use Rattle.state.specs.Faults.{named, replied}
 use Rattle.state.specs.Refusals.{row_of, or_short}
 use Rattle.state.proofs.Rows.{and_left, and_right}

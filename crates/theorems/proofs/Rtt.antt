@@ -10,7 +10,7 @@ use lib.Seq.{sets}
 use borrow.Author.Tests.{eq-eqb, ne_eqb, eqb-true}
 use Rattle.units.specs.Reply.{row_in}
 use Rattle.units.specs.declared.time.Duration.{Duration}
-use Rattle.units.proofs.reply.Number.{row_back}
+use Rattle.units.proofs.refusal.Number.{row_back}
 use Rattle.state.specs.Answers.{settled}
 use Rattle.words.specs.Word.{flag_word, flag_of, flag_fits}
 use Rattle.words.specs.Words.{word_at, words_at, all_bytes}
