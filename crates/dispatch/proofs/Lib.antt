@@ -2,7 +2,6 @@
 pub mod Alike
 pub mod Examples
 pub mod OneCall
-pub mod Parts
 pub mod ReadBack
 pub mod RoundTrip
 pub mod Determined

@@ -13,17 +13,21 @@ use Rattle.state.specs.Answers.{settled}
 use Rattle.state.specs.declared.congestion_event.CongestionEvent.{CongestionEvent}
 use Rattle.state.specs.declared.cycle.Cycle.{Cycle}
 use Rattle.arguments.specs.CongestionEvent.{event_words}
-use Rattle.dispatch.specs.Outcome.{Outcome}
-use Rattle.dispatch.specs.Outcome.{is_judged, is_asked, start_outcome, judge_outcome, ask_outcome, enter_outcome, change_outcome}
+use Rattle.std.specs.Prelude.{Result, Ok, Err}
+use Rattle.std.specs.Result.{result_unwrap_or}
+use Rattle.state.specs.declared.refusals.Cause.{Cause}
+use Rattle.state.specs.Refusals.{given}
+use Rattle.dispatch.specs.Outcome.{Outcome, no_event, is_judged, is_asked, start_outcome, judge_outcome, ask_outcome, enter_outcome, change_outcome}
 use Rattle.dispatch.specs.Inner.{other_outcome}
 
-pub either : (b : Bool) (s t : Outcome) → length s.event ≡ 16 → length t.event ≡ 16 → length (cond b s t).event ≡ 16
+either : (b : Bool) (s t : Outcome) → s.event ≡ no_event → t.event ≡ no_event → (cond b s t).event ≡ no_event
 either true s t p q = p
 either false s t p q = q
 
-pub length_other : (w : List ℕ) (m : NetworkModel) (y : Cycle) → length (other_outcome w m y).event ≡ 16
+-- a call that is no event's start has no record
+pub event_other : (w : List ℕ) (m : NetworkModel) (y : Cycle) → (other_outcome w m y).event ≡ no_event
 unfolding other_outcome start_outcome judge_outcome ask_outcome enter_outcome change_outcome
-length_other w m y =
+event_other w m y =
     let call = get_or w 0 0 in
     let more = cond (leb 40 call) (enter_outcome w m y) (change_outcome w m y) in
     let asks = cond (is_asked call) (ask_outcome w m y) more in
@@ -33,6 +37,10 @@ length_other w m y =
     (either (is_asked call) (ask_outcome w m y) more refl
     (either (leb 40 call) (enter_outcome w m y) (change_outcome w m y) refl refl)))
 
+pub unwrapped : {A : Type 0} (r : Result A Cause) (d : A) → result_unwrap_or r d ≡ given r d
+unwrapped (Ok a) d = refl
+unwrapped (Err c) d = refl
+
 -- an event's record, by its reply
 pub left_by_lem : (k n : ℕ) (e next old : CongestionEvent) (given : List ℕ) → k ≡ n → e ≡ settled n next old → settled k (event_words e) given ≡ settled n (event_words next) given
 unfolding settled
@@ -41,12 +49,3 @@ left_by_lem k n e next old given p q = rw (p, q) (go (eqb n 0))
     go : (t : Bool) → cond t (event_words (cond t next old)) given ≡ cond t (event_words next) given
     go true = refl
     go false = refl
-
--- ---- the word of a reply, by its row
-pub plain_word : (row x : ℕ) → eqb row 2 ≡ false → row ≡ replied row x
-unfolding named
-plain_word row x h = rw h (omega arith)
-
-pub blamed_word : (row x : ℕ) → row ≡ 2 → reply_word 2 x ≡ replied row x
-unfolding named
-blamed_word row x h = rw h

@@ -8,7 +8,7 @@ ghost use Rattle.words.specs.Words.{all_bytes};
 ghost use Rattle.units.specs.Reply.{reply_word};
 ghost use Rattle.state.specs.Refusals.{caused};
 ghost use Rattle.state.specs.Answers.{settled};
-ghost use Rattle.state.specs.Faults.{first, replied};
+ghost use Rattle.state.specs.Faults.{first, replied, sent_faults};
 ghost use Rattle.places.specs.Places.{faults_of};
 ghost use Rattle.arguments.specs.CongestionEvent.{event_in, event_words};
 ghost use Rattle.dispatch.specs.Outcome.{no_event, send_number, send_leaves, event_start_number, event_start_leaves, event_start_words, event_finish_number, event_finish_leaves};
@@ -30,7 +30,6 @@ use units::refusal::fault_word;
 use words::{get_word, get_words, put_words};
 
 // Call 1, a send, which reads four of its words.
-#[tactic(auto, unfolding(crate::specs::Inner::send_word, state::specs::Faults::named))]
 pub fn send(
     model: &mut NetworkModel,
     fine: bool,
@@ -47,12 +46,21 @@ pub fn send(
     let inflight = get_word(calls, at + 16);
     let packet = get_word(calls, at + 24);
     let bytes = get_word(calls, at + 32);
-    let word = match changes::sent_tested(model, fine, time, inflight, packet, bytes) {
+    let reply = changes::sent_tested(model, fine, time, inflight, packet, bytes);
+    let word = sent_word(reply, time, inflight, bytes);
+    put_answer(answers, to, word, 0, &[0; 16]);
+}
+
+// The word of a send's reply.
+#[tactic(auto, unfolding(state::specs::Faults::named))]
+fn sent_word(reply: Result<(), Cause>, time: Moment, inflight: u64, bytes: u64) -> u64
+    ensures { result ≡ replied (caused reply) (first (sent_faults time inflight bytes)) }
+{
+    match reply {
         Ok(()) => 0,
         Err(Cause::Argument) => fault_word(sent_fault(time, inflight, bytes)),
         Err(cause) => cause.row(),
-    };
-    put_answer(answers, to, word, 0, &[0; 16]);
+    }
 }
 
 // Call 3, an event's start, whose acked numbers can stand in the lists.
