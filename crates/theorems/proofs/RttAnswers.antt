@@ -10,6 +10,7 @@ use native.Mathlib.Omega.{arith}
 use lib.Dec.{eqb}
 use lib.ListN.{length, get_or, length-append, get_or-append}
 use lib.Seq.{sets}
+use Rattle.std.proofs.lemmas.List.{get_or-append-add}
 use borrow.Author.Tests.{eq-eqb, eqb-true}
 use Rattle.state.specs.Answers.{settled, zero_length}
 use Rattle.state.specs.Bounds.{length_ok}
@@ -137,12 +138,6 @@ length_answers s src at (suc n) =
     length-append (answer_at s src at) (answers_to (left_at s src at) src (at + 32) n)
     ∙ omega (arith, length_answer s src at, length_answers (left_at s src at) src (at + 32) n)
 
-get_or_right : (l k : List ℕ) (n : ℕ) → get_or (l ++ k) (length l + n) 0 ≡ get_or k n 0
-get_or_right [] k n = ap (λ (x : ℕ). get_or k x 0) (zero-add n)
-get_or_right (x ∷ l) k n =
-    let next : suc (length l) + n ≡ suc (length l + n) = omega arith in
-    ap (λ (y : ℕ). get_or (x ∷ (l ++ k)) y 0) next ∙ get_or_right l k n
-
 answer_word_lem : (s : RttStats) (src : List ℕ) (at n i j : ℕ) → i < n → j < 5 → get_or (answers_to s src at n) (5 * i + j) 0 ≡ get_or (answer_at (left_by s src at i) src (at + 32 * i)) j 0
 unfolding answers_to left_by
 answer_word_lem s src at zero i j h k = absurd (omega (arith, h))
@@ -154,7 +149,7 @@ answer_word_lem s src at (suc n) (suc i) j h k =
     let there : 5 * suc i + j ≡ length (answer_at s src at) + (5 * i + j) = rw (length_answer s src at) (omega arith) in
     let next : at + 32 + 32 * i ≡ at + 32 * suc i = omega arith in
     ap (λ (x : ℕ). get_or (answers_to s src at (suc n)) x 0) there
-    ∙ get_or_right (answer_at s src at) (answers_to (left_at s src at) src (at + 32) n) (5 * i + j)
+    ∙ get_or-append-add (answer_at s src at) (answers_to (left_at s src at) src (at + 32) n) (5 * i + j) 0
     ∙ answer_word_lem (left_at s src at) src (at + 32) n i j (omega (arith, h)) k
     ∙ ap (λ (x : ℕ). get_or (answer_at (left_by (left_at s src at) src (at + 32) i) src x) j 0) next
 

@@ -25,7 +25,7 @@ use Rattle.laws.proofs.Replies.{exactly, answered}
 use Rattle.theorems.specs.Blames.{Named}
 use Rattle.theorems.specs.Rtt.{RttRun, RttRan, rtt_rows, RttCall, EveryRttReply}
 use Rattle.theorems.proofs.Blames.{row_below, word_named, two_some, worded, either_uneven, byte}
-use Rattle.theorems.proofs.Choice.{both}
+use Rattle.theorems.proofs.Choice.{both, settled_taken, settled_kept}
 use Rattle.theorems.proofs.Rtt.{rtt_is, rtt_row_lem, rtt_row_is}
 
 flipped : (a b : Bool) → a ≡ b → not b ≡ not a
@@ -61,11 +61,6 @@ module _ (s : RttStats) (n a b c : ℕ) where
       (both R (eqb n 1) _ _ _ _ (flipped _ _ (update_complete (ns a) (ns b) (flag_fits c)))
       (both R (eqb n 2) _ _ _ _ (flipped _ _ (delay_complete (ns a))) refl))
 
-  -- what is settled stays as it was
-  kept : {A : Type 0} (k : ℕ) (x y : A) → (k ≡ 0 → ⊥) → settled k x y ≡ y
-  unfolding settled
-  kept k x y h = rw (ne_eqb k 0 h)
-
   call_refused : (call_row s n a b c ≡ 0 → ⊥) → call_left s n a b c ≡ cond (eqb n 0) (stats_new zero_length zero_length) s
   unfolding call_row call_left new_left update_left delay_left
   call_refused = go (eqb n 0) (eqb n 1) (eqb n 2)
@@ -73,15 +68,10 @@ module _ (s : RttStats) (n a b c : ℕ) where
       go : (x y z : Bool) →
           (cond x (new_number (ns a) (ns b)) (cond y (update_number s (ns a) (ns b) (flag_fits c)) (cond z (delay_number s (ns a)) (given_number s false))) ≡ 0 → ⊥) →
           cond x (new_left (ns a) (ns b)) (cond y (update_left s (ns a) (ns b) (flag_of c) (flag_fits c)) (cond z (delay_left s (ns a)) s)) ≡ cond x (stats_new zero_length zero_length) s
-      go true y z h = kept _ _ _ h
-      go false true z h = kept _ _ _ h
-      go false false true h = kept _ _ _ h
+      go true y z h = settled_kept _ _ _ h
+      go false true z h = settled_kept _ _ _ h
+      go false false true h = settled_kept _ _ _ h
       go false false false h = refl
-
-  -- and what is done is taken
-  done_is : {A : Type 0} (k : ℕ) (x y : A) → k ≡ 0 → settled k x y ≡ x
-  unfolding settled
-  done_is k x y h = rw (eq-eqb k 0 h)
 
   call_done : call_row s n a b c ≡ 0 →
       call_left s n a b c ≡ cond (eqb n 0) (stats_new (ns a) (ns b)) (cond (eqb n 1) (update_next s (ns a) (ns b) (flag_of c)) (delay_next s (ns a)))
@@ -92,9 +82,9 @@ module _ (s : RttStats) (n a b c : ℕ) where
           cond x (new_number (ns a) (ns b)) (cond y (update_number s (ns a) (ns b) (flag_fits c)) (cond z (delay_number s (ns a)) (given_number s false))) ≡ 0 →
           cond x (new_left (ns a) (ns b)) (cond y (update_left s (ns a) (ns b) (flag_of c) (flag_fits c)) (cond z (delay_left s (ns a)) s))
           ≡ cond x (stats_new (ns a) (ns b)) (cond y (update_next s (ns a) (ns b) (flag_of c)) (delay_next s (ns a)))
-      go true y z h = done_is _ _ _ h
-      go false true z h = done_is _ _ _ h
-      go false false true h = done_is _ _ _ h
+      go true y z h = settled_taken _ _ _ h
+      go false true z h = settled_taken _ _ _ h
+      go false false true h = settled_taken _ _ _ h
       go false false false h = absurd (true≢false (sym (given_fine s false h).1))
 
   pub every_rtt_call : RttCall s n a b c
