@@ -19,7 +19,6 @@ use Rattle.units.specs.Reply.{row_in, fault_in}
 use Rattle.units.proofs.refusal.Number.{row_back, fault_back}
 use Rattle.state.specs.declared.refusals.Rows.{Rows}
 use Rattle.dispatch.specs.OneCall.{call_word}
-use Rattle.dispatch.proofs.OneCall.{plain_word}
 use Rattle.laws.specs.Replies.{Exactly}
 use Rattle.laws.proofs.Named.{found}
 use Rattle.drift.specs.Calls.{State}
@@ -29,7 +28,7 @@ use Rattle.guovssalu.specs.ModelRun.{model_row, length_faults, model_reply}
 use Rattle.guovssalu.specs.Slope.{slope_row, window_faults, slope_reply}
 use Rattle.theorems.specs.Blames.{Named, Blames}
 use Rattle.theorems.specs.Runs.{Run, Ran, FilterRun, Filtered, SlopeRun, Raised}
-use Rattle.theorems.proofs.Exported.{run_is, filter_is, slope_is, run_row_is, filter_row_is, slope_row_is, run_row_lem, filter_row, slope_row_lem}
+use Rattle.theorems.proofs.Exported.{plain_word, run_is, filter_is, slope_is, run_row_is, filter_row_is, slope_row_is, run_row_lem, filter_row, slope_row_lem}
 use Rattle.theorems.specs.Steps.{outcome_in}
 use Rattle.theorems.proofs.Rows.{every_row}
 use Rattle.theorems.specs.Rows.{rows_of}
@@ -126,7 +125,7 @@ word_named row faults small some =
       names = λ two.
           let same : fault_in (replied row (first faults)) ≡ first faults = fault_back row _ small ∙ rw two in
           rw same (found faults (some two));
-      silent = λ no. sym (plain_word row (first faults) (ne_eqb row 2 no));
+      silent = λ no. plain_word row (first faults) (ne_eqb row 2 no);
     }
 
 -- a 2 has a fault where its row's test says so

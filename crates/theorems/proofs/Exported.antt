@@ -114,7 +114,12 @@ run_done r h done = sym (run_row_is r h) ∙ ap (λ (n : ℕ). row_in n) done
 pub filter_done : (r : FilterRun) → Filtered r → r.reply ≡ 0 → run_row r.window r.pairs (length r.output) ≡ 0
 filter_done r h done = sym (filter_row_is r h) ∙ ap (λ (n : ℕ). row_in n) done
 
--- a row of 0 names nothing
+-- a row that is no 2 names nothing
+pub plain_word : (row x : ℕ) → eqb row 2 ≡ false → replied row x ≡ row
+unfolding named
+plain_word row x h = rw h (omega arith)
+
+-- and a row of 0 is a word of 0
 pub done_word : (row x : ℕ) → row ≡ 0 → replied row x ≡ 0
 unfolding named
 done_word row x e = rw e
