@@ -37,7 +37,11 @@ use Rattle.places.specs.Places.{number_faults, other_faults, faults_of}
 use Rattle.dispatch.specs.OneCall.{own_at, call_at, call_word, answer_words}
 use Rattle.guovssalu.proofs.Rows.{done_room, done_first}
 use Rattle.dispatch.proofs.Alike.{send_alike, finish_alike, other_alike}
-use Rattle.dispatch.proofs.OneCall.{either, length_other}
+use Rattle.dispatch.proofs.OneCall.{event_other}
+
+either : (b : Bool) (s t : Outcome) → length s.event ≡ 16 → length t.event ≡ 16 → length (cond b s t).event ≡ 16
+either true s t p q = p
+either false s t p q = q
 
 length_started : (w : List ℕ) (m : NetworkModel) → length (event_start_words w m) ≡ 16
 unfolding settled words_from
@@ -56,7 +60,7 @@ length_event m y src lists at =
     let starts = cond (eqb call 3) (event_outcome w m y) ends in
     either (eqb call 1) (send_outcome w m y) starts refl
     (either (eqb call 3) (event_outcome w m y) ends (length_started w m)
-    (either (eqb call 4) (finish_outcome w m y) (other_outcome w m y) refl (length_other w m y)))
+    (either (eqb call 4) (finish_outcome w m y) (other_outcome w m y) refl (ap length (event_other w m y))))
 
 pub length_left : (m : NetworkModel) (y : Cycle) (src lists : List ℕ) (at n : ℕ) → length (left_by m y src lists at n) ≡ 51
 unfolding left_by
@@ -157,14 +161,14 @@ module _ (m : NetworkModel) (y : Cycle) (src lists : List ℕ) (at : ℕ) (out :
       carried is r p q (still p (finish_same m _) f)
 
   pub by_other :
-      {n : ℕ} {t : Outcome} → n ≡ word_at src at → (n ≡ 1 → ⊥) → (n ≡ 3 → ⊥) → (n ≡ 4 → ⊥) →
-      t ≡ other_outcome (own_at src at) m y → m' ≡ t.model → y' ≡ t.cycle → fine' ≡ model_ok t.model → out' ≡ sets out to (all_bytes (answer_words (call_at src lists at) m (other_outcome (own_at src at) m y))) → Carried
+      {n : ℕ} → n ≡ word_at src at → (n ≡ 1 → ⊥) → (n ≡ 3 → ⊥) → (n ≡ 4 → ⊥) →
+      m' ≡ (other_outcome (own_at src at) m y).model → y' ≡ (other_outcome (own_at src at) m y).cycle → fine' ≡ model_ok m' → out' ≡ sets out to (all_bytes (answer_words (call_at src lists at) m (other_outcome (own_at src at) m y))) → Carried
   unfolding outcome_at
-  by_other e f g h k p q b r =
+  by_other e f g h p q b r =
       let w = call_at src lists at in
       let number = sym (number_at (sym e)) in
       let is : other_outcome (own_at src at) m y ≡ outcome_at m y src lists at = sym (other_at w m y (λ x. f (number ∙ x)) (λ x. g (number ∙ x)) (λ x. h (number ∙ x)) ∙ other_alike w (own_at src at) alike m y) in
-      carried is r (p ∙ ap (λ (t : Outcome). t.model) k) (q ∙ ap (λ (t : Outcome). t.cycle) k) (b ∙ sym (ap model_ok p))
+      carried is r p q b
 
 -- ---- what a run that is done has been lent
 pub run_room : (state src : List ℕ) (room : ℕ) → eqb (model_row state src room) 0 ≡ true → 144 * calls_in src ≤ room

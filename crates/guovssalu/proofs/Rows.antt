@@ -7,7 +7,9 @@ use borrow.Author.Tests.{not-true, not-false, eqb-true}
 use lib.Dec.{eqb}
 use lib.Seq.{sets}
 use Rattle.words.specs.Words.{all_bytes}
-use Rattle.units.specs.Reply.{reply_word}
+use Rattle.units.specs.Reply.{row_of, fault_of, reply_word}
+use Rattle.units.specs.declared.refusal.Refusal.{Refusal}
+use Rattle.units.specs.declared.refusal.Refusal.TheVariants.{OutOfBounds, BadArgument, EarlierMoment, LowerTotal, FullCounter, BadText, ShortOutput, NeverSent}
 use Rattle.state.specs.Refusals.{or_short}
 use Rattle.guovssalu.specs.Reply.{answered}
 
@@ -30,24 +32,29 @@ done_first row short h = eqb-true row 0 (go (eqb row 0) refl h)
     go true e g = e
     go false e g = g
 
--- a reply's number n and its fault f, by its row and what it names, and whether it is done
-module _ {row n f g : ℕ} {done : Bool} (is : (n ≡ row) × (f ≡ g)) (test : done ≡ eqb n 0) where
-  row_done : eqb row 0 ≡ done
-  row_done = ap (λ (k : ℕ). eqb k 0) (sym is.0) ∙ sym test
+-- a call that is refused says why, and leaves what it was lent
+no_row : (e : Refusal) → eqb (row_of e) 0 ≡ false
+no_row OutOfBounds = refl
+no_row (BadArgument f) = refl
+no_row EarlierMoment = refl
+no_row LowerTotal = refl
+no_row FullCounter = refl
+no_row BadText = refl
+no_row ShortOutput = refl
+no_row NeverSent = refl
 
-  said : {r : ℕ} → r ≡ reply_word n f → r ≡ reply_word row g
-  said e = e ∙ ap₂ (λ (i j : ℕ). reply_word i j) is.0 is.1
+pub refused :
+    {row g n : ℕ} (e : Refusal) (answer out : List ℕ) → row_of e ≡ row → fault_of e ≡ g → n ≡ reply_word (row_of e) (fault_of e) →
+    (n ≡ reply_word row g) × (out ≡ answered row answer out)
+unfolding answered
+refused e answer out p q h = (h ∙ ap₂ (λ (i j : ℕ). reply_word i j) p q, rw (← p, no_row e))
 
-  pub done_row : not done ≡ false → eqb row 0 ≡ true
-  done_row h = row_done ∙ not-false done h
+-- a call that goes on answers 0, and writes its answer
+pub done_row : {row : ℕ} → 0 ≡ row → eqb row 0 ≡ true
+done_row p = rw (← p)
 
-  -- a call that stops there
-  pub refused : {r : ℕ} (answer out : List ℕ) → r ≡ reply_word n f → not done ≡ true → (r ≡ reply_word row g) × (out ≡ answered row answer out)
-  unfolding answered
-  refused answer out e h = (said e, rw (row_done, not-true done h))
-
-  -- a call that goes on, and writes its answer
-  pub written :
-      {r : ℕ} {left : List ℕ} (answer out : List ℕ) → r ≡ reply_word n f → not done ≡ false → left ≡ sets out 0 (all_bytes answer) → (r ≡ reply_word row g) × (left ≡ answered row answer out)
-  unfolding answered
-  written answer out e h w = (said e, rw (row_done, not-false done h) w)
+pub written :
+    {row g : ℕ} {left : List ℕ} (answer out : List ℕ) → 0 ≡ row → 0 ≡ g → left ≡ sets out 0 (all_bytes answer) →
+    (0 ≡ reply_word row g) × (left ≡ answered row answer out)
+unfolding answered
+written answer out p q w = (ap₂ (λ (i j : ℕ). reply_word i j) p q, rw (← p) w)

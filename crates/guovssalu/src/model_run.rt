@@ -62,12 +62,16 @@ fn model_reply(state: &[u8], calls: &[u8], room: usize) -> Result<(), Refusal>
         argument: !whole | !even,
         ..Rows::NONE
     };
-    let faults = [unless(whole, 1, Kind::ListLength), unless(even, 2, Kind::ListLength)];
+    let faults = [
+        unless(whole, 1, Kind::ListLength),
+        unless(even, 2, Kind::ListLength),
+    ];
     let reply = refusal(rows, first_of(&faults));
     or_short(reply, room < 144 * (calls.len() / 392))
 }
 
 // Whether bytes as many as a state has encode none.
+#[tactic(auto, unfolding(crate::specs::ModelRun::encodes_none))]
 fn encodes_none(state: &[u8]) -> bool
     ensures { result ≡ encodes_none state.now }
 {

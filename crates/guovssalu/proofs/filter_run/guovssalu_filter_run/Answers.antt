@@ -1,6 +1,4 @@
 -- `guovssalu_filter_run` meets its contract: it stops at a refusal, or writes the answer. Assumes nothing.
-use mathlib.Core.Bool.{not}
-use mathlib.Core.Path.{ap}
 use Rattle.filters.specs.WindowedFilter.{windowed_new}
 use Rattle.pairs.specs.Pairs.{pairs, run_words}
 use Rattle.guovssalu.specs.FilterRun.{run_reply, run_out}
@@ -8,21 +6,21 @@ use Rattle.guovssalu.proofs.Rows.{done_row, refused, written}
 use Rattle.guovssalu.proofs.FilterRun.{run_done}
 use Rattle.guovssalu.proofs.filter_run.guovssalu_filter_run.Goals as goal
 
-pub returns-then-not-is_done : goal.returns-then-not-is_done
+pub returns-in-Err : goal.returns-in-Err
 unfolding run_out run_reply
-returns-then-not-is_done c =
+returns-in-Err c =
     let args = c.args in
     let src = args.src.now in
-    let it = refused (c.run_reply-reply.ensures.reply, c.run_reply-reply.ensures.fault) c.is_done.ensures (run_words (windowed_new args.window) src 0 (pairs src)) args.out.now c.word.ensures (ap not c.if-not-is_done.true) in
+    let it = refused c.in-Err.refusal (run_words (windowed_new args.window) src 0 (pairs src)) args.out.now c.in-Err.ensures.reply c.in-Err.ensures.fault c.word.ensures in
     record { value = it.0; out_after = it.1 }
 
 pub write_run-requires : goal.write_run-requires
-write_run-requires c = run_done _ _ _ (done_row (c.run_reply-reply.ensures.reply, c.run_reply-reply.ensures.fault) c.is_done.ensures (ap not c.if-not-is_done.false))
+write_run-requires c = run_done _ _ _ (done_row c.in_default.ensures.reply)
 
 pub returns : goal.returns
 unfolding run_out run_reply
 returns c =
     let args = c.args in
     let src = args.src.now in
-    let it = written (c.run_reply-reply.ensures.reply, c.run_reply-reply.ensures.fault) c.is_done.ensures (run_words (windowed_new args.window) src 0 (pairs src)) args.out.now c.word-2.ensures (ap not c.if-not-is_done.false) c.write_run.ensures in
+    let it = written (run_words (windowed_new args.window) src 0 (pairs src)) args.out.now c.in_default.ensures.reply c.in_default.ensures.fault c.write_run.ensures in
     record { value = it.0; out_after = it.1 }

@@ -1,5 +1,5 @@
 -- `guovssalu::model_reply` meets its contract: what the tests ensure, put into the rows. Assumes nothing.
-use mathlib.Core.Path.{◌∙◌}
+use Rattle.std.proofs.Common.{◌∙◌}
 use Rattle.guovssalu.specs.ModelRun.{model_row, length_faults}
 use Rattle.state.proofs.FirstFault.{asked, or_short_lem}
 use Rattle.guovssalu.proofs.model_run.model_reply.Goals as goal

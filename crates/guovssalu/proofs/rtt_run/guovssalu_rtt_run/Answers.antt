@@ -1,11 +1,6 @@
 -- `guovssalu_rtt_run` meets its contract: it stops at a refusal, or writes the answers, then the estimator. Assumes nothing.
-use Prim.Native.Nat.{ℕ}
-use mathlib.Core.List.{List}
-use mathlib.Core.Path.{ap, ◌∙◌}
-use native.Mathlib.Omega.{arith}
-use lib.ListN.{length}
+use Rattle.std.proofs.Common.{ℕ, List, length, ap, ◌∙◌, arith}
 use lib.Seq.{sets}
-use mathlib.Core.Bool.{not}
 use Rattle.rtt.specs.declared.rtt.RttStats.{RttStats}
 use Rattle.trips.specs.Trips.{stats_words, calls_in, answers_to, left_by}
 use Rattle.words.specs.Words.{all_bytes}
@@ -14,29 +9,30 @@ use Rattle.guovssalu.proofs.Rows.{done_row, refused, written}
 use Rattle.guovssalu.proofs.RttRun.{run_room, run_whole}
 use Rattle.guovssalu.proofs.rtt_run.guovssalu_rtt_run.Goals as goal
 
-pub returns-then-not-is_done : goal.returns-then-not-is_done
+pub returns-in-Err : goal.returns-in-Err
 unfolding rtt_state_out rtt_answers_out rtt_reply
-returns-then-not-is_done c =
+returns-in-Err c =
     let state = c.args.state.now in
     let calls = c.args.calls.now in
-    let test = c.is_done.ensures in
-    let kept = refused (c.run_reply-reply.ensures.reply, c.run_reply-reply.ensures.fault) test (rtt_left state calls) state c.word.ensures (ap not c.if-not-is_done.true) in
+    let why = c.in-Err.ensures in
+    let kept = refused c.in-Err.refusal (rtt_left state calls) state why.reply why.fault c.word.ensures in
     record {
       value = kept.0;
       state_after = kept.1;
-      answers_after = (refused (c.run_reply-reply.ensures.reply, c.run_reply-reply.ensures.fault) test (rtt_answers state calls) c.args.answers.now c.word.ensures (ap not c.if-not-is_done.true)).1;
+      answers_after = (refused c.in-Err.refusal (rtt_answers state calls) c.args.answers.now why.reply why.fault c.word.ensures).1;
     }
 
 pub stats_in-requires : goal.stats_in-requires
-stats_in-requires c = run_whole _ _ _ (done_row (c.run_reply-reply.ensures.reply, c.run_reply-reply.ensures.fault) c.is_done.ensures (ap not c.if-not-is_done.false))
+stats_in-requires c = run_whole _ _ _ (done_row c.in_default.ensures.reply)
 
 pub run_calls-left-requires : goal.run_calls-left-requires
-run_calls-left-requires c = run_room _ _ _ (done_row (c.run_reply-reply.ensures.reply, c.run_reply-reply.ensures.fault) c.is_done.ensures (ap not c.if-not-is_done.false))
+run_calls-left-requires c = run_room _ _ _ (done_row c.in_default.ensures.reply)
 
 pub put_words-requires : goal.put_words-requires
 unfolding stats_words
-put_words-requires c = let six = ap length c.stats_words.ensures in
-    omega (arith, six, run_whole _ _ _ (done_row (c.run_reply-reply.ensures.reply, c.run_reply-reply.ensures.fault) c.is_done.ensures (ap not c.if-not-is_done.false)))
+put_words-requires c =
+    let six = ap length c.stats_words.ensures in
+    omega (arith, six, run_whole _ _ _ (done_row c.in_default.ensures.reply))
 
 pub returns : goal.returns
 unfolding rtt_state_out rtt_answers_out rtt_reply rtt_answers rtt_left
@@ -44,15 +40,15 @@ returns c =
     let state = c.args.state.now in
     let calls = c.args.calls.now in
     let out = c.args.answers.now in
-    let test = c.is_done.ensures in
     let begun = c.stats_in.ensures in
     let did = c.run_calls-left.ensures in
     let went = c.stats_words.ensures ∙ ap stats_words (did.value ∙ ap (λ (s : RttStats). left_by s calls 0 (calls_in calls)) begun) in
     let stored = c.put_words.ensures ∙ ap (λ (words : List ℕ). sets state 0 (all_bytes words)) went in
     let answered = did.answers_after ∙ ap (λ (s : RttStats). sets out 0 (all_bytes (answers_to s calls 0 (calls_in calls)))) begun in
-    let left = written (c.run_reply-reply.ensures.reply, c.run_reply-reply.ensures.fault) test (rtt_left state calls) state c.word-2.ensures (ap not c.if-not-is_done.false) stored in
+    let done = c.in_default.ensures in
+    let left = written (rtt_left state calls) state done.reply done.fault stored in
     record {
       value = left.0;
       state_after = left.1;
-      answers_after = (written (c.run_reply-reply.ensures.reply, c.run_reply-reply.ensures.fault) test (rtt_answers state calls) out c.word-2.ensures (ap not c.if-not-is_done.false) answered).1;
+      answers_after = (written (rtt_answers state calls) out done.reply done.fault answered).1;
     }

@@ -1,13 +1,6 @@
 -- `guovssalu_raise_inflight_high_slope` meets its contract: it stops at a refusal, or writes the answer. Assumes nothing.
-use mathlib.Core.Bool.{not}
-use mathlib.Core.List.{List}
-use mathlib.Core.Path.{◌≡◌, ap, ◌∙◌}
-use native.Mathlib.Omega.{arith}
-use Prim.Native.Nat.{ℕ, ◌≤◌}
-use mathlib.Core.Bool.{true}
+use Rattle.std.proofs.Common.{◌≡◌, ℕ, ◌≤◌, true, List, eqb, ltb, length, ap, ◌∙◌, arith}
 use borrow.Author.Tests.{ltb-false}
-use lib.Dec.{eqb, ltb}
-use lib.ListN.{length}
 use lib.Seq.{sets}
 use Rattle.words.specs.Words.{all_bytes}
 use Rattle.guovssalu.specs.Slope.{slope_row, slope_reply, slope_words, slope_out}
@@ -18,17 +11,19 @@ slope-room : (rounds window room : ℕ) → eqb (slope_row rounds window room) 0
 unfolding slope_row
 slope-room rounds window room h = ltb-false room 16 (done_room _ (ltb room 16) h)
 
-pub returns-then-not-is_done : goal.returns-then-not-is_done
+pub returns-in-Err : goal.returns-in-Err
 unfolding slope_out slope_reply
-returns-then-not-is_done c =
+returns-in-Err c =
     let args = c.args in
-    let it = refused (c.slope_reply-reply.ensures.reply, c.slope_reply-reply.ensures.fault) c.is_done.ensures (slope_words args.rounds args.window) args.out.now c.word.ensures (ap not c.if-not-is_done.true) in
+    let why = c.in-Err.ensures in
+    let it = refused c.in-Err.refusal (slope_words args.rounds args.window) args.out.now why.reply why.fault c.word.ensures in
     record { value = it.0; out_after = it.1 }
 
 pub put_words-requires : goal.put_words-requires
 unfolding slope_words
-put_words-requires c = let two : length c.slope_words.result ≡ 2 = ap length c.slope_words.ensures in
-    let room = slope-room _ _ _ (done_row (c.slope_reply-reply.ensures.reply, c.slope_reply-reply.ensures.fault) c.is_done.ensures (ap not c.if-not-is_done.false)) in
+put_words-requires c =
+    let two : length c.slope_words.result ≡ 2 = ap length c.slope_words.ensures in
+    let room = slope-room _ _ _ (done_row c.in_default.ensures.reply) in
     omega arith
 
 pub returns : goal.returns
@@ -36,5 +31,6 @@ unfolding slope_out slope_reply
 returns c =
     let args = c.args in
     let out = args.out.now in
-    let it = written (c.slope_reply-reply.ensures.reply, c.slope_reply-reply.ensures.fault) c.is_done.ensures (slope_words args.rounds args.window) out c.word-2.ensures (ap not c.if-not-is_done.false)
-    (c.put_words.ensures ∙ ap (λ (words : List ℕ). sets out 0 (all_bytes words)) c.slope_words.ensures) in record { value = it.0; out_after = it.1 }
+    let done = c.in_default.ensures in
+    let it = written (slope_words args.rounds args.window) out done.reply done.fault (c.put_words.ensures ∙ ap (λ (words : List ℕ). sets out 0 (all_bytes words)) c.slope_words.ensures) in
+    record { value = it.0; out_after = it.1 }

@@ -1,5 +1,5 @@
 -- `guovssalu::slope_reply` meets its contract: what the two tests ensure, put into the rows. Assumes nothing.
-use mathlib.Core.Path.{◌∙◌}
+use Rattle.std.proofs.Common.{◌∙◌}
 use Rattle.guovssalu.specs.Slope.{slope_row, window_faults}
 use Rattle.state.proofs.FirstFault.{asked, alone, or_short_lem}
 use Rattle.guovssalu.proofs.slope.slope_reply.Goals as goal
