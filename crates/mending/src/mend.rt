@@ -37,7 +37,7 @@ impl Mend {
     }
 
     // A line that is kept; it may be a start that is accepted.
-    #[tactic(auto, unfolding(crate::specs::Sorted::keeps))]
+    #[tactic(auto, unfolding(crate::specs::Sorted::keeps, trace::specs::Tally::one_more))]
     fn keep(self, begun: bool) -> Sorted
         ensures { result ≡ keeps self begun }
     {
@@ -56,7 +56,7 @@ impl Mend {
     }
 
     // A line that gives 6.
-    #[tactic(auto, unfolding(crate::specs::Sorted::lists))]
+    #[tactic(auto, unfolding(crate::specs::Sorted::lists, trace::specs::Tally::one_more))]
     fn list(self, field: u64) -> Sorted
         ensures { result ≡ lists self field }
     {

@@ -5,10 +5,9 @@ use changes::on_packet_sent;
 use events::{on_congestion_event_finish, on_congestion_event_start};
 use reads::inflight_lo;
 use state::congestion_event::{CongestionEvent, CongestionEventSample, SendTimeState};
-use state::network_model::Changed;
 use state::parts::Totals;
 use state::{NetworkModel, Params};
-use units::{Duration, Moment, Reply};
+use units::{Duration, Moment, Refusal};
 
 const WINDOW: u64 = 1_300;
 
@@ -71,27 +70,26 @@ fn lost_by(lost: u64) -> CongestionEventSample {
 }
 
 // The event of a round: it acks the packet, which ends the round, and tells what was lost so far.
-fn lossy_event(model: NetworkModel, time: Moment, packet: u64, lost: u64) -> Changed {
-    let acked = [packet];
-    let event = on_congestion_event_start(model, params(), event_at(time), lost_by(lost), &acked);
-    let reply = event.reply;
-    let next = event.model;
-    if !reply.is_done() {
-        return Changed { reply, model: next };
-    }
-    let record = event.event;
-    on_congestion_event_finish(next, record)
+fn lossy_event(
+    model: &mut NetworkModel,
+    time: Moment,
+    packet: u64,
+    lost: u64,
+) -> Result<(), Refusal> {
+    let mut event = event_at(time);
+    on_congestion_event_start(model, params(), &mut event, lost_by(lost), &[packet])?;
+    on_congestion_event_finish(model, event)
 }
 
 // A round: a packet is sent, another is lost, and the ack of the first ends the round.
-fn lossy_round(model: NetworkModel, time: Moment, packet: u64, lost: u64) -> Changed {
-    let sent = on_packet_sent(model, time, 0, packet, WINDOW);
-    let reply = sent.reply;
-    let next = sent.model;
-    if !reply.is_done() {
-        return sent;
-    }
-    lossy_event(next, time, packet, lost)
+fn lossy_round(
+    model: &mut NetworkModel,
+    time: Moment,
+    packet: u64,
+    lost: u64,
+) -> Result<(), Refusal> {
+    on_packet_sent(model, time, 0, packet, WINDOW)?;
+    lossy_event(model, time, packet, lost)
 }
 
 // A round's line. After k reductions the two are less than k bytes apart.
@@ -103,39 +101,22 @@ fn line(rt: &impl Print, round: u64, bytes: u64, exact: Exact) {
     text(rt, b"\n");
 }
 
-// Makes a round and shows its line, unless a call before it or in it is refused.
+// Makes a round and shows its line, unless a call in it is refused.
 fn shown(
     rt: &impl Print,
-    before: Changed,
+    model: &mut NetworkModel,
     time: Moment,
     round: u64,
     lost: u64,
     exact: Exact,
-) -> Changed {
-    let reply = before.reply;
-    let model = before.model;
-    if !reply.is_done() {
-        return before;
-    }
-    let after = lossy_round(model, time, round, lost);
-    let done = after.reply;
-    let next = after.model;
-    if !done.is_done() {
-        return after;
-    }
-    let answer = inflight_lo(next);
-    let answered = answer.reply;
-    if answered.is_done() {
-        line(rt, round, answer.value, exact);
-    }
-    Changed {
-        reply: answered,
-        model: next,
-    }
+) -> Result<(), Refusal> {
+    lossy_round(model, time, round, lost)?;
+    line(rt, round, inflight_lo(*model)?, exact);
+    Ok(())
 }
 
-// The three rounds; the reply of the last call.
-fn rounds(rt: &impl Print) -> Reply {
+// The three rounds, as far as no call is refused.
+fn rounds(rt: &impl Print) -> Result<(), Refusal> {
     let start = Exact {
         thousandths: 1_300_000,
         first: 0,
@@ -145,12 +126,10 @@ fn rounds(rt: &impl Print) -> Reply {
     let first = reduced(start);
     let second = reduced(first);
     let third = reduced(second);
-    let begun = NetworkModel::new(params(), Duration(100_000_000), Moment(0));
-    let one = shown(rt, begun, Moment(100_000_000), 1, 1_300, first);
-    let two = shown(rt, one, Moment(200_000_000), 2, 2_600, second);
-    let three = shown(rt, two, Moment(300_000_000), 3, 3_900, third);
-    let reply = three.reply;
-    reply
+    let mut model = NetworkModel::new(params(), Duration(100_000_000), Moment(0))?;
+    shown(rt, &mut model, Moment(100_000_000), 1, 1_300, first)?;
+    shown(rt, &mut model, Moment(200_000_000), 2, 2_600, second)?;
+    shown(rt, &mut model, Moment(300_000_000), 3, 3_900, third)
 }
 
 // Whether every call was done. If not, the number of the refusal is shown.
@@ -163,10 +142,9 @@ pub fn episode(rt: &impl Print) -> bool {
         rt,
         b"  round k   inflight_lo   1300 b^k, rounded down   bytes apart, under\n",
     );
-    let reply = rounds(rt);
-    if !reply.is_done() {
+    if let Err(refusal) = rounds(rt) {
         text(rt, b"refused");
-        column(rt, reply.row(), 2);
+        column(rt, refusal.row(), 2);
         text(rt, b"\n");
         return false;
     }

@@ -9,7 +9,7 @@ use episode::episode;
 use filters::WindowedFilter;
 use filters::windowed_filter::{Reason, Sample};
 use table::{column, text};
-use units::{Bandwidth, Reply};
+use units::Bandwidth;
 
 // One number as an `f32` and back, scaled by b, and as a bandwidth times b.
 fn conversion(rt: &impl Print, n: u64, b: f32) {
@@ -31,15 +31,19 @@ fn conversions(rt: &impl Print) {
         rt,
         b"                   n      as f32, and back    scaled by b, bytes   bandwidth n times b\n",
     );
-    conversion(rt, 0, b);
-    conversion(rt, 1, b);
-    conversion(rt, 10, b);
-    conversion(rt, 1_300, b);
-    conversion(rt, 16_777_217, b);
-    conversion(rt, 16_777_219, b);
-    conversion(rt, 771_751_941, b);
-    conversion(rt, 1_099_511_627_776, b);
-    conversion(rt, 18_446_744_073_709_551_615, b);
+    for n in [
+        0,
+        1,
+        10,
+        1_300,
+        16_777_217,
+        16_777_219,
+        771_751_941,
+        1_099_511_627_776,
+        18_446_744_073_709_551_615,
+    ] {
+        conversion(rt, n, b);
+    }
 }
 
 fn estimate(rt: &impl Print, e: Sample) {
@@ -49,18 +53,12 @@ fn estimate(rt: &impl Print, e: Sample) {
 }
 
 fn estimates(rt: &impl Print, filter: WindowedFilter) {
-    let held = filter.held;
-    match held {
-        None => {
-            text(rt, b"  empty");
-        }
-        Some(e) => {
-            let best = e.best;
-            let second = e.second;
-            let third = e.third;
-            estimate(rt, best);
-            estimate(rt, second);
-            estimate(rt, third);
+    match filter.held {
+        None => text(rt, b"  empty"),
+        Some(held) => {
+            estimate(rt, held.best);
+            estimate(rt, held.second);
+            estimate(rt, held.third);
         }
     }
 }
@@ -76,27 +74,24 @@ fn reason(rt: &impl Print, why: Reason) {
         Reason::QuarterRefresh => text(rt, b"  quarter refresh"),
         Reason::HalfRefresh => text(rt, b"  half refresh"),
         Reason::Unchanged => text(rt, b"  unchanged"),
-    };
+    }
 }
 
 // One update, with the reply, what the filter then holds, and why it moved.
-fn update(rt: &impl Print, filter: WindowedFilter, sample: u64, time: u64) -> WindowedFilter {
+fn update(rt: &impl Print, filter: &mut WindowedFilter, sample: u64, time: u64) {
     column(rt, time, 6);
     column(rt, sample, 9);
     let updated = filter.update(sample, time);
-    let reply = updated.reply;
-    match reply {
-        Reply::Done => text(rt, b"  done     "),
-        _ => text(rt, b"  refused 3"),
-    };
-    let next = updated.filter;
-    let why = updated.reason;
-    estimates(rt, next);
-    reason(rt, why);
+    match updated {
+        Ok(_) => text(rt, b"  done     "),
+        Err(_) => text(rt, b"  refused 3"),
+    }
+    estimates(rt, *filter);
+    reason(rt, updated.unwrap_or(Reason::Unchanged));
     text(rt, b"\n");
-    next
 }
 
+// So many that each reason is seen.
 fn windowed(rt: &impl Print) {
     text(
         rt,
@@ -106,23 +101,24 @@ fn windowed(rt: &impl Print) {
         rt,
         b"  time   sample  reply               best         second          third  reason\n",
     );
-    let a = update(rt, WindowedFilter::new(8), 5, 0);
-    let b = update(rt, a, 5, 2);
-    let c = update(rt, b, 5, 3);
-    let d = update(rt, c, 3, 5);
-    let e = update(rt, d, 4, 8);
-    let f = update(rt, e, 2, 9);
-    let g = update(rt, f, 9, 7);
-    longer(rt, update(rt, g, 6, 12));
-}
-
-// Five more, so that each reason is seen.
-fn longer(rt: &impl Print, filter: WindowedFilter) {
-    let a = update(rt, filter, 5, 15);
-    let b = update(rt, a, 2, 20);
-    let c = update(rt, b, 3, 20);
-    let d = update(rt, c, 1, 24);
-    update(rt, d, 2, 25);
+    let mut filter = WindowedFilter::new(8);
+    for (sample, time) in [
+        (5, 0),
+        (5, 2),
+        (5, 3),
+        (3, 5),
+        (4, 8),
+        (2, 9),
+        (9, 7),
+        (6, 12),
+        (5, 15),
+        (2, 20),
+        (3, 20),
+        (1, 24),
+        (2, 25),
+    ] {
+        update(rt, &mut filter, sample, time);
+    }
 }
 
 // Ends where a call of the episode is refused.

@@ -1,6 +1,6 @@
 // Text and right-aligned numbers on standard output. That it can't be written there is passed over.
-pub fn text(rt: &impl Print, bytes: &[u8]) -> bool {
-    rt.write_all(bytes).is_ok()
+pub fn text(rt: &impl Print, bytes: &[u8]) {
+    let _ = rt.write_all(bytes);
 }
 
 fn space(rt: &impl Print) {

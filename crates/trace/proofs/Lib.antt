@@ -1,8 +1,6 @@
 -- Laws on traces.
-pub mod Steps
 pub mod Occur
 pub mod Streams
-pub mod Counts
 pub mod Moves
 pub mod Ran
 pub mod Pieces

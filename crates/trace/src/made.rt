@@ -1,18 +1,16 @@
 // A start and an event of a trace, as calls of the model.
-ghost use Rattle.std.specs.Prelude.{◌≡◌, true};
-ghost use Rattle.units.specs.Reply.{number, fault};
+ghost use Rattle.std.specs.Prelude.{◌≡◌, true, false};
+ghost use Rattle.units.specs.Reply.{number, fault, kept};
 ghost use Rattle.state.specs.Answers.{settled};
 ghost use Rattle.state.specs.Faults.{first, named, started_faults, whole_record, whole_sample};
-ghost use Rattle.events.specs.Event.{event_number, event_next, model_next};
-ghost use Rattle.trace.specs.Made.{params, begins, acked_by, no_state, record_of, sample_of, occurs_number, occurs_next, ends_round};
+ghost use Rattle.trace.specs.Made.{params, begins, no_state, record_of, sample_of, occurs_number, occurs_next, ends_round};
 
-use events::event::Started;
 use events::{on_congestion_event_finish, on_congestion_event_start};
 use state::congestion_event::{CongestionEvent, CongestionEventSample, SendTimeState};
 use state::parts::Totals;
 use state::{NetworkModel, Params};
 use text::line::Event;
-use units::{Bandwidth, Duration, Moment, Reply};
+use units::{Bandwidth, Duration, Moment, Refusal};
 
 // The original's own.
 pub(crate) fn original_params() -> Params
@@ -34,12 +32,11 @@ pub(crate) fn original_params() -> Params
 }
 
 // Whether a start is accepted.
+#[tactic(auto, using(crate::proofs::Occur::is_ok_number), unfolding(crate::specs::Made::begins))]
 pub fn is_begun(time: u64, rtt: u64) -> bool
     ensures { result ≡ begins time rtt }
 {
-    let begun = NetworkModel::new(original_params(), Duration(rtt), Moment(time));
-    let reply = begun.reply;
-    reply.is_done()
+    NetworkModel::new(original_params(), Duration(rtt), Moment(time)).is_ok()
 }
 
 fn no_state() -> SendTimeState
@@ -96,65 +93,18 @@ fn sample_of(e: Event) -> CongestionEventSample
     }
 }
 
-// The event's start, which acks one number or none.
-fn told(
-    model: NetworkModel,
-    event: CongestionEvent,
-    sample: CongestionEventSample,
-    acked: Option<u64>,
-) -> Started
-    ensures reply { number result.reply ≡ event_number model params event sample (acked_by acked) }
-    ensures model { result.model ≡ settled (event_number model params event sample (acked_by acked))
-        (model_next model params event sample (acked_by acked))
-        model }
-    ensures event { result.event ≡ settled (event_number model params event sample (acked_by acked))
-        (event_next model event sample (acked_by acked))
-        event }
-    ensures fault { fault result.reply ≡ named (event_number model params event sample (acked_by acked))
-        (first (started_faults true whole_record event whole_sample sample)) }
-{
-    let params = original_params();
-    match acked {
-        None => on_congestion_event_start(model, params, event, sample, &[]),
-        Some(n) => on_congestion_event_start(model, params, event, sample, &[n]),
-    }
-}
-
-// The reply to an event, the model after it and its finish, and whether a round ended with it.
-#[derive(Clone, Copy)]
-pub struct Occurred {
-    pub reply: Reply,
-    pub model: NetworkModel,
-    pub ended: bool,
-}
-
-// An event and, if it is done, its finish.
-pub(crate) fn occur(model: NetworkModel, e: Event) -> Occurred
-    ensures reply { number result.reply ≡ occurs_number model e }
-    ensures model { result.model ≡ settled (occurs_number model e) (occurs_next model e) model }
-    ensures ended { result.ended ≡ ends_round model e }
-    ensures fault { fault result.reply ≡ named (occurs_number model e)
+// An event and, if it is done, its finish: whether a round ended with it.
+#[tactic(auto, using(crate::proofs::Occur::acked_slice, crate::proofs::Occur::occurs_finish, crate::proofs::Occur::settled_done), unfolding(crate::specs::Made::occurs_number, crate::specs::Made::occurs_next, crate::specs::Made::record_after, crate::specs::Made::started_model, crate::specs::Made::ends_round, state::specs::Answers::settled))]
+pub(crate) fn occur(model: &mut NetworkModel, e: Event) -> Result<bool, Refusal>
+    ensures reply { number result ≡ occurs_number model.old e }
+    ensures model { model.new ≡ settled (occurs_number model.old e) (occurs_next model.old e) model.old }
+    ensures ended { kept result false ≡ ends_round model.old e }
+    ensures fault { fault result ≡ named (occurs_number model.old e)
         (first (started_faults true whole_record (record_of e) whole_sample (sample_of e))) }
 {
-    let event = record_of(e);
-    let sample = sample_of(e);
-    let acked = e.number;
-    let started = told(model, event, sample, acked);
-    let reply = started.reply;
-    let next = started.model;
-    let after = started.event;
-    if !reply.is_done() {
-        return Occurred {
-            reply,
-            model,
-            ended: false,
-        };
-    }
-    let finished = on_congestion_event_finish(next, after);
-    let last = finished.model;
-    Occurred {
-        reply,
-        model: last,
-        ended: after.ended,
-    }
+    let mut event = record_of(e);
+    let acked = e.number.as_slice();
+    on_congestion_event_start(model, original_params(), &mut event, sample_of(e), acked)?;
+    on_congestion_event_finish(model, event)?;
+    Ok(event.ended)
 }

@@ -1,7 +1,7 @@
 // A replay: the state after a line, and the row that shows it.
-ghost use Rattle.std.specs.Prelude.{◌≡◌, cond};
-ghost use Rattle.units.specs.Reply.{number, fault, reply_word, kind_in};
-ghost use Rattle.trace.specs.Replay.{begin, bound, state_of, part_of, answered, counted, begun_with, start_read, sent_read, event_read, read_line, stepped};
+ghost use Rattle.std.specs.Prelude.{◌≡◌, false};
+ghost use Rattle.units.specs.Reply.{row_of, fault_of, number, fault, kept, reply_word, kind_in};
+ghost use Rattle.trace.specs.Replay.{begin, bound, state_of, part_of, answered, counted, start_read, sent_read, event_read, read_line, stepped};
 
 use crate::made::{occur, original_params};
 use crate::tally::Tally;
@@ -10,7 +10,7 @@ use rows::row::{Row, State};
 use state::NetworkModel;
 use state::bounds::UNSET;
 use text::line::{BadField, Event, Line, parse};
-use units::{Duration, Moment, Reply};
+use units::{Duration, Moment, Refusal};
 
 // How many lines were answered, whether a start was accepted, the model, and what a summary counts.
 #[derive(Clone, Copy)]
@@ -33,10 +33,7 @@ pub struct Stepped {
 fn bound_of(n: u64) -> Option<u64>
     ensures { result ≡ bound n }
 {
-    if n == UNSET {
-        return None;
-    }
-    Some(n)
+    if n == UNSET { None } else { Some(n) }
 }
 
 // What a row shows of a model.
@@ -44,43 +41,38 @@ fn bound_of(n: u64) -> Option<u64>
 fn state_of(model: NetworkModel) -> State
     ensures { result ≡ state_of model }
 {
-    let most = model.maxbw;
-    let fastest = most.get();
-    let lo = bound_of(model.lower.inflight);
-    let hi = bound_of(model.high);
     State {
         round: model.rounds.count,
-        maxbw: fastest.0,
-        lo,
-        hi,
+        maxbw: model.maxbw.get().0,
+        lo: bound_of(model.lower.inflight),
+        hi: bound_of(model.high),
     }
 }
 
-// The part of a refusal, by the reply's word: the kind of the bound.
-fn part_of(word: u64) -> Option<u64>
-    ensures { result ≡ part_of (kind_in word) }
+// The part of a refusal: the kind of the bound.
+fn part_of(refusal: Refusal) -> Option<u64>
+    ensures { result ≡ part_of (kind_in (reply_word (row_of refusal) (fault_of refusal))) }
 {
-    let kind = word / 256 % 256;
+    let kind = refusal.word() / 256 % 256;
     if kind == 0 { None } else { Some(kind) }
 }
 
 impl Replay {
     // Before the first line.
+    #[tactic(auto, unfolding(crate::specs::Replay::begin, state::specs::NetworkModel::start_model))]
     pub fn new() -> Replay
         ensures { result ≡ begin }
     {
-        let fresh = NetworkModel::new(original_params(), Duration(0), Moment(0));
-        let model = fresh.model;
         Replay {
             line: 0,
             started: false,
-            model,
+            model: NetworkModel::new(original_params(), Duration(0), Moment(0)).unwrap_or_default(),
             tally: Tally::NONE,
         }
     }
 
     // The next line is counted.
-    #[tactic(auto, unfolding(crate::specs::Replay::counted))]
+    #[tactic(auto, unfolding(crate::specs::Replay::counted, crate::specs::Tally::one_more))]
     fn count(self) -> Replay
         ensures { result ≡ counted self }
     {
@@ -90,81 +82,65 @@ impl Replay {
         }
     }
 
-    // A line's row, and the tally with it.
+    // A line's row, and the tally with it; a line that is done says whether a round ended with it.
     #[tactic(auto, unfolding(crate::specs::Replay::answered, crate::specs::Replay::row_of))]
-    fn answer(self, reply: Reply, ended: bool) -> Stepped
-        ensures { result ≡ answered (number reply) (part_of (kind_in (reply_word (number reply) (fault reply)))) ended self }
+    fn answer(self, reply: Result<bool, Refusal>) -> Stepped
+        ensures { result ≡ answered (number reply) (part_of (kind_in (reply_word (number reply) (fault reply)))) (kept reply false) self }
     {
+        let (refusal, part) = match reply {
+            Ok(_) => (0, None),
+            Err(refusal) => (refusal.row(), part_of(refusal)),
+        };
         let row = Row {
             line: self.line,
-            refusal: reply.row(),
-            part: part_of(reply.word()),
+            refusal,
+            part,
             state: self.started.then_some(state_of(self.model)),
         };
+        let ended = reply.unwrap_or(false);
         let tally = self.tally.count(ended, self.model.lower.inflight, row);
         let replay = Replay { tally, ..self };
         Stepped { replay, row }
     }
 
     // A start that is done begins afresh.
-    fn begun(self, done: bool, fresh: NetworkModel) -> Replay
-        ensures { result ≡ cond done (begun_with self fresh) self }
-    {
-        if done {
-            Replay {
-                started: true,
-                model: fresh,
-                ..self
-            }
-        } else {
-            self
-        }
-    }
-
+    #[tactic(auto, unfolding(crate::specs::Replay::start_read, crate::specs::Replay::answered_by, state::specs::Answers::settled, state::specs::Faults::named, state::specs::NetworkModel::start_model))]
     fn start(self, time: u64, rtt: u64) -> Stepped
         ensures { result ≡ start_read self time rtt }
     {
-        let begun = NetworkModel::new(original_params(), Duration(rtt), Moment(time));
-        let reply = begun.reply;
-        let fresh = begun.model;
-        let done = reply.is_done();
-        let next = self.begun(done, fresh);
-        next.answer(reply, false)
+        match NetworkModel::new(original_params(), Duration(rtt), Moment(time)) {
+            Ok(model) => {
+                let next = Replay {
+                    started: true,
+                    model,
+                    ..self
+                };
+                next.answer(Ok(false))
+            }
+            Err(refusal) => self.answer(Err(refusal)),
+        }
     }
 
-    fn sent(self, time: u64, inflight: u64, packet: u64, bytes: u64) -> Stepped
+    #[tactic(auto, unfolding(crate::specs::Replay::sent_read, crate::specs::Replay::answered_by, state::specs::Answers::settled, state::specs::Faults::named))]
+    fn sent(mut self, time: u64, inflight: u64, packet: u64, bytes: u64) -> Stepped
         ensures { result ≡ sent_read self time inflight packet bytes }
     {
         if !self.started {
-            return self.answer(Reply::BadText, false);
+            return self.answer(Err(Refusal::BadText));
         }
-        let model = self.model;
-        let sent = on_packet_sent(model, Moment(time), inflight, packet, bytes);
-        let reply = sent.reply;
-        let after = sent.model;
-        let next = Replay {
-            model: after,
-            ..self
-        };
-        next.answer(reply, false)
+        let sent = on_packet_sent(&mut self.model, Moment(time), inflight, packet, bytes);
+        self.answer(sent.and(Ok(false)))
     }
 
-    fn event(self, e: Event) -> Stepped
+    #[tactic(auto, unfolding(crate::specs::Replay::event_read, crate::specs::Replay::answered_by))]
+    fn event(mut self, e: Event) -> Stepped
         ensures { result ≡ event_read self e }
     {
-        let begun = self.started;
-        if !begun {
-            return self.answer(Reply::BadText, false);
+        if !self.started {
+            return self.answer(Err(Refusal::BadText));
         }
-        let model = self.model;
-        let occurred = occur(model, e);
-        let reply = occurred.reply;
-        let after = occurred.model;
-        let next = Replay {
-            model: after,
-            ..self
-        };
-        next.answer(reply, occurred.ended)
+        let occurred = occur(&mut self.model, e);
+        self.answer(occurred)
     }
 
     // A line, as it is read.
@@ -174,7 +150,7 @@ impl Replay {
     {
         let next = self.count();
         match l {
-            Err(_) => next.answer(Reply::BadText, false),
+            Err(_) => next.answer(Err(Refusal::BadText)),
             Ok(Line::Start { time, rtt }) => next.start(time, rtt),
             Ok(
                 Line::Sent {

@@ -27,6 +27,7 @@ pub struct Tally {
 }
 
 // One more where it grows, but not above 2^64 - 1.
+#[tactic(auto, unfolding(crate::specs::Tally::grown, crate::specs::Tally::one_more))]
 fn grow(n: u64, grows: bool) -> u64
     ensures { result ≡ grown grows n }
 {
@@ -62,6 +63,7 @@ impl Tally {
     };
 
     // After a row.
+    #[tactic(auto, unfolding(crate::specs::Tally::tallied))]
     pub(crate) fn count(self, ended: bool, lo: u64, row: Row) -> Tally
         ensures { result ≡ tallied self ended lo row }
     {
