@@ -3,11 +3,10 @@ use Prim.Native.Nat.{ℕ, ◌%◌, ◌<◌}
 use mathlib.Core.Bool.{Bool, true, false, cond, not, ◌&&◌, ◌||◌, true≢false}
 use mathlib.Core.List.{List, [], ◌∷◌}
 use mathlib.Core.Path.{◌≡◌, refl, sym, ap, subst, ◌∙◌}
-use borrow.Author.Tests.{eq-eqb, ne_eqb}
 use lib.Dec.{eqb}
 use lib.ListN.{length}
 use Rattle.units.specs.declared.time.Duration.{Duration}
-use Rattle.state.specs.Answers.{settled, zero_length}
+use Rattle.state.specs.Answers.{zero_length}
 use Rattle.state.specs.Bounds.{length_ok}
 use Rattle.state.specs.Faults.{first}
 use Rattle.state.specs.declared.refusals.Rows.{Rows}

@@ -2,7 +2,7 @@
 -- and runs of it one after the other on the same estimator. Definitions only. Theorems.antt says how to read them,
 -- Runs.antt has the signs and words that are not explained there, and crates/rtt/specs/Exact.antt what the samples, the
 -- exact averages and `Holds` are. docs/LAYOUT.md has the words of an estimator, of a call and of an answer.
-use Rattle.std.specs.Prelude.{ℕ, zero, suc, ◌+◌, ◌-◌, ◌*◌, ◌%◌, ◌^◌, ◌<◌, Bool, false, true, cond, not, ◌&&◌, ◌||◌, List, [], ◌∷◌, ◌++◌, ◌≡◌, ltb, eqb, length, None}
+use Rattle.std.specs.Prelude.{ℕ, zero, suc, ◌+◌, ◌-◌, ◌*◌, ◌%◌, ◌^◌, ◌<◌, false, true, cond, not, ◌&&◌, ◌||◌, List, [], ◌∷◌, ◌++◌, ◌≡◌, ltb, eqb, length, None}
 use Rattle.units.specs.Outcomes.{Allowed}
 use Rattle.units.specs.Reply.{row_in, kept}
 use Rattle.units.specs.declared.time.Duration.{Duration}
