@@ -61,7 +61,7 @@ length_answers calls lists at (suc n) s =
 next_answer : (i : ℕ) → 144 + 144 * i ≡ 144 * suc i
 next_answer i = omega arith
 
-next_call : (at i : ℕ) → at + 392 * suc i ≡ at + 392 + 392 * i
+pub next_call : (at i : ℕ) → at + 392 * suc i ≡ at + 392 + 392 * i
 next_call at i = omega arith
 
 answer_at_lem : (calls lists : List ℕ) (i at n : ℕ) (s : State) (rest : List ℕ) → i < n →

@@ -34,8 +34,8 @@ use Rattle.theorems.proofs.Rows.{every_row}
 use Rattle.theorems.specs.Rows.{rows_of}
 use Rattle.theorems.proofs.Below.{Below, nothing, also, every, above_46}
 
-flipped : (a b : Bool) → a ≡ b → not b ≡ not a
-flipped a b e = ap not (sym e)
+pub flipped : {a b : Bool} → a ≡ b → not b ≡ not a
+flipped e = ap not (sym e)
 
 -- ---- row 2 holds exactly where there is a fault
 module _ (w : List ℕ) (s : State) where
@@ -45,12 +45,12 @@ module _ (w : List ℕ) (s : State) where
   each : Below At 46
   unfolding rows_of faults_of other_faults number_faults entry_faults first postponed
   each =
-      also 45 (λ e. rw e (flipped _ _ (slope_complete (word w 1))))
+      also 45 (λ e. rw e (flipped (slope_complete (word w 1))))
       (also 44 (λ e. rw e (refl))
-      (also 43 (λ e. rw e (flipped _ _ (up_complete (record { 0 = word w 1 }) (word w 2))))
-      (also 42 (λ e. rw e (flipped _ _ (refill_complete (word w 1) (record { 0 = word w 2 }))))
-      (also 41 (λ e. rw e (flipped _ _ (cruise_complete (record { 0 = word w 1 }))))
-      (also 40 (λ e. rw e (flipped _ _ (down_asked (word w 1) (word w 2) (word w 3))))
+      (also 43 (λ e. rw e (flipped (up_complete (record { 0 = word w 1 }) (word w 2))))
+      (also 42 (λ e. rw e (flipped (refill_complete (word w 1) (record { 0 = word w 2 }))))
+      (also 41 (λ e. rw e (flipped (cruise_complete (record { 0 = word w 1 }))))
+      (also 40 (λ e. rw e (flipped (down_asked (word w 1) (word w 2) (word w 3))))
       (also 39 (λ e. rw e (refl))
       (also 38 (λ e. rw e (refl))
       (also 37 (λ e. rw e (refl))
@@ -68,29 +68,29 @@ module _ (w : List ℕ) (s : State) where
       (also 25 (λ e. rw e (refl))
       (also 24 (λ e. rw e (refl))
       (also 23 (λ e. rw e (refl))
-      (also 22 (λ e. rw e (flipped _ _ (postpone_complete (record { 0 = word w 1 }) _)))
+      (also 22 (λ e. rw e (flipped (postpone_complete (record { 0 = word w 1 }) _)))
       (also 21 (λ e. rw e (refl))
       (also 20 (λ e. rw e (refl))
       (also 19 (λ e. rw e (refl))
-      (also 18 (λ e. rw e (flipped _ _ (limit_complete (word w 1))))
-      (also 17 (λ e. rw e (flipped _ _ (limit_complete (word w 1))))
-      (also 16 (λ e. rw e (flipped _ _ (gain_asked (word w 1))))
-      (also 15 (λ e. rw e (flipped _ _ (gain_asked (word w 1))))
+      (also 18 (λ e. rw e (flipped (limit_complete (word w 1))))
+      (also 17 (λ e. rw e (flipped (limit_complete (word w 1))))
+      (also 16 (λ e. rw e (flipped (gain_asked (word w 1))))
+      (also 15 (λ e. rw e (flipped (gain_asked (word w 1))))
       (also 14 (λ e. rw e (refl))
       (also 13 (λ e. rw e (refl))
       (also 12 (λ e. rw e (refl))
-      (also 11 (λ e. rw e (flipped _ _ (bdp1_complete (record { 0 = word w 1 }))))
-      (also 10 (λ e. rw e (flipped _ _ (bdp_asked (record { 0 = word w 1 }) (word w 2))))
-      (also 9 (λ e. rw e (flipped _ _ (gain_asked (word w 1))))
+      (also 11 (λ e. rw e (flipped (bdp1_complete (record { 0 = word w 1 }))))
+      (also 10 (λ e. rw e (flipped (bdp_asked (record { 0 = word w 1 }) (word w 2))))
+      (also 9 (λ e. rw e (flipped (gain_asked (word w 1))))
       (also 8 (λ e. rw e (refl))
-      (also 7 (λ e. rw e (flipped _ _ (event_asked w 1)))
-      (also 6 (λ e. rw e (flipped _ _ (event_asked w 1)))
-      (also 5 (λ e. rw e (flipped _ _ (event_asked w 1)))
-      (also 4 (λ e. rw e (flipped _ _ (event_asked w 1)))
-      (also 3 (λ e. rw e (flipped _ _ (started_asked w)))
+      (also 7 (λ e. rw e (flipped (event_asked w 1)))
+      (also 6 (λ e. rw e (flipped (event_asked w 1)))
+      (also 5 (λ e. rw e (flipped (event_asked w 1)))
+      (also 4 (λ e. rw e (flipped (event_asked w 1)))
+      (also 3 (λ e. rw e (flipped (started_asked w)))
       (also 2 (λ e. rw e (refl))
-      (also 1 (λ e. rw e (flipped _ _ (sent_complete (record { 0 = word w 1 }) (word w 2) (word w 4))))
-      (also 0 (λ e. rw e (flipped _ _ (start_complete (record { 0 = word w 2 }) (record { 0 = word w 1 })))) nothing)))))))))))))))))))))))))))))))))))))))))))))
+      (also 1 (λ e. rw e (flipped (sent_complete (record { 0 = word w 1 }) (word w 2) (word w 4))))
+      (also 0 (λ e. rw e (flipped (start_complete (record { 0 = word w 2 }) (record { 0 = word w 1 })))) nothing)))))))))))))))))))))))))))))))))))))))))))))
 
   above : (n : ℕ) → 46 ≤ n → At n
   unfolding rows_of faults_of other_faults entry_faults first

@@ -1,7 +1,7 @@
 -- The exported calls by their contracts: each replies and leaves what its definition says, and is refused by its rows. Assumes nothing.
 use Prim.Native.Nat.{ℕ, ◌<◌}
 use mathlib.Core.Bool.{Bool, true, false, not, ◌&&◌}
-use mathlib.Core.List.{List}
+use mathlib.Core.List.{List, [], ◌∷◌, ◌++◌}
 use mathlib.Core.Logic.{◌↔◌, inl, inr}
 use mathlib.Core.Path.{◌≡◌, refl, sym, ap, subst, ◌∙◌}
 use native.Mathlib.Omega.{arith}
@@ -18,7 +18,12 @@ use Rattle.pairs.specs.Pairs.{run_row}
 use Rattle.guovssalu.specs.FilterRun.{run_reply, run_out}
 use Rattle.guovssalu.specs.ModelRun.{model_row, model_reply, state_out, answers_out}
 use Rattle.guovssalu.specs.Slope.{slope_row, slope_reply, slope_out}
-use Rattle.theorems.specs.Runs.{Run, Ran, FilterRun, Filtered, SlopeRun, Raised, OneOutcome, Conversions, FirstRow, RunRow, FilterRow, SlopeRow}
+use Rattle.theorems.specs.Runs.{Run, Ran, Each, FilterRun, Filtered, SlopeRun, Raised, OneOutcome, Conversions, FirstRow, RunRow, FilterRow, SlopeRow}
+
+-- ---- the last of some runs
+pub each_last : {A : Type 0} (P : A → Type 0) (runs : List A) (r : A) → Each P (runs ++ (r ∷ [])) → P r
+each_last P [] r h = h.0
+each_last P (q ∷ runs) r h = each_last P runs r h.1
 
 -- ---- what is replied and left
 -- a run by its contract, of either function

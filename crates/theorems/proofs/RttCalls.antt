@@ -23,12 +23,9 @@ use Rattle.laws.proofs.Named.{names}
 use Rattle.laws.proofs.Replies.{exactly, answered}
 use Rattle.theorems.specs.Blames.{Named}
 use Rattle.theorems.specs.Rtt.{RttRun, RttRan, rtt_rows, RttCall, EveryRttReply}
-use Rattle.theorems.proofs.Blames.{row_below, word_named, two_some, worded, either_uneven, byte}
+use Rattle.theorems.proofs.Blames.{flipped, row_below, word_named, two_some, worded, either_uneven, byte}
 use Rattle.theorems.proofs.Choice.{both, settled_taken, settled_kept}
 use Rattle.theorems.proofs.Rtt.{rtt_is, rtt_row_lem, rtt_row_is}
-
-flipped : (a b : Bool) → a ≡ b → not b ≡ not a
-flipped a b e = ap not (sym e)
 
 -- ---- there is no fault exactly where every argument is within its bounds
 new_complete : (initial limit : Duration) → eqb (first (new_faults initial limit)) 0 ≡ (length_ok initial && length_ok limit)
@@ -56,9 +53,9 @@ module _ (s : RttStats) (n a b c : ℕ) where
   unfolding rtt_rows call_faults first
   call_asked =
       let R : Rows → List ℕ → Type 0 = λ r l. r.argument ≡ not (eqb (first l) 0) in
-      both R (eqb n 0) _ _ _ _ (flipped _ _ (new_complete (ns a) (ns b)))
-      (both R (eqb n 1) _ _ _ _ (flipped _ _ (update_complete (ns a) (ns b) (flag_fits c)))
-      (both R (eqb n 2) _ _ _ _ (flipped _ _ (delay_complete (ns a))) refl))
+      both R (eqb n 0) _ _ _ _ (flipped (new_complete (ns a) (ns b)))
+      (both R (eqb n 1) _ _ _ _ (flipped (update_complete (ns a) (ns b) (flag_fits c)))
+      (both R (eqb n 2) _ _ _ _ (flipped (delay_complete (ns a))) refl))
 
   call_refused : (call_row s n a b c ≡ 0 → ⊥) → call_left s n a b c ≡ cond (eqb n 0) (stats_new zero_length zero_length) s
   unfolding call_row call_left new_left update_left delay_left
@@ -101,9 +98,9 @@ pub every_rtt_reply : EveryRttReply
 unfolding new_number new_left update_number update_left delay_number delay_left given_number stored_number
 every_rtt_reply =
     record {
-      new = λ initial limit κ x s p. (answered _ p.0 p.1.0, names x _ _ p.0 p.1.1 (flipped _ _ (new_complete initial limit)));
-      updated = λ κ a x e p. (answered _ p.0 p.1.0, names x _ _ p.0 p.1.1 (flipped _ _ (update_complete a.1.0 a.1.1.0 true)));
-      limited = λ κ a x e p. (answered _ p.0 p.1.0, names x _ _ p.0 p.1.1 (flipped _ _ (delay_complete a.1.0)));
+      new = λ initial limit κ x s p. (answered _ p.0 p.1.0, names x _ _ p.0 p.1.1 (flipped (new_complete initial limit)));
+      updated = λ κ a x e p. (answered _ p.0 p.1.0, names x _ _ p.0 p.1.1 (flipped (update_complete a.1.0 a.1.1.0 true)));
+      limited = λ κ a x e p. (answered _ p.0 p.1.0, names x _ _ p.0 p.1.1 (flipped (delay_complete a.1.0)));
       latest = λ t κ x s p. answered _ p.0 p.1;
       smoothed = λ t κ x s p. answered _ p.0 p.1;
       variation = λ t κ x s p. answered _ p.0 p.1;
