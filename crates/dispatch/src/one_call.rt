@@ -158,7 +158,8 @@ fn reply_word<T: Drop>(
     }
 }
 
-// The word of a refusal 2, with the first fault of the call.
+// The word of a refusal 2, with the first fault of the call. `cold`: the loop of a run is built for calls that are done.
+#[cold]
 fn fault_found(least: Moment, call: &[u8], lists: &[u64]) -> u64
     requires { length call.now ≡ 392 }
     ensures { result ≡ reply_word 2 (first (faults_of (call_at call.now lists.now 0) least)) }
