@@ -14,7 +14,6 @@ use Rattle.words.proofs.Laws.{length_bytes, all_bytes_append, word_drop, word_of
 use Rattle.dispatch.specs.Outcome.{Outcome}
 use Rattle.state.specs.Faults.{first}
 use Rattle.places.specs.Places.{faults_of}
-use Rattle.dispatch.proofs.OneCall.{plain_word}
 use Rattle.guovssalu.specs.Reply.{answered}
 use Rattle.dispatch.specs.OneCall.{call_at, call_word, answer_words}
 use Rattle.guovssalu.specs.ModelRun.{outcome_at, answers_to, answers_from, model_row, answers_out}
@@ -23,7 +22,7 @@ use Rattle.drift.specs.Calls.{State}
 use Rattle.theorems.specs.Steps.{step_of, after_step, steps_from, walk, state_left, outcome_in}
 use Rattle.theorems.specs.Runs.{Run, Ran, state_from, count, call, before, answer, answer_word}
 use Rattle.theorems.proofs.Decoded.{every_outcome}
-use Rattle.theorems.proofs.Exported.{run_is, run_done}
+use Rattle.theorems.proofs.Exported.{plain_word, run_is, run_done}
 
 -- what a call with these words is answered in a state
 abbrev words_of : (w : List ℕ) → State → List ℕ
@@ -62,7 +61,7 @@ length_answers calls lists at (suc n) s =
 next_answer : (i : ℕ) → 144 + 144 * i ≡ 144 * suc i
 next_answer i = omega arith
 
-next_call : (at i : ℕ) → at + 392 * suc i ≡ at + 392 + 392 * i
+pub next_call : (at i : ℕ) → at + 392 * suc i ≡ at + 392 + 392 * i
 next_call at i = omega arith
 
 answer_at_lem : (calls lists : List ℕ) (i at n : ℕ) (s : State) (rest : List ℕ) → i < n →
@@ -119,7 +118,7 @@ module _ (r : Run) (ran : Ran r) (done : r.reply ≡ 0) (i : ℕ) (l : i < count
   unfolding call_word
   reply_word_lem plain h =
       let same = plain_word (outcome_of_call r i).reply (first (faults_of (call r i) (before r i).model.minrtt.timestamp)) plain in
-      word_is (subst (λ (n : ℕ). n < 2 ^ 64) same h) ∙ sym same
+      word_is (subst (λ (n : ℕ). n < 2 ^ 64) (sym same) h) ∙ same
 
   pub value_word : (outcome_of_call r i).value < 2 ^ 64 → answer_word r i 1 ≡ (outcome_of_call r i).value
   unfolding answer_words all_bytes

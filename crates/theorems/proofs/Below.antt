@@ -1,10 +1,12 @@
 -- What holds of each number below k, one by one, holds of every number below k. Assumes nothing.
 use Prim.Native.Nat.{ℕ, zero, suc, ◌<◌, ◌≤◌}
-use mathlib.Core.Bool.{Bool, true, false}
-use mathlib.Core.Path.{◌≡◌, refl, subst}
+use mathlib.Core.Bool.{true, false}
+use mathlib.Core.Logic.{inl, inr}
+use mathlib.Core.Path.{◌≡◌, subst}
 use native.Mathlib.Omega.{arith}
 use lib.Dec.{leb, eqb}
-use borrow.Author.Tests.{leb-true, leb-false, le-leb, lt-leb, ne_eqb}
+use borrow.Author.Tests.{le-leb, lt-leb, ne_eqb}
+use Rattle.std.proofs.lemmas.Bool.{cases_lt}
 
 -- what holds of every number below k
 pub data Below (P : ℕ → Type 0) : ℕ → Type 0 where
@@ -13,19 +15,11 @@ pub data Below (P : ℕ → Type 0) : ℕ → Type 0 where
 
 pub below : (P : ℕ → Type 0) (k : ℕ) → Below P k → (n : ℕ) → n < k → P n
 below P zero nothing n l = absurd (omega (arith, l))
-below P (suc k) (also _ p h) n l = go (leb k n) refl (λ less. below P k h n less)
-  where
-    go : (t : Bool) → leb k n ≡ t → (n < k → P n) → P n
-    go true e more = subst P (omega (arith, leb-true k n e, l)) p
-    go false e more = more (leb-false k n e)
+below P (suc k) (also _ p h) n l = elim (cases_lt n k) [ inl less ↦ below P k h n less | inr least ↦ subst P (omega (arith, least, l)) p ]
 
 -- and where it holds of those from k on too, of all
 pub every : (P : ℕ → Type 0) (k : ℕ) → Below P k → ((n : ℕ) → k ≤ n → P n) → (n : ℕ) → P n
-every P k h more n = go (leb k n) refl
-  where
-    go : (t : Bool) → leb k n ≡ t → P n
-    go true e = more n (leb-true k n e)
-    go false e = below P k h n (leb-false k n e)
+every P k h more n = elim (cases_lt n k) [ inl less ↦ below P k h n less | inr least ↦ more n least ]
 
 -- ---- the tests of a number that is at least 46
 pub record Above (n : ℕ) : Type 0 where

@@ -16,10 +16,9 @@ use Rattle.words.specs.Word.{word}
 use Rattle.places.specs.Places.{entry_faults, number_faults, other_faults, faults_of}
 use Rattle.places.proofs.Complete.{event_asked, started_asked, gain_asked, bdp_asked, down_asked}
 use Rattle.units.specs.Reply.{row_in, fault_in}
-use Rattle.units.proofs.reply.Number.{row_back, fault_back}
+use Rattle.units.proofs.refusal.Number.{row_back, fault_back}
 use Rattle.state.specs.declared.refusals.Rows.{Rows}
 use Rattle.dispatch.specs.OneCall.{call_word}
-use Rattle.dispatch.proofs.OneCall.{plain_word}
 use Rattle.laws.specs.Replies.{Exactly}
 use Rattle.laws.proofs.Named.{found}
 use Rattle.drift.specs.Calls.{State}
@@ -29,14 +28,14 @@ use Rattle.guovssalu.specs.ModelRun.{model_row, length_faults, model_reply}
 use Rattle.guovssalu.specs.Slope.{slope_row, window_faults, slope_reply}
 use Rattle.theorems.specs.Blames.{Named, Blames}
 use Rattle.theorems.specs.Runs.{Run, Ran, FilterRun, Filtered, SlopeRun, Raised}
-use Rattle.theorems.proofs.Exported.{run_is, filter_is, slope_is, run_row_is, filter_row_is, slope_row_is, run_row_lem, filter_row, slope_row_lem}
+use Rattle.theorems.proofs.Exported.{plain_word, run_is, filter_is, slope_is, run_row_is, filter_row_is, slope_row_is, run_row_lem, filter_row, slope_row_lem}
 use Rattle.theorems.specs.Steps.{outcome_in}
 use Rattle.theorems.proofs.Rows.{every_row}
 use Rattle.theorems.specs.Rows.{rows_of}
 use Rattle.theorems.proofs.Below.{Below, nothing, also, every, above_46}
 
-flipped : (a b : Bool) → a ≡ b → not b ≡ not a
-flipped a b e = ap not (sym e)
+pub flipped : {a b : Bool} → a ≡ b → not b ≡ not a
+flipped e = ap not (sym e)
 
 -- ---- row 2 holds exactly where there is a fault
 module _ (w : List ℕ) (s : State) where
@@ -46,12 +45,12 @@ module _ (w : List ℕ) (s : State) where
   each : Below At 46
   unfolding rows_of faults_of other_faults number_faults entry_faults first postponed
   each =
-      also 45 (λ e. rw e (flipped _ _ (slope_complete (word w 1))))
+      also 45 (λ e. rw e (flipped (slope_complete (word w 1))))
       (also 44 (λ e. rw e (refl))
-      (also 43 (λ e. rw e (flipped _ _ (up_complete (record { 0 = word w 1 }) (word w 2))))
-      (also 42 (λ e. rw e (flipped _ _ (refill_complete (word w 1) (record { 0 = word w 2 }))))
-      (also 41 (λ e. rw e (flipped _ _ (cruise_complete (record { 0 = word w 1 }))))
-      (also 40 (λ e. rw e (flipped _ _ (down_asked (word w 1) (word w 2) (word w 3))))
+      (also 43 (λ e. rw e (flipped (up_complete (record { 0 = word w 1 }) (word w 2))))
+      (also 42 (λ e. rw e (flipped (refill_complete (word w 1) (record { 0 = word w 2 }))))
+      (also 41 (λ e. rw e (flipped (cruise_complete (record { 0 = word w 1 }))))
+      (also 40 (λ e. rw e (flipped (down_asked (word w 1) (word w 2) (word w 3))))
       (also 39 (λ e. rw e (refl))
       (also 38 (λ e. rw e (refl))
       (also 37 (λ e. rw e (refl))
@@ -69,29 +68,29 @@ module _ (w : List ℕ) (s : State) where
       (also 25 (λ e. rw e (refl))
       (also 24 (λ e. rw e (refl))
       (also 23 (λ e. rw e (refl))
-      (also 22 (λ e. rw e (flipped _ _ (postpone_complete (record { 0 = word w 1 }) _)))
+      (also 22 (λ e. rw e (flipped (postpone_complete (record { 0 = word w 1 }) _)))
       (also 21 (λ e. rw e (refl))
       (also 20 (λ e. rw e (refl))
       (also 19 (λ e. rw e (refl))
-      (also 18 (λ e. rw e (flipped _ _ (limit_complete (word w 1))))
-      (also 17 (λ e. rw e (flipped _ _ (limit_complete (word w 1))))
-      (also 16 (λ e. rw e (flipped _ _ (gain_asked (word w 1))))
-      (also 15 (λ e. rw e (flipped _ _ (gain_asked (word w 1))))
+      (also 18 (λ e. rw e (flipped (limit_complete (word w 1))))
+      (also 17 (λ e. rw e (flipped (limit_complete (word w 1))))
+      (also 16 (λ e. rw e (flipped (gain_asked (word w 1))))
+      (also 15 (λ e. rw e (flipped (gain_asked (word w 1))))
       (also 14 (λ e. rw e (refl))
       (also 13 (λ e. rw e (refl))
       (also 12 (λ e. rw e (refl))
-      (also 11 (λ e. rw e (flipped _ _ (bdp1_complete (record { 0 = word w 1 }))))
-      (also 10 (λ e. rw e (flipped _ _ (bdp_asked (record { 0 = word w 1 }) (word w 2))))
-      (also 9 (λ e. rw e (flipped _ _ (gain_asked (word w 1))))
+      (also 11 (λ e. rw e (flipped (bdp1_complete (record { 0 = word w 1 }))))
+      (also 10 (λ e. rw e (flipped (bdp_asked (record { 0 = word w 1 }) (word w 2))))
+      (also 9 (λ e. rw e (flipped (gain_asked (word w 1))))
       (also 8 (λ e. rw e (refl))
-      (also 7 (λ e. rw e (flipped _ _ (event_asked w 1)))
-      (also 6 (λ e. rw e (flipped _ _ (event_asked w 1)))
-      (also 5 (λ e. rw e (flipped _ _ (event_asked w 1)))
-      (also 4 (λ e. rw e (flipped _ _ (event_asked w 1)))
-      (also 3 (λ e. rw e (flipped _ _ (started_asked w)))
+      (also 7 (λ e. rw e (flipped (event_asked w 1)))
+      (also 6 (λ e. rw e (flipped (event_asked w 1)))
+      (also 5 (λ e. rw e (flipped (event_asked w 1)))
+      (also 4 (λ e. rw e (flipped (event_asked w 1)))
+      (also 3 (λ e. rw e (flipped (started_asked w)))
       (also 2 (λ e. rw e (refl))
-      (also 1 (λ e. rw e (flipped _ _ (sent_complete (record { 0 = word w 1 }) (word w 2) (word w 4))))
-      (also 0 (λ e. rw e (flipped _ _ (start_complete (record { 0 = word w 2 }) (record { 0 = word w 1 })))) nothing)))))))))))))))))))))))))))))))))))))))))))))
+      (also 1 (λ e. rw e (flipped (sent_complete (record { 0 = word w 1 }) (word w 2) (word w 4))))
+      (also 0 (λ e. rw e (flipped (start_complete (record { 0 = word w 2 }) (record { 0 = word w 1 })))) nothing)))))))))))))))))))))))))))))))))))))))))))))
 
   above : (n : ℕ) → 46 ≤ n → At n
   unfolding rows_of faults_of other_faults entry_faults first
@@ -126,7 +125,7 @@ word_named row faults small some =
       names = λ two.
           let same : fault_in (replied row (first faults)) ≡ first faults = fault_back row _ small ∙ rw two in
           rw same (found faults (some two));
-      silent = λ no. sym (plain_word row (first faults) (ne_eqb row 2 no));
+      silent = λ no. plain_word row (first faults) (ne_eqb row 2 no);
     }
 
 -- a 2 has a fault where its row's test says so

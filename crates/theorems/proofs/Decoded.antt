@@ -15,7 +15,7 @@ use Rattle.calls.specs.Question.{Judged, judge_of}
 use Rattle.calls.specs.Enter.{Entry, enter_of}
 use Rattle.drift.specs.Calls.{State, other_number, number_of, other_next, next_of, after}
 use Rattle.theorems.specs.Steps.{Step, Replies, after_step, after_start, Makes, judge_step, enter_step, change_step, step_of}
-use Rattle.theorems.proofs.Choice.{both}
+use Rattle.theorems.proofs.Choice.{both, settled_same}
 
 abbrev pub state : NetworkModel → Cycle → State
 state m y = record { model = m; cycle = y }
@@ -29,7 +29,7 @@ settled_state n m m' y y' = go (eqb n 0)
     go true = refl
     go false = refl
 
-settled_model : (n : ℕ) (m m' : NetworkModel) (y : Cycle) → state (settled n m' m) y ≡ settled n (state m' y) (state m y)
+pub settled_model : (n : ℕ) (m m' : NetworkModel) (y : Cycle) → state (settled n m' m) y ≡ settled n (state m' y) (state m y)
 unfolding settled
 settled_model n m m' y = go (eqb n 0)
   where
@@ -38,20 +38,10 @@ settled_model n m m' y = go (eqb n 0)
     go false = refl
 
 settled_none : (n : ℕ) (m : NetworkModel) (y : Cycle) → state (settled n m m) y ≡ state m y
-unfolding settled
-settled_none n m y = go (eqb n 0)
-  where
-    go : (t : Bool) → state (cond t m m) y ≡ state m y
-    go true = refl
-    go false = refl
+settled_none n m y = λ i. state (settled_same n m i) y
 
 settled_both : (n : ℕ) (m : NetworkModel) (y : Cycle) → state (settled n m m) (settled n y y) ≡ state m y
-unfolding settled
-settled_both n m y = go (eqb n 0)
-  where
-    go : (t : Bool) → state (cond t m m) (cond t y y) ≡ state m y
-    go true = refl
-    go false = refl
+settled_both n m y = λ i. state (settled_same n m i) (settled_same n y i)
 
 module _ (w : List ℕ) (m : NetworkModel) (y : Cycle) where
   abbrev R : Outcome → Step → Type 0

@@ -27,6 +27,7 @@ use Rattle.guovssalu.specs.FilterRun.{run_out}
 use Rattle.worth.specs.Worth.{Step, update, Ran, fed_by, step, go_on, NoneAbove, Promised, Holds, Shows}
 use Rattle.worth.proofs.Worth.{step_holds, stands_under, every_run}
 use Rattle.theorems.specs.Runs.{FilterRun, Filtered, AreBytes, updates_from, PairShows}
+use Rattle.theorems.proofs.Form.{Words, none, also, at_words}
 use Rattle.theorems.proofs.Exported.{filter_is, filter_done, filter_row}
 use Rattle.theorems.proofs.Left.{number_small}
 
@@ -60,13 +61,6 @@ reason_small QuarterRefresh = omega arith
 reason_small HalfRefresh = omega arith
 reason_small Unchanged = omega arith
 
-four : {a b c d : ℕ} (words : List ℕ) → a < 2 ^ 64 → b < 2 ^ 64 → c < 2 ^ 64 → d < 2 ^ 64 → AllWords words → AllWords (a ∷ b ∷ c ∷ d ∷ words)
-four words p q r s more zero = p
-four words p q r s more (suc zero) = q
-four words p q r s more (suc (suc zero)) = r
-four words p q r s more (suc (suc (suc zero))) = s
-four words p q r s more (suc (suc (suc (suc k)))) = more k
-
 -- ---- pair by pair
 module _ (w : ℕ) (src : List ℕ) (bytes : AreBytes src) where
   abbrev pair : ℕ → Sample
@@ -99,14 +93,14 @@ module _ (w : ℕ) (src : List ℕ) (bytes : AreBytes src) where
   none_later f at n h = or_right (not (eqb (windowed_number f (word_at src at)) 0)) (refuses (after_pair f src at) src (at + 16) n) h
 
   -- the words of all pairs
-  all_words : (f : WindowedFilter) (fed : List Sample) (at n : ℕ) → Good f fed → refuses f src at n ≡ false → AllWords (run_words f src at n)
+  all_words : (f : WindowedFilter) (fed : List Sample) (at n : ℕ) → Good f fed → refuses f src at n ≡ false → Words (run_words f src at n)
   unfolding run_words pair_words samples
-  all_words f fed at zero g h i = omega arith
-  all_words f fed at (suc n) g h i =
+  all_words f fed at zero g h = none
+  all_words f fed at (suc n) g h =
       let after = next f fed at n g h in
       let sizes = shown_small w (pair at ∷ fed) _ _ _ _ after.under (shown w (pair at) fed (after_pair f src at).held after.holds.promised) in
-      four (run_words (after_pair f src at) src (at + 16) n) sizes.0 sizes.1 sizes.2 (reason_small (windowed_reason f (word_at src (at + 8)) (word_at src at)))
-      (all_words (after_pair f src at) (pair at ∷ fed) (at + 16) n after (none_later f at n h)) i
+      also sizes.0 (also sizes.1 (also sizes.2 (also (reason_small (windowed_reason f (word_at src (at + 8)) (word_at src at)))
+      (all_words (after_pair f src at) (pair at ∷ fed) (at + 16) n after (none_later f at n h)))))
 
   -- those of pair i, by the run of the pairs up to it
   abbrev Told : Ran → (count i : ℕ) (words : List ℕ) → Type 0
@@ -178,7 +172,7 @@ module _ (r : FilterRun) (h : Filtered r) (bytes : AreBytes r.pairs) (done : r.r
       ap (λ (s : List ℕ). word_at s at) written
       ∙ ap (word_at (sets r.output 0 (all_bytes words))) e
       ∙ sym (get_or_words_at (sets r.output 0 (all_bytes words)) 0 (length words) j l)
-      ∙ ap (λ (s : List ℕ). get_or s j 0) (words_back r.output 0 words room (all_words r.window r.pairs bytes (windowed_new r.window) [] 0 (pairs r.pairs) empty unrefused))
+      ∙ ap (λ (s : List ℕ). get_or s j 0) (words_back r.output 0 words room (at_words words (all_words r.window r.pairs bytes (windowed_new r.window) [] 0 (pairs r.pairs) empty unrefused)))
 
   pub pair_shows : (i : ℕ) → i < pairs r.pairs → PairShows r i
   pair_shows i l =

@@ -7,6 +7,7 @@ use native.Mathlib.Omega.{arith}
 use lib.Dec.{leb, eqb}
 use lib.ListN.{get_or}
 use borrow.Author.Tests.{eqb-true}
+use Rattle.std.proofs.lemmas.Bool.{cond_both}
 use Rattle.state.specs.declared.params.Params.{Params}
 use Rattle.state.specs.declared.congestion_event.CongestionEvent.{CongestionEvent}
 use Rattle.state.specs.declared.congestion_event.CongestionEventSample.{CongestionEventSample}
@@ -20,8 +21,8 @@ use Rattle.drift.specs.Drift.{OfEvent}
 use Rattle.drift.specs.Exact.{Effect}
 use Rattle.theorems.specs.Steps.{Step, Replies, judge_step, enter_step, change_step, step_of, after_step, steps_from, walk}
 use Rattle.theorems.specs.Runs.{Run, Ran, AreBytes, state_from, count, call, before, Each, OfEvents}
-use Rattle.theorems.proofs.Answered.{outcome_of_call, reply_word_lem}
-use Rattle.theorems.proofs.Choice.{arms, either}
+use Rattle.theorems.proofs.Answered.{next_call, outcome_of_call, reply_word_lem}
+use Rattle.theorems.proofs.Choice.{either}
 use Rattle.theorems.proofs.Decoded.{every_outcome}
 use Rattle.theorems.proofs.Reached.{OfStep, AlongSteps, Fair}
 
@@ -59,14 +60,11 @@ module _ (Q : Params → CongestionEvent → CongestionEventSample → Type 0) (
   step_at h =
       let k = get_or w 0 0 in
       either At (eqb k 1) _ _ (λ r d. tt)
-      (arms At (eqb k 3) _ _ (λ e r d. h (eqb-true k 3 e) (r ∙ d))
+      (cond_both (eqb k 3) _ _ At (λ e r d. h (eqb-true k 3 e) (r ∙ d))
       (λ e. either At (eqb k 4) _ _ (λ r d. tt)
       (either At (eqb k 0) _ _ (λ r. tt) (either At (is_judged k) _ _ judge_at (either At (is_asked k) _ _ (λ r. tt) (either At (leb 40 k) _ _ enter_at change_at))))))
 
 -- ---- of all calls of a run
-next_call : (at i : ℕ) → at + 392 * suc i ≡ at + 392 + 392 * i
-next_call at i = omega arith
-
 along_each : (P : Call → Type 0) (calls lists : List ℕ) (at n : ℕ) (s : State)
     → ((i : ℕ) → i < n → OfStep P (step_of (call_at calls lists (at + 392 * i))) (walk (steps_from calls lists at i) s)) → AlongSteps P (steps_from calls lists at n) s
 unfolding steps_from walk

@@ -1,7 +1,7 @@
 -- The exported calls by their contracts: each replies and leaves what its definition says, and is refused by its rows. Assumes nothing.
 use Prim.Native.Nat.{ℕ, ◌<◌}
 use mathlib.Core.Bool.{Bool, true, false, not, ◌&&◌}
-use mathlib.Core.List.{List}
+use mathlib.Core.List.{List, [], ◌∷◌, ◌++◌}
 use mathlib.Core.Logic.{◌↔◌, inl, inr}
 use mathlib.Core.Path.{◌≡◌, refl, sym, ap, subst, ◌∙◌}
 use native.Mathlib.Omega.{arith}
@@ -9,7 +9,7 @@ use lib.Dec.{eqb}
 use lib.ListN.{length}
 use borrow.Author.Tests.{eq-eqb, ne_eqb, eqb-true}
 use Rattle.units.specs.Reply.{row_in}
-use Rattle.units.proofs.reply.Number.{row_back}
+use Rattle.units.proofs.refusal.Number.{row_back}
 use Rattle.state.specs.Faults.{named, replied}
 use Rattle.state.specs.Refusals.{row_of, or_short}
 use Rattle.state.proofs.Rows.{and_left, and_right}
@@ -18,7 +18,12 @@ use Rattle.pairs.specs.Pairs.{run_row}
 use Rattle.guovssalu.specs.FilterRun.{run_reply, run_out}
 use Rattle.guovssalu.specs.ModelRun.{model_row, model_reply, state_out, answers_out}
 use Rattle.guovssalu.specs.Slope.{slope_row, slope_reply, slope_out}
-use Rattle.theorems.specs.Runs.{Run, Ran, FilterRun, Filtered, SlopeRun, Raised, OneOutcome, Conversions, FirstRow, RunRow, FilterRow, SlopeRow}
+use Rattle.theorems.specs.Runs.{Run, Ran, Each, FilterRun, Filtered, SlopeRun, Raised, OneOutcome, Conversions, FirstRow, RunRow, FilterRow, SlopeRow}
+
+-- ---- the last of some runs
+pub each_last : {A : Type 0} (P : A → Type 0) (runs : List A) (r : A) → Each P (runs ++ (r ∷ [])) → P r
+each_last P [] r h = h.0
+each_last P (q ∷ runs) r h = each_last P runs r h.1
 
 -- ---- what is replied and left
 -- a run by its contract, of either function
@@ -114,7 +119,12 @@ run_done r h done = sym (run_row_is r h) ∙ ap (λ (n : ℕ). row_in n) done
 pub filter_done : (r : FilterRun) → Filtered r → r.reply ≡ 0 → run_row r.window r.pairs (length r.output) ≡ 0
 filter_done r h done = sym (filter_row_is r h) ∙ ap (λ (n : ℕ). row_in n) done
 
--- a row of 0 names nothing
+-- a row that is no 2 names nothing
+pub plain_word : (row x : ℕ) → eqb row 2 ≡ false → replied row x ≡ row
+unfolding named
+plain_word row x h = rw h (omega arith)
+
+-- and a row of 0 is a word of 0
 pub done_word : (row x : ℕ) → row ≡ 0 → replied row x ≡ 0
 unfolding named
 done_word row x e = rw e

@@ -42,6 +42,7 @@ use Rattle.theorems.specs.Runs.{Run, Ran, AreBytes, state_from, call, before, an
 use Rattle.theorems.specs.Theorems.{InState, InAnswers, InflightNear, BandwidthNear}
 use Rattle.theorems.proofs.Answered.{outcome_of_call, reply_word_lem, value_word}
 use Rattle.theorems.proofs.Events.{each_fair}
+use Rattle.theorems.proofs.Exported.{each_last}
 use Rattle.theorems.proofs.Left.{from_form, walk_form}
 use Rattle.theorems.proofs.Reached.{Reached, Made, all_made, of_reached}
 
@@ -112,11 +113,6 @@ module _ (effect : Call → State → Effect) (parts : ℕ) (P : List ℕ → Ty
   in_state find same runs r h e =
       let x = exact_after effect parts r (exact_runs effect parts runs unset) in
       subst (λ (l : Option ℕ). Near l x) (sym (same r.left)) (reached (state_from r.left) x (made runs r h e).after)
-
--- the last of some runs
-each_last : (P : Run → Type 0) (runs : List Run) (r : Run) → Each P (runs ++ (r ∷ [])) → P r
-each_last P [] r h = h.0
-each_last P (q ∷ runs) r h = each_last P runs r h.1
 
 module _ (parts : ℕ) (P : List ℕ → Type 0) (Q : Params → CongestionEvent → CongestionEventSample → Type 0) (of_words : (w : List ℕ) → P w → Q (params_from w) (event_from w) (sample_from w)) (Near : Option ℕ → Exact → Type 0)
     (theorem : (p : Params) (rtt : Duration) (now : Moment) (y : Cycle) (calls : List Call) → Along (OfEvent Q) calls (started p rtt now y) → Near (inflight_low (run calls (started p rtt now y))) (exact_run inflight_effect parts calls (started p rtt now y) unset)) where

@@ -259,7 +259,7 @@ module _ (w : List ℕ) (h : AllWords w) where
   read_form = record { free = read_free; bound = read_bound; free_cycle = read_cycle_free; bound_cycle = read_cycle_bound }
 
 -- ---- written into words
-flag_word_lem : (b : Bool) → Word (flag_word b)
+pub flag_word_lem : (b : Bool) → Word (flag_word b)
 flag_word_lem true = omega arith
 flag_word_lem false = omega arith
 
@@ -294,7 +294,7 @@ at_words [] none i = omega arith
 at_words (x ∷ l) (also p h) zero = p
 at_words (x ∷ l) (also p h) (suc i) = at_words l h i
 
-append_words : (a b : List ℕ) → Words a → Words b → Words (a ++ b)
+pub append_words : (a b : List ℕ) → Words a → Words b → Words (a ++ b)
 append_words [] b none q = q
 append_words (x ∷ a) b (also p h) q = also p (append_words a b h q)
 

@@ -10,6 +10,7 @@ use lib.Dec.{leb, ltb, eqb}
 use lib.Ieee as Ieee
 use lib.Ieee.{Float, binary32}
 use borrow.Author.Tests.{eqb-true, eqb-false}
+use Rattle.std.proofs.lemmas.Bool.{cond_both}
 use Rattle.filters.specs.declared.round_trip_counter.RoundTripCounter.{RoundTripCounter}
 use Rattle.units.specs.declared.time.Duration.{Duration}
 use Rattle.units.specs.declared.time.Moment.{Moment}
@@ -44,7 +45,7 @@ use Rattle.arguments.specs.Params.{params_from}
 use Rattle.words.proofs.Back.{float_fits_lem}
 use Rattle.dispatch.specs.Outcome.{is_judged, is_asked}
 use Rattle.theorems.specs.Steps.{Step, begins, makes, keeps, judge_step, enter_step, change_step, step_of, after_start, after_step}
-use Rattle.theorems.proofs.Choice.{arms, either}
+use Rattle.theorems.proofs.Choice.{either}
 use Rattle.theorems.proofs.Decoded.{state}
 use Rattle.theorems.proofs.Form.{Word, Single, EndForm, FreeModel, Bound, FreeCycle, BoundCycle, InForm, bound_ok, bound_cycle_ok}
 
@@ -273,7 +274,7 @@ next_within c s g d h =
 
 after_kept : (Q : State → Type 0) (c : Call) (s : State) → (number_of c s ≡ 0 → Q (next_of c s)) → Q s → Q (after c s)
 unfolding after settled
-after_kept Q c s p q = arms Q (eqb (number_of c s) 0) (next_of c s) s (λ e. p (eqb-true (number_of c s) 0 e)) (λ e. q)
+after_kept Q c s p q = cond_both (eqb (number_of c s) 0) (next_of c s) s Q (λ e. p (eqb-true (number_of c s) 0 e)) (λ e. q)
 
 -- ---- a start
 new_free : (cwnd pacing : Float) (ignore : Bool) (rtt : Duration) (now : Moment) → Single cwnd → Single pacing → FreeModel (model_new cwnd pacing ignore rtt now)
@@ -343,13 +344,13 @@ refused_within = refl
 
 fresh_within : (t : Moment) → cycle_ok (fresh_cycle t) ≡ true
 unfolding fresh_cycle fresh_number settled row_of
-fresh_within t = arms (λ y. cycle_ok y ≡ true) (eqb (fresh_number t) 0) (cycle_new t) (cycle_new zero_moment) (λ e. P.fresh_kept t (eqb-true (fresh_number t) 0 e)) (λ e. P.fresh_kept zero_moment refl)
+fresh_within t = cond_both (eqb (fresh_number t) 0) (cycle_new t) (cycle_new zero_moment) (λ y. cycle_ok y ≡ true) (λ e. P.fresh_kept t (eqb-true (fresh_number t) 0 e)) (λ e. P.fresh_kept zero_moment refl)
 
 pub start_within : (p : Params) (rtt : Duration) (now : Moment) → Within (after_start p rtt now)
 unfolding after_start start_model settled
 start_within p rtt now =
     let n = start_number p rtt now in (
-      arms (λ m. model_ok m ≡ true) (eqb n 0) (model_new p.cwnd p.pacing p.ignore rtt now) (model_new one one false zero_length zero_moment)
+      cond_both (eqb n 0) (model_new p.cwnd p.pacing p.ignore rtt now) (model_new one one false zero_length zero_moment) (λ m. model_ok m ≡ true)
           (λ e. M.start_kept p rtt now (eqb-true n 0 e))
           (λ e. refused_within),
       fresh_within (settled n now zero_moment),

@@ -6,6 +6,7 @@ use mathlib.Core.Path.{◌≡◌, refl, ap}
 use lib.Dec.{leb, eqb}
 use lib.ListN.{get_or}
 use borrow.Author.Tests.{ne_eqb, eqb-true}
+use Rattle.std.proofs.lemmas.Bool.{cond_both}
 use Rattle.state.specs.declared.network_model.NetworkModel.{NetworkModel}
 use Rattle.state.specs.Answers.{settled}
 use Rattle.state.specs.Refusals.{row_of}
@@ -18,19 +19,15 @@ use Rattle.dispatch.specs.Outcome.{Outcome}
 use Rattle.dispatch.specs.Outcome.{is_judged, is_asked, no_event, start_outcome, send_outcome, event_outcome, finish_outcome, judge_outcome, ask_outcome, enter_outcome, change_outcome, outcome_of}
 use Rattle.drift.specs.Calls.{State}
 use Rattle.theorems.specs.Steps.{Refused, fresh, state_left, outcome_in}
-use Rattle.theorems.proofs.Choice.{arms, either}
+use Rattle.theorems.proofs.Choice.{either, settled_kept}
 use Rattle.theorems.proofs.Decoded.{state}
 
 -- ---- what is settled stays as it was
-value_kept : {A : Type 0} (n : ℕ) (x y : A) → (n ≡ 0 → ⊥) → settled n x y ≡ y
-unfolding settled
-value_kept n x y h = rw (ne_eqb n 0 h)
-
 model_kept : (n : ℕ) (m' m : NetworkModel) (y : Cycle) → (n ≡ 0 → ⊥) → state (settled n m' m) y ≡ state m y
-model_kept n m' m y h = ap (λ (z : NetworkModel). state z y) (value_kept n m' m h)
+model_kept n m' m y h = ap (λ (z : NetworkModel). state z y) (settled_kept n m' m h)
 
 both_kept : (n : ℕ) (m' m : NetworkModel) (y' y : Cycle) → (n ≡ 0 → ⊥) → state (settled n m' m) (settled n y' y) ≡ state m y
-both_kept n m' m y' y h = λ i. state (value_kept n m' m h i) (value_kept n y' y h i)
+both_kept n m' m y' y h = λ i. state (settled_kept n m' m h i) (settled_kept n y' y h i)
 
 module _ (w : List ℕ) (s : State) where
   -- of a call that is a start or not, and an event's or not
@@ -50,11 +47,11 @@ module _ (w : List ℕ) (s : State) where
 
   judge : P false false (judge_outcome w s.model s.cycle)
   unfolding judge_outcome
-  judge h = (model_kept _ _ s.model s.cycle h, ap flag_word (value_kept _ _ false h), refl)
+  judge h = (model_kept _ _ s.model s.cycle h, ap flag_word (settled_kept _ _ false h), refl)
 
   ask : P false false (ask_outcome w s.model s.cycle)
   unfolding ask_outcome
-  ask h = (refl, value_kept _ _ 0 h, refl)
+  ask h = (refl, settled_kept _ _ 0 h, refl)
 
   enter : P false false (enter_outcome w s.model s.cycle)
   unfolding enter_outcome
@@ -67,7 +64,7 @@ module _ (w : List ℕ) (s : State) where
   event : P false true (event_outcome w s.model s.cycle)
   unfolding event_outcome
   event h =
-      (model_kept _ _ s.model s.cycle h, refl, value_kept _ _ (event_in w) h)
+      (model_kept _ _ s.model s.cycle h, refl, settled_kept _ _ (event_in w) h)
 
   start : P true false (start_outcome w)
   unfolding start_outcome start_model settled fresh_cycle fresh_number row_of
@@ -78,10 +75,10 @@ module _ (w : List ℕ) (s : State) where
   outcome =
       let n = get_or w 0 0 in
       let Q = P (eqb n 0) (eqb n 3) in
-      arms Q (eqb n 1) _ _ (λ e. rw (eqb-true n 1 e) send)
-      (λ _. arms Q (eqb n 3) _ _ (λ e. rw (eqb-true n 3 e) event)
-      (λ no-event. arms Q (eqb n 4) _ _ (λ e. rw (eqb-true n 4 e) finish)
-      (λ _. arms Q (eqb n 0) _ _ (λ e. rw (eqb-true n 0 e) start)
+      cond_both (eqb n 1) _ _ Q (λ e. rw (eqb-true n 1 e) send)
+      (λ _. cond_both (eqb n 3) _ _ Q (λ e. rw (eqb-true n 3 e) event)
+      (λ no-event. cond_both (eqb n 4) _ _ Q (λ e. rw (eqb-true n 4 e) finish)
+      (λ _. cond_both (eqb n 0) _ _ Q (λ e. rw (eqb-true n 0 e) start)
       (λ no_start.
       either Q (is_judged n) _ _ (plain _ _ _ no_start no-event judge)
       (either Q (is_asked n) _ _ (plain _ _ _ no_start no-event ask)

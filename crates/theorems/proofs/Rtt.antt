@@ -10,7 +10,7 @@ use lib.Seq.{sets}
 use borrow.Author.Tests.{eq-eqb, ne_eqb, eqb-true}
 use Rattle.units.specs.Reply.{row_in}
 use Rattle.units.specs.declared.time.Duration.{Duration}
-use Rattle.units.proofs.reply.Number.{row_back}
+use Rattle.units.proofs.refusal.Number.{row_back}
 use Rattle.state.specs.Answers.{settled}
 use Rattle.words.specs.Word.{flag_word, flag_of, flag_fits}
 use Rattle.words.specs.Words.{word_at, words_at, all_bytes}
@@ -27,7 +27,8 @@ use Rattle.guovssalu.specs.RttRun.{rtt_reply, rtt_answers, rtt_left, rtt_answers
 use Rattle.guovssalu.proofs.RttRun.{run_room, run_whole}
 use Rattle.theorems.specs.Runs.{Each}
 use Rattle.theorems.specs.Rtt.{RttRun, RttRan, OneRttOutcome, rtt_count, RttRow, rtt_before, rtt_step, rtt_steps, RttChained, RttStarts, RttHistory, taken_before, taken_after, taken_runs, nothing, InRttBytes}
-use Rattle.theorems.proofs.Exported.{stored_row, below, done_word, answered_refused}
+use Rattle.theorems.proofs.Form.{none, also, flag_word_lem, at_words}
+use Rattle.theorems.proofs.Exported.{each_last, stored_row, below, done_word, answered_refused}
 
 -- ---- what is replied and left
 pub rtt_is : (r : RttRun) → RttRan r →
@@ -95,19 +96,9 @@ Small s = (s.latest.0 < 2 ^ 64) × (s.minimum.0 < 2 ^ 64) × (s.smoothed.0 < 2 ^
 pub small : (s : RttStats) → stats_ok s ≡ true → Small s
 small s h = let b = lengths s h in (omega (arith, b.0), omega (arith, b.1), omega (arith, b.2), omega (arith, b.3), omega (arith, b.4))
 
-flag_small : (b : Bool) → flag_word b < 2 ^ 64
-flag_small true = omega arith
-flag_small false = omega arith
-
 six : (s : RttStats) → Small s → AllWords (stats_words s)
 unfolding stats_words
-six s h zero = h.0
-six s h (suc zero) = h.1
-six s h (suc (suc zero)) = h.2
-six s h (suc (suc (suc zero))) = h.3
-six s h (suc (suc (suc (suc zero)))) = h.4
-six s h (suc (suc (suc (suc (suc zero))))) = flag_small s.sampled
-six s h (suc (suc (suc (suc (suc (suc k)))))) = omega arith
+six s h = at_words (stats_words s) (also h.0 (also h.1 (also h.2 (also h.3 (also h.4 (also (flag_word_lem s.sampled) none))))))
 
 from_words : (s : RttStats) → stats_from (stats_words s) ≡ s
 unfolding stats_from stats_words
@@ -214,10 +205,6 @@ along [] r bytes q each chain a = subst (λ (b : List ℕ). Along b q) (sym chai
 along (x ∷ runs) r bytes q each chain a =
     along runs r x.left (taken_after x q) each.1 chain.1 (next_along x q each.0 (subst (λ (b : List ℕ). Along b q) (sym chain.0) a))
 
-pub last_ran : (runs : List RttRun) (r : RttRun) → Each RttRan (runs ++ (r ∷ [])) → RttRan r
-last_ran [] r each = each.0
-last_ran (x ∷ runs) r each = last_ran runs r each.1
-
 taken_last : (runs : List RttRun) (r : RttRun) (q : Ran) → taken_runs (runs ++ (r ∷ [])) q ≡ taken_after r (taken_runs runs q)
 unfolding taken_runs
 taken_last [] r q = refl
@@ -228,7 +215,7 @@ last_along : (runs : List RttRun) (r : RttRun) → RttHistory (runs ++ (r ∷ []
 unfolding taken_runs
 last_along [] r h = first_along r h.ran.0 h.order.0
 last_along (x ∷ runs) r h =
-    next_along r (taken_runs runs (taken_after x nothing)) (last_ran runs r h.ran.1)
+    next_along r (taken_runs runs (taken_after x nothing)) (each_last RttRan runs r h.ran.1)
     (along runs r x.left (taken_after x nothing) h.ran.1 h.order.1 (first_along x h.ran.0 h.order.0))
 
 pub in_bytes : InRttBytes

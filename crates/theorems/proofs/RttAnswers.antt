@@ -10,6 +10,7 @@ use native.Mathlib.Omega.{arith}
 use lib.Dec.{eqb}
 use lib.ListN.{length, get_or, length-append, get_or-append}
 use lib.Seq.{sets}
+use Rattle.std.proofs.lemmas.List.{get_or-append-add}
 use borrow.Author.Tests.{eq-eqb, eqb-true}
 use Rattle.state.specs.Answers.{settled, zero_length}
 use Rattle.state.specs.Bounds.{length_ok}
@@ -28,8 +29,10 @@ use Rattle.theorems.specs.Runs.{AreBytes}
 use Rattle.theorems.specs.Rtt.{RttRun, RttRan, RttStarts, rtt_count, rtt_rows, rtt_before, rtt_word, rtt_steps, taken_runs, nothing, Shown, InRttAnswers}
 use Rattle.theorems.proofs.Blames.{row_below}
 use Rattle.theorems.proofs.Choice.{either}
+use Rattle.theorems.proofs.Exported.{each_last}
+use Rattle.theorems.proofs.Form.{Words, none, also, at_words, append_words}
 use Rattle.theorems.proofs.Left.{number_small}
-use Rattle.theorems.proofs.Rtt.{Small, small, words_read, read_back, length_words, left_is, room, written_is, last_ran, reaches}
+use Rattle.theorems.proofs.Rtt.{Small, small, words_read, read_back, length_words, left_is, room, written_is, reaches}
 use Rattle.theorems.proofs.RttCalls.{call_row_lem, every_rtt_call}
 
 -- ---- the words are numbers of 64 bits
@@ -97,15 +100,7 @@ shown_word s h = go s.sampled
     go true = h
     go false = omega arith
 
-five : {a b c d e : ℕ} → a < 2 ^ 64 → b < 2 ^ 64 → c < 2 ^ 64 → d < 2 ^ 64 → e < 2 ^ 64 → AllWords (a ∷ b ∷ c ∷ d ∷ e ∷ [])
-five p q r s t zero = p
-five p q r s t (suc zero) = q
-five p q r s t (suc (suc zero)) = r
-five p q r s t (suc (suc (suc zero))) = s
-five p q r s t (suc (suc (suc (suc zero)))) = t
-five p q r s t (suc (suc (suc (suc (suc k))))) = omega arith
-
-answer_small : (s : RttStats) (n a b c : ℕ) → AllWords (answer_words s n a b c)
+answer_small : (s : RttStats) (n a b c : ℕ) → Words (answer_words s n a b c)
 unfolding answer_words settled shown
 answer_small s n a b c =
     let row = call_row s n a b c in
@@ -113,21 +108,16 @@ answer_small s n a b c =
     go (eqb row 0) refl word
   where
     go : (t : Bool) → eqb (call_row s n a b c) 0 ≡ t → replied (call_row s n a b c) (first (call_faults n a b c)) < 2 ^ 64 →
-        AllWords (replied (call_row s n a b c) (first (call_faults n a b c)) ∷ cond t (shown (call_left s n a b c)) (0 ∷ 0 ∷ 0 ∷ 0 ∷ []))
+        Words (replied (call_row s n a b c) (first (call_faults n a b c)) ∷ cond t (shown (call_left s n a b c)) (0 ∷ 0 ∷ 0 ∷ 0 ∷ []))
     go true e w =
         let k = small (call_left s n a b c) (left_within s n a b c (eqb-true _ 0 e)) in
-        five w k.0 (shown_word (call_left s n a b c) k.1) k.2 k.3
-    go false e w = five w (omega arith) (omega arith) (omega arith) (omega arith)
+        also w (also k.0 (also (shown_word (call_left s n a b c) k.1) (also k.2 (also k.3 none))))
+    go false e w = also w (also (omega arith) (also (omega arith) (also (omega arith) (also (omega arith) none))))
 
-both_small : (l k : List ℕ) → AllWords l → AllWords k → AllWords (l ++ k)
-both_small [] k p q i = q i
-both_small (x ∷ l) k p q zero = p 0
-both_small (x ∷ l) k p q (suc i) = both_small l k (λ j. p (suc j)) q i
-
-answers_small : (s : RttStats) (src : List ℕ) (at n : ℕ) → AllWords (answers_to s src at n)
+answers_small : (s : RttStats) (src : List ℕ) (at n : ℕ) → Words (answers_to s src at n)
 unfolding answers_to answer_at
-answers_small s src at zero i = omega arith
-answers_small s src at (suc n) i = both_small (answer_at s src at) (answers_to (left_at s src at) src (at + 32) n) (answer_small s _ _ _ _) (answers_small (left_at s src at) src (at + 32) n) i
+answers_small s src at zero = none
+answers_small s src at (suc n) = append_words (answer_at s src at) (answers_to (left_at s src at) src (at + 32) n) (answer_small s _ _ _ _) (answers_small (left_at s src at) src (at + 32) n)
 
 -- ---- word j of answer i
 length_answers : (s : RttStats) (src : List ℕ) (at n : ℕ) → length (answers_to s src at n) ≡ 5 * n
@@ -136,12 +126,6 @@ length_answers s src at zero = refl
 length_answers s src at (suc n) =
     length-append (answer_at s src at) (answers_to (left_at s src at) src (at + 32) n)
     ∙ omega (arith, length_answer s src at, length_answers (left_at s src at) src (at + 32) n)
-
-get_or_right : (l k : List ℕ) (n : ℕ) → get_or (l ++ k) (length l + n) 0 ≡ get_or k n 0
-get_or_right [] k n = ap (λ (x : ℕ). get_or k x 0) (zero-add n)
-get_or_right (x ∷ l) k n =
-    let next : suc (length l) + n ≡ suc (length l + n) = omega arith in
-    ap (λ (y : ℕ). get_or (x ∷ (l ++ k)) y 0) next ∙ get_or_right l k n
 
 answer_word_lem : (s : RttStats) (src : List ℕ) (at n i j : ℕ) → i < n → j < 5 → get_or (answers_to s src at n) (5 * i + j) 0 ≡ get_or (answer_at (left_by s src at i) src (at + 32 * i)) j 0
 unfolding answers_to left_by
@@ -154,7 +138,7 @@ answer_word_lem s src at (suc n) (suc i) j h k =
     let there : 5 * suc i + j ≡ length (answer_at s src at) + (5 * i + j) = rw (length_answer s src at) (omega arith) in
     let next : at + 32 + 32 * i ≡ at + 32 * suc i = omega arith in
     ap (λ (x : ℕ). get_or (answers_to s src at (suc n)) x 0) there
-    ∙ get_or_right (answer_at s src at) (answers_to (left_at s src at) src (at + 32) n) (5 * i + j)
+    ∙ get_or-append-add (answer_at s src at) (answers_to (left_at s src at) src (at + 32) n) (5 * i + j) 0
     ∙ answer_word_lem (left_at s src at) src (at + 32) n i j (omega (arith, h)) k
     ∙ ap (λ (x : ℕ). get_or (answer_at (left_by (left_at s src at) src (at + 32) i) src x) j 0) next
 
@@ -173,7 +157,7 @@ module _ (r : RttRun) (h : RttRan r) (done : r.reply ≡ 0) where
       ap (λ (s : List ℕ). word_at s (40 * i + 8 * j)) (written_is r h done)
       ∙ ap (word_at (sets r.answers 0 (all_bytes words))) at
       ∙ sym (get_or_words_at (sets r.answers 0 (all_bytes words)) 0 (length words) (5 * i + j) within)
-      ∙ ap (λ (s : List ℕ). get_or s (5 * i + j) 0) (words_back r.answers 0 words fits (answers_small (stats_in r.state) r.calls 0 (rtt_count r)))
+      ∙ ap (λ (s : List ℕ). get_or s (5 * i + j) 0) (words_back r.answers 0 words fits (at_words words (answers_small (stats_in r.state) r.calls 0 (rtt_count r))))
       ∙ answer_word_lem (stats_in r.state) r.calls 0 (rtt_count r) i j l k
       ∙ ap (λ (x : ℕ). get_or (answer_at (rtt_before r i) r.calls x) j 0) (zero-add (32 * i))
 
@@ -275,7 +259,7 @@ shown_promised (new ∷ older) s h = (h.latest, minimum_is s.sampled h.sampled, 
 
 pub in_answers : InRttAnswers
 in_answers runs r i h accepted =
-    let ran = last_ran runs r h.ran in
+    let ran = each_last RttRan runs r h.ran in
     let q = taken_runs runs nothing in
     let made = accepted.made in
     let now = shows (rtt_before r i) r.calls (32 * i) (sym (word_is r ran accepted.done i 0 made (omega arith)) ∙ accepted.accepted) in

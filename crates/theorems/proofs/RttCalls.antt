@@ -3,11 +3,10 @@ use Prim.Native.Nat.{ℕ, ◌%◌, ◌<◌}
 use mathlib.Core.Bool.{Bool, true, false, cond, not, ◌&&◌, ◌||◌, true≢false}
 use mathlib.Core.List.{List, [], ◌∷◌}
 use mathlib.Core.Path.{◌≡◌, refl, sym, ap, subst, ◌∙◌}
-use borrow.Author.Tests.{eq-eqb, ne_eqb}
 use lib.Dec.{eqb}
 use lib.ListN.{length}
 use Rattle.units.specs.declared.time.Duration.{Duration}
-use Rattle.state.specs.Answers.{settled, zero_length}
+use Rattle.state.specs.Answers.{zero_length}
 use Rattle.state.specs.Bounds.{length_ok}
 use Rattle.state.specs.Faults.{first}
 use Rattle.state.specs.declared.refusals.Rows.{Rows}
@@ -24,12 +23,9 @@ use Rattle.laws.proofs.Named.{names}
 use Rattle.laws.proofs.Replies.{exactly, answered}
 use Rattle.theorems.specs.Blames.{Named}
 use Rattle.theorems.specs.Rtt.{RttRun, RttRan, rtt_rows, RttCall, EveryRttReply}
-use Rattle.theorems.proofs.Blames.{row_below, word_named, two_some, worded, either_uneven, byte}
-use Rattle.theorems.proofs.Choice.{both}
+use Rattle.theorems.proofs.Blames.{flipped, row_below, word_named, two_some, worded, either_uneven, byte}
+use Rattle.theorems.proofs.Choice.{both, settled_taken, settled_kept}
 use Rattle.theorems.proofs.Rtt.{rtt_is, rtt_row_lem, rtt_row_is}
-
-flipped : (a b : Bool) → a ≡ b → not b ≡ not a
-flipped a b e = ap not (sym e)
 
 -- ---- there is no fault exactly where every argument is within its bounds
 new_complete : (initial limit : Duration) → eqb (first (new_faults initial limit)) 0 ≡ (length_ok initial && length_ok limit)
@@ -57,14 +53,9 @@ module _ (s : RttStats) (n a b c : ℕ) where
   unfolding rtt_rows call_faults first
   call_asked =
       let R : Rows → List ℕ → Type 0 = λ r l. r.argument ≡ not (eqb (first l) 0) in
-      both R (eqb n 0) _ _ _ _ (flipped _ _ (new_complete (ns a) (ns b)))
-      (both R (eqb n 1) _ _ _ _ (flipped _ _ (update_complete (ns a) (ns b) (flag_fits c)))
-      (both R (eqb n 2) _ _ _ _ (flipped _ _ (delay_complete (ns a))) refl))
-
-  -- what is settled stays as it was
-  kept : {A : Type 0} (k : ℕ) (x y : A) → (k ≡ 0 → ⊥) → settled k x y ≡ y
-  unfolding settled
-  kept k x y h = rw (ne_eqb k 0 h)
+      both R (eqb n 0) _ _ _ _ (flipped (new_complete (ns a) (ns b)))
+      (both R (eqb n 1) _ _ _ _ (flipped (update_complete (ns a) (ns b) (flag_fits c)))
+      (both R (eqb n 2) _ _ _ _ (flipped (delay_complete (ns a))) refl))
 
   call_refused : (call_row s n a b c ≡ 0 → ⊥) → call_left s n a b c ≡ cond (eqb n 0) (stats_new zero_length zero_length) s
   unfolding call_row call_left new_left update_left delay_left
@@ -73,15 +64,10 @@ module _ (s : RttStats) (n a b c : ℕ) where
       go : (x y z : Bool) →
           (cond x (new_number (ns a) (ns b)) (cond y (update_number s (ns a) (ns b) (flag_fits c)) (cond z (delay_number s (ns a)) (given_number s false))) ≡ 0 → ⊥) →
           cond x (new_left (ns a) (ns b)) (cond y (update_left s (ns a) (ns b) (flag_of c) (flag_fits c)) (cond z (delay_left s (ns a)) s)) ≡ cond x (stats_new zero_length zero_length) s
-      go true y z h = kept _ _ _ h
-      go false true z h = kept _ _ _ h
-      go false false true h = kept _ _ _ h
+      go true y z h = settled_kept _ _ _ h
+      go false true z h = settled_kept _ _ _ h
+      go false false true h = settled_kept _ _ _ h
       go false false false h = refl
-
-  -- and what is done is taken
-  done_is : {A : Type 0} (k : ℕ) (x y : A) → k ≡ 0 → settled k x y ≡ x
-  unfolding settled
-  done_is k x y h = rw (eq-eqb k 0 h)
 
   call_done : call_row s n a b c ≡ 0 →
       call_left s n a b c ≡ cond (eqb n 0) (stats_new (ns a) (ns b)) (cond (eqb n 1) (update_next s (ns a) (ns b) (flag_of c)) (delay_next s (ns a)))
@@ -92,9 +78,9 @@ module _ (s : RttStats) (n a b c : ℕ) where
           cond x (new_number (ns a) (ns b)) (cond y (update_number s (ns a) (ns b) (flag_fits c)) (cond z (delay_number s (ns a)) (given_number s false))) ≡ 0 →
           cond x (new_left (ns a) (ns b)) (cond y (update_left s (ns a) (ns b) (flag_of c) (flag_fits c)) (cond z (delay_left s (ns a)) s))
           ≡ cond x (stats_new (ns a) (ns b)) (cond y (update_next s (ns a) (ns b) (flag_of c)) (delay_next s (ns a)))
-      go true y z h = done_is _ _ _ h
-      go false true z h = done_is _ _ _ h
-      go false false true h = done_is _ _ _ h
+      go true y z h = settled_taken _ _ _ h
+      go false true z h = settled_taken _ _ _ h
+      go false false true h = settled_taken _ _ _ h
       go false false false h = absurd (true≢false (sym (given_fine s false h).1))
 
   pub every_rtt_call : RttCall s n a b c
@@ -112,9 +98,9 @@ pub every_rtt_reply : EveryRttReply
 unfolding new_number new_left update_number update_left delay_number delay_left given_number stored_number
 every_rtt_reply =
     record {
-      new = λ initial limit κ x s p. (answered _ p.0 p.1.0, names x.reply _ _ p.0 p.1.1 (flipped _ _ (new_complete initial limit)));
-      updated = λ t latest delay confirmed κ x s p. (answered _ p.0 p.1.0, names x.reply _ _ p.0 p.1.1 (flipped _ _ (update_complete latest delay true)));
-      limited = λ t limit κ x s p. (answered _ p.0 p.1.0, names x.reply _ _ p.0 p.1.1 (flipped _ _ (delay_complete limit)));
+      new = λ initial limit κ x s p. (answered _ p.0 p.1.0, names x _ _ p.0 p.1.1 (flipped (new_complete initial limit)));
+      updated = λ κ a x e p. (answered _ p.0 p.1.0, names x _ _ p.0 p.1.1 (flipped (update_complete a.1.0 a.1.1.0 true)));
+      limited = λ κ a x e p. (answered _ p.0 p.1.0, names x _ _ p.0 p.1.1 (flipped (delay_complete a.1.0)));
       latest = λ t κ x s p. answered _ p.0 p.1;
       smoothed = λ t κ x s p. answered _ p.0 p.1;
       variation = λ t κ x s p. answered _ p.0 p.1;

@@ -1,5 +1,5 @@
 -- The lo that a row shows follows the exact run. Assumes nothing.
-use Rattle.std.specs.Prelude.{Option, None, Some, Result, Ok, Err}
+use Rattle.std.specs.Prelude.{Option, None, Result, Ok, Err}
 use Rattle.std.specs.Bool.{then_some}
 use Prim.Native.Nat.{ℕ, ◌-◌, ◌^◌, ◌≤◌}
 use mathlib.Core.Bool.{Bool, true, false, cond, true≢false}
@@ -35,48 +35,37 @@ use Rattle.trace.specs.Made.{params, acked_by, record_of, sample_of, occurs_numb
 use Rattle.trace.specs.Replay as Read
 use Rattle.trace.specs.Replay.{begin, bound, state_of, answered, answered_by, bad_text, counted, start_read, sent_read, event_read, read_line, stepped}
 use Rattle.trace.specs.Stream.{after}
-use Rattle.calls.proofs.Same.{settled_same}
-use Rattle.trace.proofs.Occur.{occurs_finish, settled_done}
+use Rattle.trace.proofs.Occur.{occurs_finish}
 use Rattle.theorems.specs.Steps.{makes, begins, keeps, moment, duration, after_start, after_step, exact_step}
 use Rattle.theorems.specs.Trace.{line_step, beside, exact_line, exact_lines, window_of, shown_lo, SmallLines, InRows, TraceUnasked, TraceDefined}
+use Rattle.theorems.proofs.Choice.{settled_taken, settled_same}
+use Rattle.theorems.proofs.Decoded.{state, settled_model}
 use Rattle.theorems.proofs.Reached.{Reached, reached_start, reached_step, of_reached}
 use Rattle.theorems.proofs.Follow.{Small, fixed, small}
 
-abbrev pair : NetworkModel → Cycle → State
-pair m y = record { model = m; cycle = y }
-
--- ---- a choice on a model is one on a state
-settled_model : (n : ℕ) (next old : NetworkModel) (y : Cycle) → settled n (pair next y) (pair old y) ≡ pair (settled n next old) y
-unfolding settled
-settled_model n next old y = go (eqb n 0)
-  where
-    go : (t : Bool) → cond t (pair next y) (pair old y) ≡ pair (cond t next old) y
-    go true = refl
-    go false = refl
-
 -- ---- the calls of a line, on a model beside any cycle
-sent_after_lem : (m : NetworkModel) (t : Moment) (inflight packet bytes : ℕ) (y : Cycle) → C.after (C.other (C.sent t inflight packet bytes)) (pair m y) ≡ pair (settled (sent_number m t inflight bytes) (sent_next m t inflight packet bytes) m) y
+sent_after_lem : (m : NetworkModel) (t : Moment) (inflight packet bytes : ℕ) (y : Cycle) → C.after (C.other (C.sent t inflight packet bytes)) (state m y) ≡ state (settled (sent_number m t inflight bytes) (sent_next m t inflight packet bytes) m) y
 unfolding C.after number_of other_number next_of other_next
-sent_after_lem m t inflight packet bytes y = settled_model (sent_number m t inflight bytes) (sent_next m t inflight packet bytes) m y
+sent_after_lem m t inflight packet bytes y = sym (settled_model (sent_number m t inflight bytes) m (sent_next m t inflight packet bytes) y)
 
 abbrev event_call : line.Event → Call
 event_call e = C.event params (record_of e) (sample_of e) (acked_by e.number)
 
-event_after_lem : (m : NetworkModel) (e : line.Event) (y : Cycle) → C.after (event_call e) (pair m y) ≡ pair (settled (occurs_number m e) (started_model m e) m) y
+event_after_lem : (m : NetworkModel) (e : line.Event) (y : Cycle) → C.after (event_call e) (state m y) ≡ state (settled (occurs_number m e) (started_model m e) m) y
 unfolding C.after number_of next_of occurs_number started_model
-event_after_lem m e y = settled_model _ _ m y
+event_after_lem m e y = sym (settled_model _ m _ y)
 
-finish_after : (m : NetworkModel) (e : line.Event) (y : Cycle) → occurs_number m e ≡ 0 → C.after (C.other (C.finish (record_after m e))) (pair (started_model m e) y) ≡ pair (occurs_next m e) y
+finish_after : (m : NetworkModel) (e : line.Event) (y : Cycle) → occurs_number m e ≡ 0 → C.after (C.other (C.finish (record_after m e))) (state (started_model m e) y) ≡ state (occurs_next m e) y
 unfolding C.after number_of other_number next_of other_next occurs_next settled
 finish_after m e y h = rw (occurs_finish m e h)
 
-finish_state : (m : NetworkModel) (e : line.Event) (y : Cycle) → occurs_number m e ≡ 0 → after_step (makes (C.other (C.finish (record_after m e)))) (pair (started_model m e) y) ≡ pair (occurs_next m e) y
+finish_state : (m : NetworkModel) (e : line.Event) (y : Cycle) → occurs_number m e ≡ 0 → after_step (makes (C.other (C.finish (record_after m e)))) (state (started_model m e) y) ≡ state (occurs_next m e) y
 unfolding after_step
 finish_state m e y h = finish_after m e y h
 
-finish_exact : (parts : ℕ) (m : NetworkModel) (r : CongestionEvent) (y : Cycle) (x : Exact) → exact_step inflight_effect parts (makes (C.other (C.finish r))) (pair m y) x ≡ x
+finish_exact : (parts : ℕ) (m : NetworkModel) (r : CongestionEvent) (y : Cycle) (x : Exact) → exact_step inflight_effect parts (makes (C.other (C.finish r))) (state m y) x ≡ x
 unfolding exact_step inflight_effect number_of exactly
-finish_exact parts m r y x = ap (λ (f : X.Effect). exactly parts f x) (sym (settled_same (other_number (C.finish r) (pair m y)) X.stays))
+finish_exact parts m r y x = ap (λ (f : X.Effect). exactly parts f x) (settled_same (other_number (C.finish r) (state m y)) X.stays)
 
 settled_false : {A : Type 0} (n : ℕ) → eqb n 0 ≡ false → (a b old : A) → settled n a old ≡ settled n b old
 unfolding settled
@@ -115,7 +104,7 @@ module _ (parts : ℕ) where
   P = OfEvent (Small usual_beta)
 
   abbrev At : NetworkModel → Cycle → Exact → Type 0
-  At m y x = Reached inflight_effect parts P (pair m y) x
+  At m y x = Reached inflight_effect parts P (state m y) x
 
   -- ---- before an accepted start nothing is set; after it the state is reached by calls
   data Inv (started : Bool) (m : NetworkModel) (x : Exact) : Type 0 where
@@ -144,7 +133,7 @@ module _ (parts : ℕ) where
   unfolding after_step exact_step number_of other_number inflight_effect
   sent_step m x t inflight packet bytes y a =
       subst (λ (s : State). Reached inflight_effect parts P s (exactly parts (settled (sent_number m t inflight bytes) X.stays X.stays) x)) (sent_after_lem m t inflight packet bytes y)
-      (reached_step inflight_effect parts P (makes (C.other (C.sent t inflight packet bytes))) (pair m y) x (λ _. tt) a)
+      (reached_step inflight_effect parts P (makes (C.other (C.sent t inflight packet bytes))) (state m y) x (λ _. tt) a)
 
   sent_inv : (r : Replay) (x : Exact) (time inflight packet bytes : ℕ) → Inv r.started r.model x → let q = (sent_read r time inflight packet bytes).replay in Inv q.started q.model (exact_line parts r (Ok (Sent time inflight packet bytes)) x)
   unfolding sent_read answered_by answered exact_line line_step exact_step number_of other_number inflight_effect
@@ -161,27 +150,27 @@ module _ (parts : ℕ) where
   -- ---- an event, and its finish
   finish_step : (m : NetworkModel) (e : line.Event) (y : Cycle) (x : Exact) → occurs_number m e ≡ 0 → At (settled (occurs_number m e) (started_model m e) m) y x → At (settled (occurs_number m e) (occurs_next m e) m) y x
   finish_step m e y x z a =
-      subst (λ (k : NetworkModel). At k y x) (sym (settled_done (occurs_number m e) (occurs_next m e) m z))
-      (ended m e y x z (subst (λ (k : NetworkModel). At k y x) (settled_done (occurs_number m e) (started_model m e) m z) a))
+      subst (λ (k : NetworkModel). At k y x) (sym (settled_taken (occurs_number m e) (occurs_next m e) m z))
+      (ended m e y x z (subst (λ (k : NetworkModel). At k y x) (settled_taken (occurs_number m e) (started_model m e) m z) a))
     where
       ended : (m : NetworkModel) (e : line.Event) (y : Cycle) (x : Exact) → occurs_number m e ≡ 0 → At (started_model m e) y x → At (occurs_next m e) y x
-      ended m e y x z a = subst (λ (v : Exact). At (occurs_next m e) y v) (finish_exact parts (started_model m e) (record_after m e) y x) (subst (λ (s : State). Reached inflight_effect parts P s (exact_step inflight_effect parts (makes (C.other (C.finish (record_after m e)))) (pair (started_model m e) y) x)) (finish_state m e y z) (reached_step inflight_effect parts P (makes (C.other (C.finish (record_after m e)))) (pair (started_model m e) y) x (λ _. tt) a))
+      ended m e y x z a = subst (λ (v : Exact). At (occurs_next m e) y v) (finish_exact parts (started_model m e) (record_after m e) y x) (subst (λ (s : State). Reached inflight_effect parts P s (exact_step inflight_effect parts (makes (C.other (C.finish (record_after m e)))) (state (started_model m e) y) x)) (finish_state m e y z) (reached_step inflight_effect parts P (makes (C.other (C.finish (record_after m e)))) (state (started_model m e) y) x (λ _. tt) a))
 
-  sized : (m : NetworkModel) (e : line.Event) (y : Cycle) → (occurs_number m e ≡ 0 → e.cwnd ≤ 2 ^ 24) → number_of (event_call e) (pair m y) ≡ 0 → P (event_call e)
+  sized : (m : NetworkModel) (e : line.Event) (y : Cycle) → (occurs_number m e ≡ 0 → e.cwnd ≤ 2 ^ 24) → number_of (event_call e) (state m y) ≡ 0 → P (event_call e)
   unfolding number_of occurs_number record_of sample_of
   sized m e y small h = (refl, small h, omega arith)
 
-  event_first : (m : NetworkModel) (x : Exact) (e : line.Event) (y : Cycle) → (occurs_number m e ≡ 0 → e.cwnd ≤ 2 ^ 24) → At m y x → At (settled (occurs_number m e) (started_model m e) m) y (exact_step inflight_effect parts (makes (event_call e)) (pair m y) x)
+  event_first : (m : NetworkModel) (x : Exact) (e : line.Event) (y : Cycle) → (occurs_number m e ≡ 0 → e.cwnd ≤ 2 ^ 24) → At m y x → At (settled (occurs_number m e) (started_model m e) m) y (exact_step inflight_effect parts (makes (event_call e)) (state m y) x)
   unfolding after_step
-  event_first m x e y small a = subst (λ (s : State). Reached inflight_effect parts P s (exact_step inflight_effect parts (makes (event_call e)) (pair m y) x)) (event_after_lem m e y) (reached_step inflight_effect parts P (makes (event_call e)) (pair m y) x (sized m e y small) a)
+  event_first m x e y small a = subst (λ (s : State). Reached inflight_effect parts P s (exact_step inflight_effect parts (makes (event_call e)) (state m y) x)) (event_after_lem m e y) (reached_step inflight_effect parts P (makes (event_call e)) (state m y) x (sized m e y small) a)
 
   event_step : (m : NetworkModel) (x : Exact) (e : line.Event) (y : Cycle) → (occurs_number m e ≡ 0 → e.cwnd ≤ 2 ^ 24) → At m y x
-      → At (settled (occurs_number m e) (occurs_next m e) m) y (exact_step inflight_effect parts (makes (event_call e)) (pair m y) x)
+      → At (settled (occurs_number m e) (occurs_next m e) m) y (exact_step inflight_effect parts (makes (event_call e)) (state m y) x)
   event_step m x e y small a = go (eqb (occurs_number m e) 0) refl
     where
-      go : (t : Bool) → eqb (occurs_number m e) 0 ≡ t → At (settled (occurs_number m e) (occurs_next m e) m) y (exact_step inflight_effect parts (makes (event_call e)) (pair m y) x)
+      go : (t : Bool) → eqb (occurs_number m e) 0 ≡ t → At (settled (occurs_number m e) (occurs_next m e) m) y (exact_step inflight_effect parts (makes (event_call e)) (state m y) x)
       go true q = let z = eqb-true (occurs_number m e) 0 q in finish_step m e y _ z (event_first m x e y small a)
-      go false q = subst (λ (k : NetworkModel). At k y (exact_step inflight_effect parts (makes (event_call e)) (pair m y) x)) (settled_false (occurs_number m e) q (started_model m e) (occurs_next m e) m) (event_first m x e y small a)
+      go false q = subst (λ (k : NetworkModel). At k y (exact_step inflight_effect parts (makes (event_call e)) (state m y) x)) (settled_false (occurs_number m e) q (started_model m e) (occurs_next m e) m) (event_first m x e y small a)
 
   event_inv : (r : Replay) (x : Exact) (e : line.Event) → ((event_read r e).row.refusal ≡ 0 → e.cwnd ≤ 2 ^ 24) → Inv r.started r.model x → let q = (event_read r e).replay in Inv q.started q.model (exact_line parts r (Ok (Event e)) x)
   unfolding event_read answered_by answered Read.row_of exact_line line_step exact_step number_of inflight_effect
@@ -227,7 +216,7 @@ module _ (parts : ℕ) where
     near : (t : Bool) (m : NetworkModel) (x : Exact) → Inv t m x → Near (lo_of t m) x
     unfolding Read.state_of bound inflight_low
     near t m x (idle f u e) = rw (f, e) none-set
-    near t m x (on y f r) = rw f (of_reached inflight_effect parts P (λ s x. Near (inflight_low s) x) theorem (pair m y) x r)
+    near t m x (on y f r) = rw f (of_reached inflight_effect parts P (λ s x. Near (inflight_low s) x) theorem (state m y) x r)
 
     in_rows : InRows parts Near
     in_rows lines last s =

@@ -2,9 +2,9 @@
 -- and runs of it one after the other on the same estimator. Definitions only. Theorems.antt says how to read them,
 -- Runs.antt has the signs and words that are not explained there, and crates/rtt/specs/Exact.antt what the samples, the
 -- exact averages and `Holds` are. docs/LAYOUT.md has the words of an estimator, of a call and of an answer.
-use Rattle.std.specs.Prelude.{ℕ, zero, suc, ◌+◌, ◌-◌, ◌*◌, ◌%◌, ◌^◌, ◌<◌, Bool, false, true, cond, not, ◌&&◌, ◌||◌, List, [], ◌∷◌, ◌++◌, ◌≡◌, ltb, eqb, length, None}
+use Rattle.std.specs.Prelude.{ℕ, zero, suc, ◌+◌, ◌-◌, ◌*◌, ◌%◌, ◌^◌, ◌<◌, false, true, cond, not, ◌&&◌, ◌||◌, List, [], ◌∷◌, ◌++◌, ◌≡◌, ltb, eqb, length, None}
 use Rattle.units.specs.Outcomes.{Allowed}
-use Rattle.units.specs.Reply.{row_in}
+use Rattle.units.specs.Reply.{row_in, kept}
 use Rattle.units.specs.declared.time.Duration.{Duration}
 use Rattle.state.specs.Answers.{settled, zero_length}
 use Rattle.state.specs.Bounds.{length_ok}
@@ -19,7 +19,7 @@ use Rattle.rtt.specs.Exact.{Step, begins, updates, limits, other, Sample, Ran, g
 use Rattle.rtt.proofs.rtt.RttStats as stats
 use Rattle.trips.specs.Trips.{ns, stats_in, encodes_none, call_row, call_faults, call_left, calls_in, left_by}
 use Rattle.guovssalu.proofs.rtt_run.guovssalu_rtt_run as rtt
-use Rattle.laws.specs.Replies.{Exactly, Answered, Every}
+use Rattle.laws.specs.Replies.{Exactly, Answered, Every, EveryOutcome}
 use Rattle.laws.specs.Named.{Names}
 use Rattle.theorems.specs.Blames.{Named}
 use Rattle.theorems.specs.Runs.{FirstRow, Each}
@@ -94,30 +94,38 @@ pub record RttCall (s : RttStats) (n a b c : ℕ) : Type 0 where
 pub record EveryRttReply : Type 0 where
   pub new : (initial limit : Duration) →
       Every stats.new.Reads.Learnt (λ κ. (initial, (limit, tt)))
-      (λ x. Answered x.reply (new_rows initial limit) x.stats
+      (λ x. Answered x (new_rows initial limit) (kept x (stats_new zero_length zero_length))
       (stats_new initial limit) (stats_new zero_length zero_length)
-      × Names x.reply (new_rows initial limit) (new_faults initial limit))
-  pub updated : (s : RttStats) (latest delay : Duration) (confirmed : Bool) →
-      Every stats.update_rtt.Reads.Learnt (λ κ. (s, (latest, (delay, (confirmed, tt)))))
-      (λ x. Answered x.reply (asked_rows s (length_ok latest && length_ok delay && true)) x.stats
+      × Names x (new_rows initial limit) (new_faults initial limit))
+  pub updated :
+      EveryOutcome stats.update_rtt.Reads.Learnt
+      (λ κ a x e.
+      let s = a.0.now in
+      let latest = a.1.0 in
+      let delay = a.1.1.0 in
+      let confirmed = a.1.1.1.0 in
+      Answered x (asked_rows s (length_ok latest && length_ok delay && true)) e.0.now
       (update_next s latest delay confirmed) s
-      × Names x.reply (asked_rows s (length_ok latest && length_ok delay && true)) (update_faults latest delay true))
-  pub limited : (s : RttStats) (limit : Duration) →
-      Every stats.update_max_ack_delay.Reads.Learnt (λ κ. (s, (limit, tt)))
-      (λ x. Answered x.reply (asked_rows s (length_ok limit)) x.stats (delay_next s limit) s
-      × Names x.reply (asked_rows s (length_ok limit)) (delay_faults limit))
+      × Names x (asked_rows s (length_ok latest && length_ok delay && true)) (update_faults latest delay true))
+  pub limited :
+      EveryOutcome stats.update_max_ack_delay.Reads.Learnt
+      (λ κ a x e.
+      let s = a.0.now in
+      let limit = a.1.0 in
+      Answered x (asked_rows s (length_ok limit)) e.0.now (delay_next s limit) s
+      × Names x (asked_rows s (length_ok limit)) (delay_faults limit))
   pub latest : (s : RttStats) →
       Every stats.latest_rtt.Reads.Learnt (λ κ. (s, tt))
-      (λ x. Answered x.reply (stored (not (stats_ok s)) no_rows) x.length s.latest zero_length)
+      (λ x. Answered x (stored (not (stats_ok s)) no_rows) (kept x zero_length) s.latest zero_length)
   pub smoothed : (s : RttStats) →
       Every stats.rtt.Reads.Learnt (λ κ. (s, tt))
-      (λ x. Answered x.reply (stored (not (stats_ok s)) no_rows) x.length s.smoothed zero_length)
+      (λ x. Answered x (stored (not (stats_ok s)) no_rows) (kept x zero_length) s.smoothed zero_length)
   pub variation : (s : RttStats) →
       Every stats.rttvar.Reads.Learnt (λ κ. (s, tt))
-      (λ x. Answered x.reply (stored (not (stats_ok s)) no_rows) x.length s.variation zero_length)
+      (λ x. Answered x (stored (not (stats_ok s)) no_rows) (kept x zero_length) s.variation zero_length)
   pub minimum : (s : RttStats) →
       Every stats.min_rtt.Reads.Learnt (λ κ. (s, tt))
-      (λ x. Answered x.reply (stored (not (stats_ok s)) no_rows) x.minimum (minimum_shown s) None)
+      (λ x. Answered x (stored (not (stats_ok s)) no_rows) (kept x None) (minimum_shown s) None)
 
 -- ---- call i of a run: the estimator before it, and word j of its answer
 abbrev pub rtt_before : RttRun → ℕ → RttStats
