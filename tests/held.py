@@ -68,6 +68,8 @@ ACKED = [
     ("crates/arguments/specs/Sample.antt", "list_place", ["place"]),
     ("crates/arguments/specs/Sample.antt", "acked_of", ["numbers"]),
 ]
+# Where a run writes the word of a call that is done.
+DONE = "crates/dispatch/src/one_call.rt"
 # Where a call's words become its arguments: for most calls in the first file, by a function that has the call's number and
 # chooses it in a file of its own; for a start, and for a send, in a function that knows the call. The arguments are handed
 # on in the order of their rows, or in the one that stands here.
@@ -573,11 +575,13 @@ def numbered(path, kind, function, done):
     text = code(path)
     if path.endswith(".rt"):
         pairs = enum_numbers(path, kind) + re.findall(rf"\b{kind}::(\w+)(?:\(_\))? => (\d+)", text)
-        of_ok = r"\bOk\(\(\)\) => (\d+)"
+        # a call that is done is answered by this word where a run writes it
+        text = code(DONE)
+        of_ok = r"\bOk\((?:\(\)|_)\) => (\d+)"
     else:
         pairs = re.findall(rf"^{function} \(?(\w+)(?: \w+\))? = (\d+)$", text, re.M)
         of_ok = rf"^{done} \(Ok \w+\) = (\d+)$"
-    pairs += [("Done", number) for number in re.findall(of_ok, text, re.M)] if done else []
+    pairs += [("Done", number) for number in sorted(set(re.findall(of_ok, text, re.M)))] if done else []
     return [(name, int(number)) for name, number in pairs]
 
 
