@@ -94,9 +94,9 @@ PHRASES = [
     (r"\bstate\.len\(\) != (\d+)|state\.(?:now|old|new) ≡ (\d+)|eqb \(length (?:s|state|r\.state)\) (\d+)", ("STATE_BYTES",)),
     (r"words_at s 0 (\d+)|\(cycle_from w\)\) w 0 (\d+)|cycle_words c\) ≡ (\d+)", ("STATE_WORDS",)),
     (r"\bcalls\.len\(\) [%/] (\d+)|r\.calls % (\d+)|calls_in src = length src / (\d+)", ("CALL_BYTES",)),
-    (r"\bat = (\d+) \* i\b|\bat \+ (\d+) ≤ length calls\.now|src \(at \+ ([2-9]\d\d)\) n|calls \(at \+ (\d+)\)", ("CALL_BYTES",)),
+    (r"\bat = (\d+) \* i\b|\bcalls\[at\.\.at \+ (\d+)\]|length call\.now ≡ (\d+)|src \(at \+ ([2-9]\d\d)\) n|calls \(at \+ (\d+)\)", ("CALL_BYTES",)),
     (r"words_at src at (\d+)", ("CALL_WORDS",)),
-    (r"\bto = (\d+) \* i\b|\bto \+ (\d+) ≤ length answers\.old|\b(\d+) \* \(?(?:calls_in|count r|calls\.len)", ("ANSWER_BYTES",)),
+    (r"\bto = (\d+) \* i\b|\banswers\[to\.\.to \+ (\d+)\]|length answer\.old ≡ (\d+)|\b(\d+) \* \(?(?:calls_in|count r|calls\.len)", ("ANSWER_BYTES",)),
     (r"\(event_words e\) ≡ (\d+)|words_from l 22 (\d+)", ("EVENT_WORDS",)),
     (r"event_from_word l (\d+)|words_from l (\d+) 16", ("EVENT_IN_CALL",)),
     (r"words_from l (\d+) 11", ("PARAMS_IN_CALL",)),
@@ -282,7 +282,7 @@ def functions(path):
 def choices(path):
     """The choices by a call's number: number, and what is called."""
     text = code(path)
-    for found in re.finditer(r"\bmatch (?:call|get_word\(calls, at\)) \{", text):
+    for found in re.finditer(r"\bmatch (?:call|get_word\(call, 0\)) \{", text):
         for pattern, called in arms(closed(text, found.end() - 1)):
             yield from ((number, called) for number in calls_in(pattern))
     for found in re.finditer(r"\bif call == (\d+) \{", text):
@@ -447,7 +447,7 @@ def word_in(text):
     found = re.search(r"(\bfloat_of\()?\bn\[(\d+)\]", text)
     if found:
         return int(found.group(2)), bool(found.group(1))
-    found = re.search(r"\bget_word\(calls, at \+ (\d+)\)", text)
+    found = re.search(r"\bget_word\(call, (\d+)\)", text)
     return (int(found.group(1)) / WORD_BYTES, False) if found else None
 
 
