@@ -66,6 +66,7 @@ pub fn sift(mend: Mend, s: &[u8], from: usize, out: &mut [u8], list: &mut [u8]) 
         kept: 0,
         listed: 0,
     };
+    // No `for` over split lines: those don't say whether the last one is ended.
     while sifted.kept + 4096 <= out.len() && sifted.listed + 43 <= list.len() {
         let end = end_of(s, sifted.at, b'\n');
         if s.len() <= end {
