@@ -26,6 +26,7 @@ fn read_full(file: &mut impl Read, space: &mut [u8]) -> usize
     ensures { (result ≤ length space.new) × (result ≡ length (take result space.new)) }
 {
     let mut done: usize = 0;
+    // How much a read gives is known only after it.
     while done < space.len() {
         match file.read(&mut space[done..]) {
             Ok(0) => return done,
@@ -36,31 +37,18 @@ fn read_full(file: &mut impl Read, space: &mut [u8]) -> usize
     done
 }
 
-// One line: its numbers, 0 past the last, and where the next line starts.
-#[derive(Clone, Copy)]
-pub struct Line {
-    pub numbers: [u64; 16],
-    pub next: usize,
-}
-
-// The line that starts at a place of the text. The longest has 11 numbers.
-pub fn read_line(text: &[u8], at: usize) -> Line {
+// The numbers of a line, 0 past the last. The longest has 11.
+pub fn read_line(line: &[u8]) -> [u64; 16] {
     let mut numbers = [0u64; 16];
     let mut last: usize = 0;
-    let mut i = at;
-    while i < text.len() {
-        let b = text[i];
-        i += 1;
-        if b == b'\n' {
-            return Line { numbers, next: i };
-        }
-        if b == b' ' {
-            last = (last + 1) % 16;
-        } else {
-            numbers[last] = with_digit(numbers[last], b);
+    for &b in line {
+        match b {
+            b'\n' => {}
+            b' ' => last = (last + 1) % 16,
+            _ => numbers[last] = with_digit(numbers[last], b),
         }
     }
-    Line { numbers, next: i }
+    numbers
 }
 
 // A number with one digit more. No list has a number past 2^64 - 1; one would not be read right.

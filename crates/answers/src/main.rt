@@ -10,7 +10,7 @@ use list::{change_last, read_file, read_line};
 use std::rt::Files;
 use units::{Duration, Moment};
 
-#[derive(Clone, Copy)]
+#[derive(Clone, Copy, Default)]
 pub struct Tally {
     pub answers: u64,
     pub differ: u64,
@@ -32,21 +32,11 @@ fn sum(a: Tally, b: Tally) -> Tally {
 // The lines of a list, counted, and those that the port answers otherwise.
 fn compared(asked: Asked, text: &[u8]) -> Tally {
     let mut next = asked;
-    let mut at: usize = 0;
-    let mut tally = Tally {
-        answers: 0,
-        differ: 0,
-    };
-    for _ in 0u64..100_000 {
-        if text.len() <= at {
-            return tally;
-        }
-        let line = read_line(text, at);
-        at = line.next;
-        let numbers = line.numbers;
-        let compared = asked::answer(next, &numbers);
+    let mut tally = Tally::default();
+    for line in text.split_inclusive(|b| *b == b'\n') {
+        let compared = asked::answer(next, &read_line(line));
         next = compared.asked;
-        let differ = if compared.same { 0 } else { 1 };
+        let differ = u64::from(!compared.same);
         tally = sum(tally, Tally { answers: 1, differ });
     }
     tally
@@ -87,49 +77,38 @@ fn print(rt: &impl Print, both: Both, name: &str) {
     let _ = print!(rt; "; with its last digit changed {changed}\n");
 }
 
-fn conversions(rt: &(impl Files + Print + Eprint + Alloc)) -> Tally {
-    let a = compare(rt, Asked::ToF32, "to_f32.txt");
-    let b = compare(rt, Asked::ToF64, "to_f64.txt");
-    let c = compare(rt, Asked::ToU64, "to_u64.txt");
-    let d = compare(rt, Asked::RoundToU64, "round_to_u64.txt");
-    let e = compare(rt, Asked::Scale, "scale.txt");
-    sum(sum(a, b), sum(sum(c, d), e))
-}
-
-fn bandwidths(rt: &(impl Files + Print + Eprint + Alloc)) -> Tally {
-    let a = compare(rt, Asked::BandwidthMul, "bandwidth_mul.txt");
-    let b = compare(rt, Asked::BandwidthPeriod, "bandwidth_period.txt");
-    let c = compare(rt, Asked::BandwidthOrder, "bandwidth_order.txt");
-    sum(sum(a, b), c)
-}
-
-fn all_filters(rt: &(impl Files + Print + Eprint + Alloc)) -> Tally {
-    let a = compare(
-        rt,
-        Asked::Windowed(WindowedFilter::new(0)),
-        "windowed_filter.txt",
-    );
-    let b = compare(
-        rt,
-        Asked::MaxBandwidth(MaxBandwidthFilter::new()),
-        "max_bandwidth_filter.txt",
-    );
-    let c = compare(
-        rt,
-        Asked::MinRtt(MinRttFilter::new(Duration(0), Moment(0))),
-        "min_rtt_filter.txt",
-    );
-    let d = compare(
-        rt,
-        Asked::Rounds(RoundTripCounter::new()),
-        "round_trip_counter.txt",
-    );
-    sum(sum(a, b), sum(c, d))
-}
-
 fn main(rt: HostRuntime) {
+    let lists = [
+        (Asked::ToF32, "to_f32.txt"),
+        (Asked::ToF64, "to_f64.txt"),
+        (Asked::ToU64, "to_u64.txt"),
+        (Asked::RoundToU64, "round_to_u64.txt"),
+        (Asked::Scale, "scale.txt"),
+        (Asked::BandwidthMul, "bandwidth_mul.txt"),
+        (Asked::BandwidthPeriod, "bandwidth_period.txt"),
+        (Asked::BandwidthOrder, "bandwidth_order.txt"),
+        (
+            Asked::Windowed(WindowedFilter::new(0)),
+            "windowed_filter.txt",
+        ),
+        (
+            Asked::MaxBandwidth(MaxBandwidthFilter::new()),
+            "max_bandwidth_filter.txt",
+        ),
+        (
+            Asked::MinRtt(MinRttFilter::new(Duration(0), Moment(0))),
+            "min_rtt_filter.txt",
+        ),
+        (
+            Asked::Rounds(RoundTripCounter::new()),
+            "round_trip_counter.txt",
+        ),
+    ];
     let _ = rt.println("The original's answers, compared with the port's:");
-    let tally = sum(sum(conversions(&rt), bandwidths(&rt)), all_filters(&rt));
+    let mut tally = Tally::default();
+    for (asked, name) in lists {
+        tally = sum(tally, compare(&rt, asked, name));
+    }
     print_tally(&rt, tally);
     let _ = rt.println("");
 }

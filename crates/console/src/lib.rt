@@ -3,4 +3,5 @@
 #![tactic(auto)]
 
 pub mod input;
+pub mod pieces;
 pub mod said;

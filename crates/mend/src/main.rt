@@ -4,13 +4,14 @@
 
 mod list;
 
-ghost use Rattle.std.specs.Prelude.{◌≤◌, [], ◌≡◌, OnOk, length, drop};
+ghost use Rattle.std.specs.Prelude.{◌≤◌, [], ◌≡◌, IfOk, OnOk, length, drop};
 ghost use Rattle.trace.specs.Stream.{lines_from, rest_from};
 ghost use Rattle.mending.specs.Mend.{last_line};
 ghost use Rattle.mending.specs.Pieces.{mend_after};
 
-use console::input::{Header, read_header, read_piece};
-use console::said::{fail, fail_output, progress, say, say_number};
+use console::input::{Header, read_header};
+use console::pieces::{Program, Stopped, answer_all};
+use console::said::{fail, fail_output, say, say_number};
 use mending::Mend;
 use mending::sift::{put_sorted, sift};
 use std::env::Env;
@@ -36,178 +37,97 @@ fn write_both(
     lines: &[u8],
     entries: &[u8],
 ) -> Result<(), Failed> {
-    if let Err(e) = rt.write_all(lines) {
-        return Err(Failed::Trace(e));
-    }
-    match list.write_all(entries) {
-        Ok(()) => Ok(()),
-        Err(e) => Err(Failed::List(e)),
-    }
+    rt.write_all(lines).map_err(Failed::Trace)?;
+    list.write_all(entries).map_err(Failed::List)
 }
 
-// What is known when the lines of a piece are sifted, where the bytes of a line that is not ended begin, and whether all was
-// written.
-#[derive(Clone, Copy)]
-struct Answered {
-    mend: Mend,
-    at: usize,
-    written: Result<(), Failed>,
-}
-
-// Sifts the lines of s, run after run, until one sifts none.
+// Sifts the lines of s, run after run, until one sifts none, and answers where the bytes of a line that is not ended begin.
 fn answer(
     rt: &impl Print,
     list: &mut impl Write,
-    mend: Mend,
+    mend: &mut Mend,
     s: &[u8],
     out: &mut [u8],
     entries: &mut [u8],
-) -> Answered
+) -> Result<usize, Failed>
     requires { (4096 ≤ length out.old) × (43 ≤ length entries.old) }
-    ensures { OnOk result.written
-        ((result.mend ≡ mend_after mend (lines_from [] s.now)) × (drop result.at s.now ≡ rest_from [] s.now)) }
+    ensures { IfOk result (λ at.
+        (mend.new ≡ mend_after mend.old (lines_from [] s.now)) × (drop at s.now ≡ rest_from [] s.now)) }
 {
-    let mut cur = mend;
     let mut at: usize = 0;
+    // How far a run gets is known only after it.
     while at < s.len() {
-        let sifted = sift(cur, s, at, out, entries);
-        let next = sifted.at;
-        let kept = sifted.kept;
-        let listed = sifted.listed;
-        if next <= at {
-            return Answered {
-                mend: cur,
-                at,
-                written: Ok(()),
-            };
+        let sifted = sift(*mend, s, at, out, entries);
+        if sifted.at <= at {
+            break;
         }
-        if let Err(e) = write_both(rt, list, &out[..kept], &entries[..listed]) {
-            return Answered {
-                mend: cur,
-                at,
-                written: Err(e),
-            };
-        }
-        cur = sifted.mend;
-        at = next;
+        write_both(rt, list, &out[..sifted.kept], &entries[..sifted.listed])?;
+        *mend = sifted.mend;
+        at = sifted.at;
     }
-    Answered {
-        mend: cur,
-        at,
-        written: Ok(()),
-    }
+    Ok(at)
 }
 
 // The bytes after the last line feed are one more line.
 fn last(
     rt: &impl Print,
     list: &mut impl Write,
-    mend: Mend,
+    mend: &mut Mend,
     s: &[u8],
     out: &mut [u8],
     entries: &mut [u8],
-) -> Answered
+) -> Result<(), Failed>
     requires { (4096 ≤ length out.old) × (43 ≤ length entries.old) }
-    ensures { OnOk result.written (result.mend ≡ mend_after mend (last_line s.now)) }
+    ensures { OnOk result (mend.new ≡ mend_after mend.old (last_line s.now)) }
 {
-    if s.len() == 0 {
-        return Answered {
-            mend,
-            at: 0,
-            written: Ok(()),
-        };
+    if s.is_empty() {
+        return Ok(());
     }
     let sorted = mend.take(s);
-    let after = sorted.mend;
     let ends = put_sorted(sorted, s, out, 0, entries, 0);
-    let kept = ends.kept;
-    let listed = ends.listed;
-    let written = write_both(rt, list, &out[..kept], &entries[..listed]);
-    Answered {
-        mend: after,
-        at: 0,
-        written,
-    }
+    *mend = sorted.mend;
+    write_both(rt, list, &out[..ends.kept], &entries[..ends.listed])
 }
 
-// How a mending ends.
-#[derive(Clone, Copy)]
-enum End {
-    Whole,
-    GivenUp(Failed),
-}
-
-// The end that a failed write is, or else the one that comes anyway.
-fn end_of(written: Result<(), Failed>, due: Option<End>) -> Option<End> {
-    match written {
-        Ok(()) => due,
-        Err(failed) => Some(End::GivenUp(failed)),
-    }
-}
-
-// What is known after a piece, how many bytes are held for the next, and how it ends, if it does.
-#[derive(Clone, Copy)]
-struct Turn {
+// A mending, and where its lines and its entries go.
+#[derive(Drop)]
+struct Mending<'a, R, L> {
+    rt: &'a R,
+    list: L,
     mend: Mend,
-    held: usize,
-    ended: Option<End>,
+    out: [u8; 73_729],
+    entries: [u8; 65_536],
 }
 
-// Sifts the lines of a piece, and holds the bytes of a line that is not ended. A piece of no bytes is the end of the input.
-fn answer_piece(
-    rt: &impl Print,
-    list: &mut impl Write,
-    mend: Mend,
-    got: usize,
-    end: usize,
-    buf: &mut [u8],
-    out: &mut [u8],
-    entries: &mut [u8],
-) -> Turn
-    requires { (end ≤ length buf.old) × (4096 ≤ length out.old) × (43 ≤ length entries.old) }
-    ensures { result.held ≤ 4097 }
-{
-    if got == 0 {
-        let ended = last(rt, list, mend, &buf[..end], out, entries);
-        let whole = ended.mend;
-        return Turn {
-            mend: whole,
-            held: 0,
-            ended: end_of(ended.written, Some(End::Whole)),
-        };
-    }
-    let answered = answer(rt, list, mend, &buf[..end], out, entries);
-    let at = answered.at;
-    let next = answered.mend;
-    let kept = keep(buf, at, end);
-    Turn {
-        mend: next,
-        held: kept,
-        ended: end_of(answered.written, None),
-    }
-}
+impl<'a, R: Print, L: Write> Program for Mending<'a, R, L> {
+    type Failed = Failed;
 
-// Reads a piece, sifts its lines, and holds the bytes of a line that is not ended.
-fn take_turn(
-    rt: &impl Print,
-    input: &mut impl Read,
-    list: &mut impl Write,
-    mend: Mend,
-    held: usize,
-    buf: &mut [u8],
-    out: &mut [u8],
-    entries: &mut [u8],
-) -> Turn
-    requires { (held ≤ 4097) × (69633 ≤ length buf.old) × (4096 ≤ length out.old) × (43 ≤ length entries.old) }
-    ensures { result.held ≤ 4097 }
-{
-    match read_piece(input, buf, held) {
-        Ok(got) => answer_piece(rt, list, mend, got, held + got, buf, out, entries),
-        Err(e) => Turn {
-            mend,
-            held: 0,
-            ended: Some(End::GivenUp(Failed::Input(e))),
-        },
+    #[tactic(auto, using(trace::proofs::Moves::kept_few))]
+    fn answer(&mut self, buf: &mut [u8], end: usize) -> Result<usize, Failed> {
+        let at = answer(
+            self.rt,
+            &mut self.list,
+            &mut self.mend,
+            &buf[..end],
+            &mut self.out,
+            &mut self.entries,
+        )?;
+        Ok(keep(buf, at, end))
+    }
+
+    fn last(&mut self, s: &[u8]) -> Result<(), Failed> {
+        last(
+            self.rt,
+            &mut self.list,
+            &mut self.mend,
+            s,
+            &mut self.out,
+            &mut self.entries,
+        )
+    }
+
+    fn lines(&self) -> u64 {
+        self.mend.line
     }
 }
 
@@ -234,8 +154,8 @@ fn give_up(rt: &(impl Files + Eprint + Alloc), name: &str, failed: Failed) -> Ex
 fn finish_list(
     rt: &(impl Files + Eprint + Alloc),
     name: &str,
-    list: &mut (impl Write + Seek + OpenFile),
     mend: Mend,
+    list: &mut (impl Write + Seek + OpenFile),
 ) -> ExitCode {
     if let Err(e) = list::finish(list) {
         return give_up(rt, name, Failed::List(e));
@@ -250,55 +170,9 @@ fn finish_list(
     ExitCode::SUCCESS
 }
 
-// Says how it ended, and answers what the program ends with.
-fn finish(
-    rt: &(impl Files + Eprint + Alloc),
-    name: &str,
-    list: &mut (impl Write + Seek + OpenFile),
-    mend: Mend,
-    end: End,
-) -> ExitCode {
-    match end {
-        End::Whole => finish_list(rt, name, list, mend),
-        End::GivenUp(failed) => give_up(rt, name, failed),
-    }
-}
-
-// Mends what follows the header. A proved loop has to end, and nothing says that the input does: it stops after 2^40 pieces,
-// which no input has.
-fn pump(
-    rt: &(impl Files + Print + Eprint + Alloc),
-    input: &mut impl Read,
-    name: &str,
-    list: &mut (impl Write + Seek + OpenFile),
-    buf: &mut [u8],
-    out: &mut [u8],
-    entries: &mut [u8],
-) -> ExitCode
-    requires { (69633 ≤ length buf.old) × (4096 ≤ length out.old) × (43 ≤ length entries.old) }
-{
-    let mut mend = Mend::new();
-    let mut held: usize = 0;
-    for _ in 0u64..1_099_511_627_776 {
-        let turn = take_turn(rt, input, list, mend, held, buf, out, entries);
-        let next = turn.mend;
-        progress(rt, mend.line, next.line);
-        mend = next;
-        held = turn.held;
-        if let Some(end) = turn.ended {
-            return finish(rt, name, list, mend, end);
-        }
-    }
-    say(rt, "the input is too long: 2^40 pieces were read\n");
-    list::remove(rt, name);
-    ExitCode::SUCCESS
-}
-
 // Writes what stands at the head of the list, and the header of the mended trace.
 fn begin(rt: &impl Print, list: &mut impl Write) -> Result<(), Failed> {
-    if let Err(e) = list::begin(list) {
-        return Err(Failed::List(e));
-    }
+    list::begin(list).map_err(Failed::List)?;
     write_both(
         rt,
         list,
@@ -307,20 +181,33 @@ fn begin(rt: &impl Print, list: &mut impl Write) -> Result<(), Failed> {
     )
 }
 
-// Mends what follows the header into a list that was just made.
+// Mends what follows the header into a list that was just made, and says how that ended.
 fn mend_into(
     rt: &(impl Files + Print + Eprint + Alloc),
     input: &mut impl Read,
     name: &str,
-    list: &mut (impl Write + Seek + OpenFile),
+    list: impl Write + Seek + OpenFile + Drop,
 ) -> ExitCode {
-    if let Err(failed) = begin(rt, list) {
+    let mut program = Mending {
+        rt,
+        list,
+        mend: Mend::new(),
+        out: [0u8; 73_729],
+        entries: [0u8; 65_536],
+    };
+    if let Err(failed) = begin(rt, &mut program.list) {
         return give_up(rt, name, failed);
     }
-    let mut buf = [0u8; 69_633];
-    let mut out = [0u8; 73_729];
-    let mut entries = [0u8; 65_536];
-    pump(rt, input, name, list, &mut buf, &mut out, &mut entries)
+    match answer_all(rt, &mut program, input) {
+        Ok(()) => finish_list(rt, name, program.mend, &mut program.list),
+        Err(Stopped::Unreadable(e)) => give_up(rt, name, Failed::Input(e)),
+        Err(Stopped::Failed(failed)) => give_up(rt, name, failed),
+        Err(Stopped::TooLong) => {
+            say(rt, "the input is too long: 2^40 pieces were read\n");
+            list::remove(rt, name);
+            ExitCode::SUCCESS
+        }
+    }
 }
 
 // Makes the list. Where a standard stream is closed the list would be that stream: then there is none.
@@ -348,7 +235,7 @@ where
         Err(e) => return unmade(rt, e),
     };
     match made(rt, name) {
-        Ok(Some(mut list)) => mend_into(rt, input, name, &mut list),
+        Ok(Some(list)) => mend_into(rt, input, name, list),
         Ok(None) => told(
             rt,
             "standard output or standard error is closed: nothing was mended\n",

@@ -1,7 +1,7 @@
 -- What the code keeps and lists is what the replay says. Assumes nothing.
 use Rattle.std.specs.Prelude.{Result, Ok, Err}
 use Prim.Native.Nat.{ℕ, suc, ◌+◌, ◌^◌, ◌<◌}
-use mathlib.Core.Bool.{Bool, true, false, cond, not}
+use mathlib.Core.Bool.{Bool, true, false, cond}
 use mathlib.Core.List.{List, [], ◌∷◌, ◌++◌}
 use mathlib.Core.Path.{◌≡◌, refl, sym, ap, ap₂, ◌∙◌}
 use native.Mathlib.Omega.{arith}
@@ -33,27 +33,30 @@ pub beside_begin : Beside unread begin
 unfolding begin
 beside_begin = record { line = refl; started = refl }
 
+-- the reply to a line that is refused, or not, with this first field at fault
+abbrev pub reply_of : (t : Bool) (field : ℕ) → Result (Unit {0}) BadField
+reply_of true field = Err record { field = field }
+reply_of false field = Ok tt
+
 -- a line that is sorted where it stands
 record Here (m : Mend) (p : Result Line BadField) (x : Sorted) : Type 0 where
-  pub kept : x.kept ≡ not (is_refused p)
+  pub reply : x.reply ≡ reply_of (is_refused p) (field_of p)
   pub line : x.mend.line ≡ one_more m.line
   pub started : x.mend.started ≡ started_after m.started p
-  pub field : x.field ≡ field_of p
   pub keeps_is : x.mend.kept ≡ cond (is_refused p) m.kept (one_more m.kept)
   pub lists_is : x.mend.listed ≡ cond (is_refused p) (one_more m.listed) m.listed
 
 here : (m : Mend) (p : Result Line BadField) → Here m p (sorted_here m p)
 unfolding sorted_here keeps lists
-here m (Err b) = record { kept = refl; line = refl; started = refl; field = refl; keeps_is = refl; lists_is = refl }
-here m (Ok (Start time rtt)) = record { kept = refl; line = refl; started = refl; field = refl; keeps_is = refl; lists_is = refl }
-here m (Ok (Sent time inflight packet bytes)) = record { kept = refl; line = refl; started = or_false m.started; field = refl; keeps_is = refl; lists_is = refl }
-here m (Ok (Event e)) = record { kept = refl; line = refl; started = or_false m.started; field = refl; keeps_is = refl; lists_is = refl }
+here m (Err b) = record { reply = refl; line = refl; started = refl; keeps_is = refl; lists_is = refl }
+here m (Ok (Start time rtt)) = record { reply = refl; line = refl; started = refl; keeps_is = refl; lists_is = refl }
+here m (Ok (Sent time inflight packet bytes)) = record { reply = refl; line = refl; started = or_false m.started; keeps_is = refl; lists_is = refl }
+here m (Ok (Event e)) = record { reply = refl; line = refl; started = or_false m.started; keeps_is = refl; lists_is = refl }
 
 -- and so beside a replay
 pub record Sorts (m : Mend) (r : Replay) (l : List ℕ) (x : Sorted) : Type 0 where
-  pub kept : x.kept ≡ not (gives_six r l)
+  pub reply : x.reply ≡ reply_of (gives_six r l) (field_of (line_of l))
   pub number : x.mend.line ≡ (stepped r l).row.line
-  pub field : x.field ≡ field_of (line_of l)
   pub next : Beside x.mend (stepped r l).replay
   pub keeps_is : x.mend.kept ≡ cond (gives_six r l) m.kept (one_more m.kept)
   pub lists_is : x.mend.listed ≡ cond (gives_six r l) (one_more m.listed) m.listed
@@ -67,9 +70,8 @@ sorts m r l b =
     let six : is_refused (placed_at m.started (line_of l)) ≡ gives_six r l = ap is_refused e ∙ sym (six_is r l) in
     let g = goes r (line_of l) in
     record {
-      kept = x.kept ∙ ap not six;
+      reply = x.reply ∙ ap₂ reply_of six (placed_field m.started (line_of l));
       number = x.line ∙ ap one_more b.line ∙ sym g.number;
-      field = x.field ∙ placed_field m.started (line_of l);
       next = record {
         line = x.line ∙ ap one_more b.line ∙ sym g.line;
         started = x.started ∙ ap₂ started_after b.started e ∙ sym g.started;
@@ -79,22 +81,22 @@ sorts m r l b =
     }
 
 -- ---- what is written
-kept_of_lem : (x : Sorted) (l : List ℕ) (t : Bool) → x.kept ≡ not t → kept_text x l ≡ cond t [] l
+kept_of_lem : (x : Sorted) (l : List ℕ) (field : ℕ) (t : Bool) → x.reply ≡ reply_of t field → kept_text x l ≡ cond t [] l
 unfolding kept_text
-kept_of_lem x l true e = rw e
-kept_of_lem x l false e = rw e
+kept_of_lem x l field true e = rw e
+kept_of_lem x l field false e = rw e
 
-list_of : (x : Sorted) (line field : ℕ) (t : Bool) → x.kept ≡ not t → x.mend.line ≡ line → x.field ≡ field → list_text x ≡ cond t (entry_text line field) []
+list_of : (x : Sorted) (line field : ℕ) (t : Bool) → x.reply ≡ reply_of t field → x.mend.line ≡ line → list_text x ≡ cond t (entry_text line field) []
 unfolding list_text
-list_of x line field true e f g = rw (e, f, g)
-list_of x line field false e f g = rw e
+list_of x line field true e f = rw (e, f)
+list_of x line field false e f = rw e
 
 pub kept_follows : (m : Mend) (r : Replay) (ls : List (List ℕ)) → Beside m r → kept_texts m ls ≡ joined (kept_lines r ls)
 unfolding kept_texts kept_lines joined
 kept_follows m r [] b = refl
 kept_follows m r (l ∷ ls) b =
     let x = sorts m r l b in
-    ap₂ (λ (s t : List ℕ). s ++ t) (kept_of_lem (sorted m l) l (gives_six r l) x.kept) (kept_follows (sorted m l).mend (stepped r l).replay ls x.next) ∙ go (gives_six r l)
+    ap₂ (λ (s t : List ℕ). s ++ t) (kept_of_lem (sorted m l) l (field_of (line_of l)) (gives_six r l) x.reply) (kept_follows (sorted m l).mend (stepped r l).replay ls x.next) ∙ go (gives_six r l)
   where
     rest : List (List ℕ)
     rest = kept_lines (stepped r l).replay ls
@@ -108,7 +110,7 @@ unfolding list_texts listed_lines entries_text
 list_follows m r [] b = refl
 list_follows m r (l ∷ ls) b =
     let x = sorts m r l b in
-    ap₂ (λ (s t : List ℕ). s ++ t) (list_of (sorted m l) (stepped r l).row.line (field_of (line_of l)) (gives_six r l) x.kept x.number x.field) (list_follows (sorted m l).mend (stepped r l).replay ls x.next) ∙ go (gives_six r l)
+    ap₂ (λ (s t : List ℕ). s ++ t) (list_of (sorted m l) (stepped r l).row.line (field_of (line_of l)) (gives_six r l) x.reply x.number) (list_follows (sorted m l).mend (stepped r l).replay ls x.next) ∙ go (gives_six r l)
   where
     rest : List Entry
     rest = listed_lines (stepped r l).replay ls

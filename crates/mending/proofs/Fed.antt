@@ -1,5 +1,5 @@
 -- What the program writes for the pieces of an input is what it would write for the whole. Assumes nothing.
-use Rattle.std.specs.Prelude.{Result}
+use Rattle.std.specs.Prelude.{Result, is_ok}
 use Prim.Native.Nat.{ℕ, ◌^◌, ◌≤◌, ◌<◌}
 use native.Mathlib.Nat.{zero-add}
 use mathlib.Core.Bool.{Bool, true, false, cond}
@@ -116,7 +116,7 @@ list_by m (s ∷ ss) = list_text (sorted_as m s.line) ++ list_by (sorted_as m s.
 
 short_kept : (m : Mend) (l : List ℕ) → kept_text (sorted m l) l ≡ kept_text (sorted m l) (short l)
 unfolding kept_text short
-short_kept m l = go (sorted m l).kept (kept_few m l (sorted m l) refl)
+short_kept m l = go (is_ok (sorted m l).reply) (kept_few m l (sorted m l) refl)
   where
     go : (t : Bool) → (t ≡ true → length l ≤ 4096) → cond t l [] ≡ cond t (cond (leb (length l) 4096) l []) []
     go true h = rw (le-leb (length l) 4096 (h refl))

@@ -1,6 +1,6 @@
 -- How the code goes over lines: of a replay it needs only how many lines there were, and whether a start was accepted.
 -- That it keeps and lists what Mend.antt says is a law (Laws.antt, `follows`).
-use Rattle.std.specs.Prelude.{ℕ, Bool, true, false, cond, ◌||◌, List, [], Result, Ok, Err}
+use Rattle.std.specs.Prelude.{ℕ, Bool, false, cond, ◌||◌, List, [], Result, Ok, Err, is_ok}
 use Rattle.text.specs.declared.line.Line.{Line}
 use Rattle.text.specs.declared.line.Line.TheVariants.{Start, Sent, Event}
 use Rattle.text.specs.declared.line.BadField.{BadField}
@@ -26,8 +26,7 @@ keeps m begun =
         listed = m.listed;
         started = m.started || begun;
       };
-      kept = true;
-      field = 0;
+      reply = Ok tt;
     }
 
 -- a line is listed, with the first field at fault
@@ -40,8 +39,7 @@ lists m field =
         listed = one_more m.listed;
         started = m.started;
       };
-      kept = false;
-      field = field;
+      reply = Err record { field = field };
     }
 
 -- a line where it stands (crates/trace/specs/Placed.antt)
@@ -60,7 +58,11 @@ sorted m s = sorted_as m (line_of s)
 
 -- ---- what is written of a line: the line itself, or its entry
 unfoldable pub kept_text : Sorted → List ℕ → List ℕ
-kept_text x l = cond x.kept l []
+kept_text x l = cond (is_ok x.reply) l []
+
+abbrev pub entry_of : (line : ℕ) → Result (Unit {0}) BadField → List ℕ
+entry_of line (Ok u) = []
+entry_of line (Err b) = entry_text line b.field
 
 unfoldable pub list_text : Sorted → List ℕ
-list_text x = cond x.kept [] (entry_text x.mend.line x.field)
+list_text x = entry_of x.mend.line x.reply

@@ -15,12 +15,11 @@ pub struct Mend {
     pub started: bool,
 }
 
-// What is known after a line, and whether it is kept; where it is not, the first field at fault.
+// What is known after a line, and whether it is kept, or else the first field at fault.
 #[derive(Clone, Copy)]
 pub struct Sorted {
     pub mend: Mend,
-    pub kept: bool,
-    pub field: u64,
+    pub reply: Result<(), BadField>,
 }
 
 impl Mend {
@@ -41,36 +40,29 @@ impl Mend {
     fn keep(self, begun: bool) -> Sorted
         ensures { result ≡ keeps self begun }
     {
-        let line = self.line.saturating_add(1);
-        let kept = self.kept.saturating_add(1);
         Sorted {
             mend: Mend {
-                line,
-                kept,
-                listed: self.listed,
+                line: self.line.saturating_add(1),
+                kept: self.kept.saturating_add(1),
                 started: self.started | begun,
+                ..self
             },
-            kept: true,
-            field: 0,
+            reply: Ok(()),
         }
     }
 
     // A line that gives 6.
     #[tactic(auto, unfolding(crate::specs::Sorted::lists, trace::specs::Tally::one_more))]
-    fn list(self, field: u64) -> Sorted
-        ensures { result ≡ lists self field }
+    fn list(self, bad: BadField) -> Sorted
+        ensures { result ≡ lists self bad.field }
     {
-        let line = self.line.saturating_add(1);
-        let listed = self.listed.saturating_add(1);
         Sorted {
             mend: Mend {
-                line,
-                kept: self.kept,
-                listed,
-                started: self.started,
+                line: self.line.saturating_add(1),
+                listed: self.listed.saturating_add(1),
+                ..self
             },
-            kept: false,
-            field,
+            reply: Err(bad),
         }
     }
 
@@ -80,10 +72,9 @@ impl Mend {
         ensures { result ≡ sorted_as self l }
     {
         match placed(self.started, l) {
-            Err(bad) => self.list(bad.field),
+            Err(bad) => self.list(bad),
             Ok(Line::Start { time, rtt }) => self.keep(is_begun(time, rtt)),
-            Ok(Line::Sent { .. }) => self.keep(false),
-            Ok(Line::Event(_)) => self.keep(false),
+            Ok(Line::Sent { .. } | Line::Event(_)) => self.keep(false),
         }
     }
 

@@ -1,5 +1,5 @@
 // The lines of a piece, sifted: those that are kept into one lent range, the entries of the others into another.
-ghost use Rattle.std.specs.Prelude.{◌≡◌, true, [], ◌+◌, ◌≤◌, length, drop};
+ghost use Rattle.std.specs.Prelude.{◌≡◌, true, [], ◌+◌, ◌≤◌, is_ok, length, drop};
 ghost use Rattle.rows.specs.Digits.{Put};
 ghost use Rattle.trace.specs.Stream.{lines_from};
 ghost use Rattle.mending.specs.Sorted.{kept_text, list_text};
@@ -26,6 +26,7 @@ pub struct Ends {
 }
 
 // Writes a line that is kept, or the entry of another. (Each range goes with its index, as `MendDefined` names them.)
+#[tactic(auto, using(crate::proofs::Lines::put_none), unfolding(crate::specs::Sorted::kept_text, crate::specs::Sorted::list_text))]
 pub fn put_sorted(
     sorted: Sorted,
     line: &[u8],
@@ -34,21 +35,19 @@ pub fn put_sorted(
     list: &mut [u8],
     listed: usize,
 ) -> Ends
-    requires { (sorted.kept ≡ true → length line.now ≤ 4096) × (kept + 4096 ≤ length out.old) × (listed + 43 ≤ length list.old) }
+    requires { (is_ok sorted.reply ≡ true → length line.now ≤ 4096) × (kept + 4096 ≤ length out.old) × (listed + 43 ≤ length list.old) }
     ensures keeps { Put out.old out.new kept (kept_text sorted line.now) result.kept }
     ensures lists { Put list.old list.new listed (list_text sorted) result.listed }
 {
-    if sorted.kept {
-        Ends {
+    match sorted.reply {
+        Ok(()) => Ends {
             kept: put_text(out, kept, line),
             listed,
-        }
-    } else {
-        let number = sorted.mend.line;
-        Ends {
+        },
+        Err(bad) => Ends {
             kept,
-            listed: put_entry(list, listed, number, sorted.field),
-        }
+            listed: put_entry(list, listed, sorted.mend.line, bad.field),
+        },
     }
 }
 
@@ -67,6 +66,7 @@ pub fn sift(mend: Mend, s: &[u8], from: usize, out: &mut [u8], list: &mut [u8]) 
         kept: 0,
         listed: 0,
     };
+    // No `for` over split lines: those don't say whether the last one is ended.
     while sifted.kept + 4096 <= out.len() && sifted.listed + 43 <= list.len() {
         let end = end_of(s, sifted.at, b'\n');
         if s.len() <= end {

@@ -1,7 +1,6 @@
 // One call of a frame, from its bytes.
 ghost use Rattle.std.specs.Prelude.{◌≡◌, length};
 
-use crate::copy::copy;
 use crate::put::put;
 use crate::{estimator, filter, lent, neighbours};
 use guovssalu::model_run::guovssalu_run;
@@ -12,43 +11,19 @@ use words::{get_word, put_words};
 pub fn answer_call(state: &mut [u8; 408], call: &[u8], answer: &mut [u8])
     requires { (length call.now ≡ 392) × (length answer.old ≡ 552) }
 {
-    let number = get_word(call, 0);
-    if number == 47 {
-        neighbours::answer(call, answer);
-        return;
+    match get_word(call, 0) {
+        46 => filter::answer(call, answer),
+        47 => return neighbours::answer(call, answer),
+        48 => return lent::filter_run(call, answer),
+        49 => return lent::slope(call, answer),
+        50 => return estimator::rtt_run(call, answer),
+        98 | 99 => {
+            put(state, call);
+            put_words(answer, 0, &[0u64; 18]);
+        }
+        _ => model_call(state, call, answer),
     }
-    if number == 48 {
-        lent::filter_run(call, answer);
-        return;
-    }
-    if number == 49 {
-        lent::slope(call, answer);
-        return;
-    }
-    if number == 50 {
-        estimator::rtt_run(call, answer);
-        return;
-    }
-    state_call(number, state, call, answer);
-}
-
-// A call whose answer shows the state: of the model, on a windowed filter, or one that puts words into the state.
-fn state_call(number: u64, state: &mut [u8; 408], call: &[u8], answer: &mut [u8])
-    requires { (length call.now ≡ 392) × (length answer.old ≡ 552) }
-{
-    if number == 46 {
-        filter::answer(call, answer);
-        copy(state, answer, 144);
-        return;
-    }
-    if (number == 98) | (number == 99) {
-        put(state, call);
-        put_words(answer, 0, &[0u64; 18]);
-        copy(state, answer, 144);
-        return;
-    }
-    model_call(state, call, answer);
-    copy(state, answer, 144);
+    answer[144..].copy_from_slice(state);
 }
 
 // A call of the model, by the exported run. What the run itself refuses, a state with a malformed word, is answered by
@@ -57,10 +32,9 @@ fn model_call(state: &mut [u8], call: &[u8], answer: &mut [u8])
     requires { length answer.old ≡ 552 }
 {
     let reply = guovssalu_run(state, call, answer);
-    if reply == 0 {
-        return;
+    if reply != 0 {
+        let mut words = [0u64; 18];
+        words[0] = reply;
+        put_words(answer, 0, &words);
     }
-    let mut words = [0u64; 18];
-    words[0] = reply;
-    put_words(answer, 0, &words);
 }

@@ -2,7 +2,6 @@
 // bytes are lent, so that bytes which must be kept are seen.
 ghost use Rattle.std.specs.Prelude.{◌≡◌, length};
 
-use crate::copy::copy;
 use crate::lent::at_most;
 use guovssalu::rtt_run::guovssalu_rtt_run;
 use words::{get_word, put_words};
@@ -13,27 +12,16 @@ pub fn rtt_run(call: &[u8], answer: &mut [u8])
     requires { (length call.now ≡ 392) × (length answer.old ≡ 552) }
 {
     let mut state = [0u8; 56];
-    copy(&call[32..88], &mut state, 0);
-    let marks = [165u8; 480];
-    copy(&marks, answer, 72);
-    let reply = lend(&mut state, call, answer);
-    copy(&state, answer, 16);
-    put_words(answer, 0, &[reply, 0]);
-}
-
-// Lends of the state's memory what the call says.
-fn lend(state: &mut [u8], call: &[u8], answer: &mut [u8]) -> u64
-    requires { (length state.old ≡ 56) × (length call.now ≡ 392) × (length answer.old ≡ 552) }
-{
+    state.copy_from_slice(&call[32..88]);
+    answer[72..].fill(165);
     let state_end = at_most(get_word(call, 8), 56);
-    run_on(&mut state[0..state_end], call, answer)
-}
-
-// Makes the run on a state that is lent.
-fn run_on(state: &mut [u8], call: &[u8], answer: &mut [u8]) -> u64
-    requires { (length call.now ≡ 392) × (length answer.old ≡ 552) }
-{
     let calls_end = 88 + at_most(get_word(call, 16), 304);
     let lent_end = 72 + at_most(get_word(call, 24), 480);
-    guovssalu_rtt_run(state, &call[88..calls_end], &mut answer[72..lent_end])
+    let reply = guovssalu_rtt_run(
+        &mut state[..state_end],
+        &call[88..calls_end],
+        &mut answer[72..lent_end],
+    );
+    answer[16..72].copy_from_slice(&state);
+    put_words(answer, 0, &[reply, 0]);
 }

@@ -25,25 +25,23 @@ fn operated(filter: WindowedFilter, op: u64, x: u64, y: u64) -> [u64; 18] {
 }
 
 // The words of an update. A refused one leaves the filter unchanged, and says so.
-fn updated(filter: WindowedFilter, sample: u64, time: u64) -> [u64; 18] {
-    let mut next = filter;
-    match next.update(sample, time) {
-        Ok(reason) => answer_words(0, reason.number(), next),
-        Err(refusal) => answer_words(refusal.row(), Reason::Unchanged.number(), next),
+fn updated(mut filter: WindowedFilter, sample: u64, time: u64) -> [u64; 18] {
+    match filter.update(sample, time) {
+        Ok(reason) => answer_words(0, reason.number(), filter),
+        Err(refusal) => answer_words(refusal.row(), Reason::Unchanged.number(), filter),
     }
 }
 
 fn filter_of(n: &[u64; 12]) -> WindowedFilter {
-    let window = n[4];
-    if n[5] != 1 {
-        return WindowedFilter::new(window);
-    }
-    let held = Some(Estimates {
+    let held = Estimates {
         best: sample(n[6], n[7]),
         second: sample(n[8], n[9]),
         third: sample(n[10], n[11]),
-    });
-    WindowedFilter { window, held }
+    };
+    WindowedFilter {
+        window: n[4],
+        held: (n[5] == 1).then_some(held),
+    }
 }
 
 fn sample(sample: u64, time: u64) -> Sample {
@@ -51,25 +49,18 @@ fn sample(sample: u64, time: u64) -> Sample {
 }
 
 fn answer_words(reply: u64, reason: u64, filter: WindowedFilter) -> [u64; 18] {
-    let held = filter.held;
     let mut words = [0u64; 18];
     words[0] = reply;
     words[1] = reason;
     words[2] = filter.window;
-    match held {
-        None => words,
-        Some(e) => with_estimates(words, e),
+    if let Some(e) = filter.held {
+        words[3] = 1;
+        words[4] = e.best.sample;
+        words[5] = e.best.time;
+        words[6] = e.second.sample;
+        words[7] = e.second.time;
+        words[8] = e.third.sample;
+        words[9] = e.third.time;
     }
-}
-
-fn with_estimates(empty: [u64; 18], e: Estimates) -> [u64; 18] {
-    let mut words = empty;
-    words[3] = 1;
-    words[4] = e.best.sample;
-    words[5] = e.best.time;
-    words[6] = e.second.sample;
-    words[7] = e.second.time;
-    words[8] = e.third.sample;
-    words[9] = e.third.time;
     words
 }

@@ -3,18 +3,14 @@
 ghost use Rattle.std.specs.Prelude.{◌≡◌, length};
 
 use crate::call::answer_call;
-use crate::copy::copy;
 
 pub fn answer(request: &[u8], answers: &mut [u8])
     requires { (length request.now ≡ 39608) × (length answers.old ≡ 55200) }
 {
     let mut state = [0u8; 408];
-    copy(&request[..408], &mut state, 0);
-    for i in 0usize..100 {
-        let from = 408 + 392 * i;
-        let to = from + 392;
-        let start = 552 * i;
-        let end = start + 552;
-        answer_call(&mut state, &request[from..to], &mut answers[start..end]);
+    let (before, calls) = request.split_at(408);
+    state.copy_from_slice(before);
+    for (call, answer) in calls.chunks_exact(392).zip(answers.chunks_exact_mut(552)) {
+        answer_call(&mut state, call, answer);
     }
 }

@@ -2,7 +2,6 @@
 // of which only the first bytes are lent, so that bytes which must be kept are seen.
 ghost use Rattle.std.specs.Prelude.{◌≡◌, ◌≤◌, length};
 
-use crate::copy::copy;
 use guovssalu::filter_run::guovssalu_filter_run;
 use guovssalu::slope::guovssalu_raise_inflight_high_slope;
 use words::{get_word, put_words};
@@ -14,7 +13,7 @@ pub fn filter_run(call: &[u8], answer: &mut [u8])
     let window = get_word(call, 8);
     let pairs_end = 32 + at_most(get_word(call, 16), 272);
     let lent_end = 16 + at_most(get_word(call, 24), 536);
-    mark(answer);
+    answer[16..].fill(165);
     let reply = guovssalu_filter_run(window, &call[32..pairs_end], &mut answer[16..lent_end]);
     put_words(answer, 0, &[reply, 0]);
 }
@@ -26,26 +25,14 @@ pub fn slope(call: &[u8], answer: &mut [u8])
     let rounds = get_word(call, 8);
     let window = get_word(call, 16);
     let lent_end = 16 + at_most(get_word(call, 24), 536);
-    mark(answer);
+    answer[16..].fill(165);
     let reply = guovssalu_raise_inflight_high_slope(rounds, window, &mut answer[16..lent_end]);
     put_words(answer, 0, &[reply, 0]);
-}
-
-// Every byte of the memory is 165 before the call.
-fn mark(answer: &mut [u8])
-    requires { length answer.old ≡ 552 }
-{
-    let marks = [165u8; 536];
-    copy(&marks, answer, 16);
 }
 
 // The number, or the most where it is larger.
 pub fn at_most(number: u64, most: usize) -> usize
     ensures { result ≤ most }
 {
-    if number < most as u64 {
-        number as usize
-    } else {
-        most
-    }
+    number.min(most as u64) as usize
 }

@@ -3,7 +3,6 @@
 #![tactic(auto)]
 
 mod call;
-mod copy;
 mod estimator;
 mod filter;
 mod frame;

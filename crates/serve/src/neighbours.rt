@@ -20,8 +20,8 @@ pub fn answer(call: &[u8], out: &mut [u8])
 fn answers(function: u64, first: u64, other: u64) -> [u64; 69] {
     let mut words = [0u64; 69];
     let mut next = first;
-    for i in 2usize..66 {
-        words[i] = value(function, next, other);
+    for word in &mut words[2..66] {
+        *word = value(function, next, other);
         next = next.wrapping_add(1);
     }
     words

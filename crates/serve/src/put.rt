@@ -9,9 +9,8 @@ pub fn put(state: &mut [u8], call: &[u8])
     requires { (length state.old ≡ 408) × (length call.now ≡ 392) }
 {
     let count = at_most(get_word(call, 8), 23);
-    for i in 0..count {
-        let at = 16 + 16 * i;
-        put_one(state, get_word(call, at), get_word(call, at + 8));
+    for pair in call[16..16 + 16 * count].chunks_exact(16) {
+        put_one(state, get_word(pair, 0), get_word(pair, 8));
     }
 }
 

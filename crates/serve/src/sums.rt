@@ -5,8 +5,8 @@ use words::{get_word, put_words};
 pub fn sums(answers: &[u8; 55_200]) -> [u8; 16] {
     let mut sum: u64 = 0;
     let mut total: u64 = 0;
-    for i in 0usize..6_900 {
-        sum = sum.wrapping_add(get_word(answers, 8 * i));
+    for word in answers.chunks_exact(8) {
+        sum = sum.wrapping_add(get_word(word, 0));
         total = total.wrapping_add(sum);
     }
     let mut out = [0u8; 16];

@@ -28,6 +28,7 @@ pub fn run(replay: Replay, s: &[u8], from: usize, out: &mut [u8]) -> Ran
         at: from,
         written: 0,
     };
+    // No `for` over split lines: those don't say whether the last one is ended.
     while ran.at < s.len() && 148 <= out.len() - ran.written {
         let end = end_of(s, ran.at, b'\n');
         if s.len() <= end {

@@ -5,7 +5,7 @@ use Rattle.mend.proofs.answer.Given as goal
 
 abbrev pub invariant-loop-at : goal.invariant-loop-at
 invariant-loop-at g l =
-    (length l.out ≡ length l.fn.out) × (length l.entries ≡ length l.fn.entries) × Going l.fn.mend l.s l.cur l.at
+    (length l.out ≡ length l.fn.out) × (length l.entries ≡ length l.fn.entries) × Going l.fn.mend l.s l.mend l.at
 
 abbrev pub decreases-loop-at : goal.decreases-loop-at
 decreases-loop-at g l = length l.s - l.at

@@ -4,7 +4,7 @@ use Rattle.trace.proofs.Answers.{Completes}
 use Rattle.replay.proofs.answer.Given as goal
 
 abbrev pub invariant-loop-at : goal.invariant-loop-at
-invariant-loop-at g l = (length l.out ≡ length l.fn.out) × Completes l.s (length l.fn.out) l.fn.replay l.cur l.at
+invariant-loop-at g l = (length l.out ≡ length l.fn.out) × Completes l.s (length l.fn.out) l.fn.replay l.replay l.at
 
 abbrev pub decreases-loop-at : goal.decreases-loop-at
 decreases-loop-at g l = length l.s - l.at
