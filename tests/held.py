@@ -174,7 +174,7 @@ RTT_CHOICES = {
     ".antt": [(["call_faults"], "_faults"), (["call_row"], "_number"), (["call_left"], "_left")],
 }
 # Functions that read a call's words, write a state's and an answer's, and test a state's form.
-RTT_READ = {".rt": ["call_at"], ".antt": ["answer_at", "left_at"]}
+RTT_READ = {".rt": ["carry_out"], ".antt": ["answer_at", "left_at"]}
 RTT_WRITTEN = {".rt": ("stats_words", "answer_words"), ".antt": ("stats_words", "shown")}
 RTT_ANSWER = "answer_words"
 RTT_FORM = {".rt": "encodes_none", ".antt": "encodes_none"}
@@ -185,8 +185,8 @@ RTT_PHRASES = [
     (r"words_at s 0 (\d+)", ("RTT_STATE_WORDS",)),
     (r"\bstate\.len\(\) [!=]= (\d+)|state\.(?:now|old|new) ≡ (\d+)|eqb \(length (?:s|state|r\.state)\) (\d+)", ("RTT_STATE_BYTES",)),
     (r"\bcalls\.len\(\) [%/] (\d+)|\blength (?:src|r\.calls) [%/] (\d+)|src \(at \+ (\d+)\) n\b", ("RTT_CALL_BYTES",)),
-    (r"\bcalls, (\d+) \* i\b|\bat \+ (\d+) ≤ length calls\.now", ("RTT_CALL_BYTES",)),
-    (r"\banswers, (\d+) \* i\b|\bto \+ (\d+) ≤ length answers\.old|\b(\d+) \* \(?(?:calls_in|calls\.len|rtt_count)", ("RTT_ANSWER_BYTES",)),
+    (r"\bat = (\d+) \* i\b|\bcalls\[at\.\.at \+ (\d+)\]|length call\.now ≡ (\d+)", ("RTT_CALL_BYTES",)),
+    (r"\bto = (\d+) \* i\b|\banswers\[to\.\.to \+ (\d+)\]|length answer\.old ≡ (\d+)|\b(\d+) \* \(?(?:calls_in|calls\.len|rtt_count)", ("RTT_ANSWER_BYTES",)),
     (r"\btake (\d+) \(|\bdrop \((\d+) \* i\)|r\.written \((\d+) \* i\b", ("RTT_ANSWER_BYTES",)),
 ]
 
@@ -940,7 +940,7 @@ def check_rtt_choices(table, path, choices):
 def check_rtt_words(table, path, readers):
     """The number and the arguments of a call are read from their words, at so many bytes after its first."""
     due = [WORD_BYTES * word for word in range(table.size.RTT_CALL_WORDS)]
-    word = r"get_word\(calls, at(?: \+ (\d+))?\)" if ending(path) == ".rt" else r"word_at src (?:at\b|\(at \+ (\d+)\))"
+    word = r"get_word\(call, (\d+)\)" if ending(path) == ".rt" else r"word_at src (?:at\b|\(at \+ (\d+)\))"
     for name in readers:
         stands = [int(at or 0) for at in re.findall(word, functions(path).get(name, ""))]
         if stands != due:

@@ -29,12 +29,7 @@ use units::refusal::fault_word;
 use words::{get_word, get_words, put_words};
 
 // Call 1, a send, which reads four of its words.
-pub fn send(
-    model: &mut NetworkModel,
-    fine: bool,
-    call: &[u8],
-    answer: &mut [u8],
-)
+pub fn send(model: &mut NetworkModel, fine: bool, call: &[u8], answer: &mut [u8])
     requires { (length call.now ≡ 392) × (length answer.old ≡ 144) × (fine ≡ model_ok model.old) }
     ensures value { model.new ≡ send_leaves (own_at call.now 0) model.old }
     ensures answer_after { answer.new ≡ all_bytes (send_word (own_at call.now 0) model.old ∷ 0 ∷ no_event) }
@@ -142,12 +137,7 @@ pub fn other(
 
 // The word of a call's reply: its row, and where that is 2 the first fault of the call's words, which is seldom needed.
 #[tactic(auto, unfolding(state::specs::Faults::named))]
-fn reply_word<T: Drop>(
-    reply: Result<T, Cause>,
-    least: Moment,
-    call: &[u8],
-    lists: &[u64],
-) -> u64
+fn reply_word<T: Drop>(reply: Result<T, Cause>, least: Moment, call: &[u8], lists: &[u64]) -> u64
     requires { length call.now ≡ 392 }
     ensures { result ≡ replied (caused reply) (first (faults_of (call_at call.now lists.now 0) least)) }
 {

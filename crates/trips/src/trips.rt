@@ -88,24 +88,26 @@ pub fn run_calls(stats: RttStats, calls: &[u8], answers: &mut [u8]) -> RttStats
 {
     let mut s = stats;
     for i in 0..calls.len() / 32 {
-        call_at(&mut s, calls, 32 * i, answers, 40 * i);
+        let at = 32 * i;
+        let to = 40 * i;
+        carry_out(&mut s, &calls[at..at + 32], &mut answers[to..to + 40]);
     }
     s
 }
 
-// Makes the call at an index and writes its answer.
-#[tactic(auto, unfolding(crate::specs::Trips::answer_words, crate::specs::Trips::answer_at, crate::specs::Trips::left_at))]
-fn call_at(stats: &mut RttStats, calls: &[u8], at: usize, answers: &mut [u8], to: usize)
-    requires { (at + 32 ≤ length calls.now) × (to + 40 ≤ length answers.old) }
-    ensures stats { stats.new ≡ left_at stats.old calls.now at }
-    ensures answers_after { answers.new ≡ sets answers.old to (all_bytes (answer_at stats.old calls.now at)) }
+// Makes a call, from its own bytes, and writes its answer to the answer's.
+#[tactic(auto, using(crate::proofs::Run::whole), unfolding(crate::specs::Trips::answer_words, crate::specs::Trips::answer_at, crate::specs::Trips::left_at))]
+fn carry_out(stats: &mut RttStats, call: &[u8], answer: &mut [u8])
+    requires { (length call.now ≡ 32) × (length answer.old ≡ 40) }
+    ensures stats { stats.new ≡ left_at stats.old call.now 0 }
+    ensures answer_after { answer.new ≡ all_bytes (answer_at stats.old call.now 0) }
 {
-    let number = get_word(calls, at);
-    let a = get_word(calls, at + 8);
-    let b = get_word(calls, at + 16);
-    let c = get_word(calls, at + 24);
+    let number = get_word(call, 0);
+    let a = get_word(call, 8);
+    let b = get_word(call, 16);
+    let c = get_word(call, 24);
     let reply = call_made(stats, number, a, b, c);
-    put_words(answers, to, &answer_words(reply, *stats));
+    put_words(answer, 0, &answer_words(reply, *stats));
 }
 
 // Makes a call.
