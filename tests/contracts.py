@@ -28,7 +28,7 @@ PAGES = ["docs/*.md", "*.md", "NOTICE", "rust/README.md", "oracle/README.md", "h
 COLUMNS = ["function", "answers", "definition", "from", "rules out", "must-fail"]
 FOLDERS = ["crates", "docs", "tests", "rust", "oracle", "include", "bench", "hostile", "traces"]
 # Cited by so many contracts that the page says once what they are.
-LEFT_OUT = {"number", "settled", "zero_bandwidth", "zero_length", "zero_moment", "zero_gain"}
+LEFT_OUT = {"number", "kept", "caused", "given", "settled", "zero_bandwidth", "zero_length", "zero_moment", "zero_gain"}
 
 NAME = re.compile(r"[A-Za-z][\w']*")
 SPAN = re.compile(r"`([^`]*)`")

@@ -14,8 +14,9 @@ from words import PATH, ROOT, WORD_BYTES, constant
 
 # ---- where to look
 
-# Source that chooses a call by its number, `match call { 12 => model.bdp0(), .. }` or `if call == 1 { m = send(..`; what
-# it calls has the call's name, or one of these instead. Together the files have every call.
+# Source that chooses a call by its number, `match call { 12 => Ok(reads::bdp0(model)?), .. }`, the same of the call's word
+# in bytes, or `if call == 0 { return started(..`; what it calls has the call's name, or one of these instead. Together the
+# files have every call.
 CHOICES = {
     "crates/calls/src/ask.rt": {},
     "crates/calls/src/change.rt": {},
@@ -67,6 +68,8 @@ ACKED = [
     ("crates/arguments/specs/Sample.antt", "list_place", ["place"]),
     ("crates/arguments/specs/Sample.antt", "acked_of", ["numbers"]),
 ]
+# Where a run writes the word of a call that is done.
+DONE = "crates/dispatch/src/one_call.rt"
 # Where a call's words become its arguments: for most calls in the first file, by a function that has the call's number and
 # chooses it in a file of its own; for a start, and for a send, in a function that knows the call. The arguments are handed
 # on in the order of their rows, or in the one that stands here.
@@ -81,19 +84,19 @@ KNOWING = [
     (HANDED, "started", "NetworkModel::new", "start", ["initial_rtt", "now"]),
     ("crates/dispatch/src/one_call.rt", "send", "sent_tested", "on_packet_sent", None),
 ]
-# Phrases of the source and of definitions that have a size, and which. An array of nothing stands for no lists.
+# Phrases of the source and of definitions that have a size, and which.
 WORDS = ("STATE_WORDS", "CALL_WORDS", "ANSWER_WORDS", "EVENT_WORDS", "SAMPLES_WORDS", "SLOPE_WORDS")
 PHRASES = [
-    (r"\[0?(?:u64)?; (?!0\])(\d+)\]", WORDS),
+    (r"\[0?(?:u64)?; (\d+)\]", WORDS),
     (r"\bcount <= (\d+)|\bleb \(acked_count l\) (\d+)", ("MOST_ACKED",)),
     (r"\blist_place l = (\d+) \+", ("CALL_WORDS",)),
     (r"\bn: &?\[u64; (\d+)\]", ("STATE_WORDS", "CALL_WORDS")),
     (r"\bstate\.len\(\) != (\d+)|state\.(?:now|old|new) ≡ (\d+)|eqb \(length (?:s|state|r\.state)\) (\d+)", ("STATE_BYTES",)),
     (r"words_at s 0 (\d+)|\(cycle_from w\)\) w 0 (\d+)|cycle_words c\) ≡ (\d+)", ("STATE_WORDS",)),
     (r"\bcalls\.len\(\) [%/] (\d+)|r\.calls % (\d+)|calls_in src = length src / (\d+)", ("CALL_BYTES",)),
-    (r"\bat = (\d+) \* i\b|\bat \+ (\d+) ≤ length calls\.now|src \(at \+ ([2-9]\d\d)\) n|calls \(at \+ (\d+)\)", ("CALL_BYTES",)),
+    (r"\bat = (\d+) \* i\b|\bcalls\[at\.\.at \+ (\d+)\]|length call\.now ≡ (\d+)|src \(at \+ ([2-9]\d\d)\) n|calls \(at \+ (\d+)\)", ("CALL_BYTES",)),
     (r"words_at src at (\d+)", ("CALL_WORDS",)),
-    (r"\bto = (\d+) \* i\b|\bto \+ (\d+) ≤ length answers\.old|\b(\d+) \* \(?(?:calls_in|count r|calls\.len)", ("ANSWER_BYTES",)),
+    (r"\bto = (\d+) \* i\b|\banswers\[to\.\.to \+ (\d+)\]|length answer\.old ≡ (\d+)|\b(\d+) \* \(?(?:calls_in|count r|calls\.len)", ("ANSWER_BYTES",)),
     (r"\(event_words e\) ≡ (\d+)|words_from l 22 (\d+)", ("EVENT_WORDS",)),
     (r"event_from_word l (\d+)|words_from l (\d+) 16", ("EVENT_IN_CALL",)),
     (r"words_from l (\d+) 11", ("PARAMS_IN_CALL",)),
@@ -108,15 +111,18 @@ COUNTED = SIZED + ["crates/serve/src/*"]
 OTHERS = {64, 256} | {56, 72, 98, 99, 100, 165, 272, 304, 480, 536}
 # Worked examples, and a count of lines.
 NOT_COUNTED = ["crates/guovssalu/specs/Examples.antt", "crates/theorems/specs/Examples.antt", "crates/theorems/specs/Theorems.antt"]
-# Where the numbers of a section's names stand: `Reason::Unchanged => 7` in the source, `number Done = 0` in definitions.
-# The source has a reply's place, and is proved to make the definition's number of it.
+# Where the numbers of a section's names stand: `Refusal::NeverSent => 10`, or `NeverSent = 10` in the enum itself, in the
+# source, `row_of NeverSent = 10` in definitions. A call that is done is the `Ok` of a result.
 NUMBERED = [
-    ("replies", "Reply", "number", ["crates/units/specs/Reply.antt"]),
-    ("reasons", "Reason", "reason_number", ["crates/filters/src/windowed_filter.rt", "crates/filters/specs/Reason.antt"]),
+    ("replies", "Refusal", "row_of", "number", ["crates/units/src/refusal.rt", "crates/units/specs/Reply.antt"]),
+    ("reasons", "Reason", "reason_number", None, ["crates/filters/src/windowed_filter.rt", "crates/filters/specs/Reason.antt"]),
 ]
+# The rows of a run's calls, by names of their own: `Cause::Unsent => Refusal::NeverSent` says of which reply each is. The
+# enum has no row for a call that is done, the definition has.
+CAUSES = ("Cause", "cause_row", "caused", "crates/state/src/refusals.rt", "crates/state/specs/Refusals.antt")
 
-# The kinds of a refusal 2: the constants of the source, and their names in definitions, `a_window` for Window, but for
-# these. Both files have a list of faults for each call, each fault with its place and its kind, in their order.
+# The kinds of a refusal 2: an enum of the source, and their names in definitions, `a_window` for Window, but for these.
+# Both files have a list of faults for each call, each fault with its place and its kind, in their order.
 FAULTS = {".rt": "crates/state/src/faults.rt", ".antt": "crates/state/specs/Faults.antt"}
 KINDS = {"ProbeRounds": "probe_rounds", "ListLength": "list_length"}
 # Which list a call of a run has: by its number, of the numbers in its words.
@@ -149,9 +155,9 @@ EXPORTED = [
 # Where a reply is put together, and by which part's step: a fault is a kind and so many times a place, a reply a row and
 # so many times a fault.
 STEPS = [
-    ("crates/state/src/faults.rt", r"wide\(kind\) \+ (\d+) \* wide\(place\)", "place"),
+    ("crates/state/src/faults.rt", r"\bkind as u32 \+ (\d+) \* u32::from\(place\)", "place"),
     ("crates/state/specs/Faults.antt", r"\(kind \+ (\d+) \* place\)", "place"),
-    ("crates/units/src/reply.rt", r" \+ (\d+) \* wide\(fault\)", "kind"),
+    ("crates/units/src/refusal.rt", r" \+ (\d+) \* u64::from\(fault\)", "kind"),
     ("crates/units/specs/Reply.antt", r"= row \+ (\d+) \* fault\b", "kind"),
 ]
 
@@ -159,8 +165,10 @@ STEPS = [
 # its number and read from its words, which are there called a, b and c.
 RTT = {".rt": "crates/rtt/src/rtt.rt", ".antt": "crates/rtt/specs/Rtt.antt"}
 TRIPS = {".rt": "crates/trips/src/trips.rt", ".antt": "crates/trips/specs/Trips.antt"}
-# Functions that choose by the number, and what they choose: with what the names end, or the names.
+# Functions that choose by the number, and what they choose: with what the names end, or the names. In the source each call
+# finds its own fault, in the function that has its name there.
 RTT_MADE = {"new": "begin", "update": "update_taken", "delay": "update_max_ack_delay"}
+RTT_NAMING = {"new": "new", "update": "update_taken", "delay": "update_max_ack_delay"}
 RTT_CHOICES = {
     ".rt": [(["call_made"], RTT_MADE)],
     ".antt": [(["call_faults"], "_faults"), (["call_row"], "_number"), (["call_left"], "_left")],
@@ -233,6 +241,28 @@ def split(text, mark):
     return [part.strip() for part in parts + [text[last:]] if part.strip()]
 
 
+def arms(text):
+    """The arms of a match: the pattern and what it gives, which is a block or goes up to a comma."""
+    while text.strip():
+        pattern, _, text = text.partition("=>")
+        text = text.lstrip()
+        if text.startswith("{"):
+            given = closed(text, 0)
+            text = text[len(given) + 2 :].lstrip().removeprefix(",")
+        else:
+            given = next(iter(split(text, ",")), "")
+            text = text[len(given) :].lstrip().removeprefix(",")
+        yield pattern.strip(), given.strip()
+
+
+def calls_in(pattern):
+    """The numbers of a pattern: 9 | 15 | 16, or 12..=14, or none."""
+    if not re.fullmatch(r"[\d\s|.=]+", pattern):
+        return []
+    ends = re.findall(r"(\d+)(?:\.\.=(\d+))?", pattern)
+    return [number for low, high in ends for number in range(int(low), int(high or low) + 1)]
+
+
 def functions(path):
     """The body of each function, by name."""
     text, bodies = code(path), {}
@@ -252,11 +282,9 @@ def functions(path):
 def choices(path):
     """The choices by a call's number: number, and what is called."""
     text = code(path)
-    for found in re.finditer(r"\bmatch call \{", text):
-        for arm in split(closed(text, found.end() - 1), ","):
-            number, _, called = arm.partition("=>")
-            if number.strip().isdigit():
-                yield int(number), called.strip()
+    for found in re.finditer(r"\bmatch (?:call|get_word\(call, 0\)) \{", text):
+        for pattern, called in arms(closed(text, found.end() - 1)):
+            yield from ((number, called) for number in calls_in(pattern))
     for found in re.finditer(r"\bif call == (\d+) \{", text):
         yield int(found.group(1)), closed(text, found.end() - 1).strip()
 
@@ -385,7 +413,7 @@ def check_forms(table, path, name, section, first):
     apart = ", " if path.endswith(".rt") else " "
     tests = {"flag": r"\bflag_fits[( ]", "f32": r"\bfloat_fits[( ]", "phase": r"\bphase_fits[( ]"}
     single = {kind: re.findall(test + word, text) for kind, test in tests.items()}
-    pairs = re.findall(r"\bpair_fits[( ]" + word + apart + word, text)
+    pairs = re.findall(r"\bmaybe_fits[( ]" + word + apart + word, text)
     stands = {kind: sorted(map(int, found)) for kind, found in single.items()}
     stands["pair"] = sorted(int(one) for pair in pairs for one in pair)
     due = {kind: [] for kind in stands}
@@ -419,8 +447,13 @@ def word_in(text):
     found = re.search(r"(\bfloat_of\()?\bn\[(\d+)\]", text)
     if found:
         return int(found.group(2)), bool(found.group(1))
-    found = re.search(r"\bget_word\(calls, at \+ (\d+)\)", text)
+    found = re.search(r"\bget_word\(call, (\d+)\)", text)
     return (int(found.group(1)) / WORD_BYTES, False) if found else None
+
+
+def words_read(body):
+    """The words that a function reads before it hands them on, by the names that it gives them."""
+    return {found: word_in(value) for found, value in re.findall(r"\blet (\w+) = (.*);", body) if word_in(value)}
 
 
 def used(text, words):
@@ -455,7 +488,7 @@ def parameters(path, function):
 
 def check_passed(path):
     """What a choice passes on to a further choice of its file keeps its name."""
-    for found in re.finditer(r"\b_ => (\w+)\(([^()]*)\)", code(path)):
+    for found in re.finditer(r"\b_ (?:if .*? )?=> (\w+)\(([^()]*)\)", code(path)):
         due, stands = parameters(path, found.group(1)), split(found.group(2), ",")
         if due is not None and stands != due:
             yield f"{line_of(path, found.group(0))}: {', '.join(stands)} is handed on to {found.group(1)}, and should be {', '.join(due)}"
@@ -465,13 +498,15 @@ def check_arguments(table, handed, choosers, knowing):
     """Every call is given its arguments from their words."""
     seen = set()
     names = {int(row["number"]): row["name"] for row in table.rows("calls")}
-    text = code(handed)
+    bodies = functions(handed).values()
     for chooser, path in choosers.items():
+        text = next((body for body in bodies if re.search(rf"\b{chooser}\(", body)), "")
         at, takes = re.search(rf"\b{chooser}\(", text), parameters(path, chooser)
         if not at or takes is None:
             yield f"{handed}: {chooser} of {path} stands in one of the two and not in both"
             continue
-        given = [word_in(part) for part in split(closed(text, at.end() - 1), ",")]
+        read = words_read(text)
+        given = [read.get(part) or word_in(part) for part in split(closed(text, at.end() - 1), ",")]
         words = {name: word for name, word in zip(takes, given) if word and word[0]}
         for number, called in choices(path):
             # a number of no call is said by check_choices
@@ -481,8 +516,7 @@ def check_arguments(table, handed, choosers, knowing):
         yield from check_passed(path)
     for path, function, call, name, order in knowing:
         body = functions(path).get(function, "")
-        words = {found: word_in(value) for found, value in re.findall(r"\blet (\w+) = (.*);", body) if word_in(value)}
-        yield from check_given(table, f"{path}: {function}", name, handed_on(body, call, words), order)
+        yield from check_given(table, f"{path}: {function}", name, handed_on(body, call, words_read(body)), order)
         seen.add(name)
     for name in sorted({row["call"] for row in table.rows("arguments")} - seen):
         yield f"{handed}: nothing stands there or in the files beside it that hands on the arguments of {name}"
@@ -528,14 +562,57 @@ def check_numbers(table, paths, others):
                     yield f"{path}:{number}: {value} stands there, and is no size, word or call of {PATH}"
 
 
-def check_numbered(table, section, kind, function, paths):
+def enum_numbers(path, kind):
+    """The numbers that an enum of the source gives its names."""
+    text = code(path)
+    found = re.search(rf"\benum {kind} \{{", text)
+    return re.findall(r"^ *(\w+) = (\d+),", closed(text, found.end() - 1), re.M) if found else []
+
+
+def numbered(path, kind, function, done):
+    """Names and numbers: of the source's enum and of what is made of it, or of a definition's function; and of an `Ok`, where
+    it has one, in what has that name in definitions."""
+    text = code(path)
+    if path.endswith(".rt"):
+        pairs = enum_numbers(path, kind) + re.findall(rf"\b{kind}::(\w+)(?:\(_\))? => (\d+)", text)
+        # a call that is done is answered by this word where a run writes it
+        text = code(DONE)
+        of_ok = r"\bOk\((?:\(\)|_)\) => (\d+)"
+    else:
+        pairs = re.findall(rf"^{function} \(?(\w+)(?: \w+\))? = (\d+)$", text, re.M)
+        of_ok = rf"^{done} \(Ok \w+\) = (\d+)$"
+    pairs += [("Done", number) for number in sorted(set(re.findall(of_ok, text, re.M)))] if done else []
+    return [(name, int(number)) for name, number in pairs]
+
+
+def check_numbered(table, section, kind, function, done, paths):
     due = {row["name"]: int(row["number"]) for row in table.rows(section)}
     for path in paths:
-        pairs = re.findall(rf"(?:{kind}::(?=\w+ =>)|^{function} \(?)(\w+)(?: \w+\))? =>? (\d+)", code(path), re.M)
-        stands = {name: int(number) for name, number in pairs}
-        for name in sorted(set(due) | set(stands)):
-            if due.get(name) != stands.get(name):
-                yield f"{path}: {name} is {stands.get(name)} there, and should be {due.get(name)}"
+        yield from check_names(path, numbered(path, kind, function, done), due)
+
+
+def check_names(path, stands, due):
+    """Each name stands once, with its number."""
+    for name in sorted(set(due) | {name for name, _ in stands}):
+        here = [number for one, number in stands if one == name]
+        if here != ([due[name]] if name in due else []):
+            yield f"{path}: {name} is {' and '.join(map(str, here)) or None} there, and should be {due.get(name)}"
+
+
+def check_causes(table, kind, function, done, source, definition):
+    """A run's names of the rows have the rows' numbers: each is the reply that the source makes of it, and back."""
+    due = {row["name"]: int(row["number"]) for row in table.rows("replies")}
+    text = code(source)
+    made = dict(re.findall(rf"\b{kind}::(\w+) => Refusal::(\w+)", text))
+    back = {cause: reply for reply, cause in re.findall(rf"\bRefusal::(\w+)(?:\(_\))? => {kind}::(\w+)", text)}
+    if made != back:
+        yield f"{source}: the replies of {kind} are {made} there, and those that it is made of {back}"
+    if sorted(made.values()) != sorted(set(due) - {"Done"}):
+        yield f"{source}: {kind} is of {sorted(made.values())} there, and should be of {sorted(set(due) - {'Done'})}"
+    named = {name: due.get(reply) for name, reply in made.items()}
+    yield from check_names(source, numbered(source, kind, function, None), named)
+    named["Done"] = due["Done"]
+    yield from check_names(definition, numbered(definition, kind, function, done), named)
 
 
 # ---- kinds and places of a refusal 2
@@ -547,17 +624,25 @@ def ending(path):
 
 def kind_names(table, path):
     """The names of the kinds in a file, and their numbers."""
-    named = constant if ending(path) == ".rt" else lambda name: KINDS.get(name, "a_" + constant(name).lower())
-    return {named(row["name"]): int(row["number"]) for row in table.rows("faults")}
+    return {kind_name(path, row["name"]): int(row["number"]) for row in table.rows("faults")}
+
+
+def kind_name(path, name):
+    return name if ending(path) == ".rt" else KINDS.get(name, "a_" + constant(name).lower())
 
 
 def check_kinds(table, path):
     """The kinds have the table's numbers."""
-    kind = r"^pub const (\w+): u8 = (\d+);" if ending(path) == ".rt" else r"^(\w+) = (\d+)$"
-    due, stands = kind_names(table, path), {name: int(number) for name, number in re.findall(kind, code(path), re.M)}
+    source = ending(path) == ".rt"
+    pairs = enum_numbers(path, "Kind") if source else re.findall(r"^(\w+) = (\d+)$", code(path), re.M)
+    due, stands = kind_names(table, path), {name: int(number) for name, number in pairs}
     for name in sorted(set(due) | set(stands)):
         if due.get(name) != stands.get(name):
             yield f"{line_of(path, name)}: kind {name} is {stands.get(name)} there, and should be {due.get(name)}"
+    if not source:
+        # what the enum's names are there
+        due = {row["name"]: kind_name(path, row["name"]) for row in table.rows("faults")}
+        yield from check_names(path, re.findall(r"^kind_number (?:Kind\.)?(\w+) = (\w+)$", code(path), re.M), due)
 
 
 def check_steps(table, steps):
@@ -632,7 +717,7 @@ def listed(path, name, kinds, place=None):
             yield from listed(path, record, kinds, given[0])
         else:
             test, at, kind = given[:3]
-            yield place if at == "place" else at, kinds.get(kind, kind), test
+            yield place if at == "place" else at, kinds.get(kind.removeprefix("Kind::"), kind), test
 
 
 def check_list(where, stands, due, of):
@@ -649,11 +734,11 @@ def check_list(where, stands, due, of):
 def numbers_in(text):
     """The calls that a test by number lets through."""
     text = " ".join(text.split())
-    ranges = re.findall(r"\bleb (\d+) call && leb call (\d+)|\((\d+) <= call\) & \(call <= (\d+)\)", text)
-    single = re.findall(r"\beqb call (\d+)|\bcall == (\d+)", text)
-    found = {int(one or other) for one, other in single}
-    for low, high, least, most in ranges:
-        found |= set(range(int(low or least), int(high or most) + 1))
+    found = {int(one) for one in re.findall(r"\beqb call (\d+)", text)}
+    for low, high in re.findall(r"\bleb (\d+) call && leb call (\d+)", text):
+        found |= set(range(int(low), int(high) + 1))
+    for pattern in re.findall(r"\bmatches!\(call, ([^()]*)\)", text):
+        found |= set(calls_in(pattern))
     return found
 
 
@@ -691,10 +776,8 @@ def chosen_lists(path):
 
 def choices_in(body):
     """The arms of a match by a call's number."""
-    for arm in split(closed(body, body.index("match call {") + len("match call ")), ","):
-        number, _, called = arm.partition("=>")
-        if number.strip().isdigit():
-            yield int(number), called.strip()
+    for pattern, called in arms(closed(body, body.index("match call {") + len("match call "))):
+        yield from ((number, called) for number in calls_in(pattern))
 
 
 def check_places(table, path, beside):
@@ -735,7 +818,7 @@ def differing_places(table, path, beside):
         where, stands = beside, [divmod(int(found), 256) for found in re.findall(r"\bNO_CALL: u32 = (\d+);", code(beside))]
     else:
         where, stands = path, listed(path, "no_call", kinds)
-    due = [(0, kinds["LIST_LENGTH" if source else "list_length"])]
+    due = [(0, kinds[kind_name(path, "ListLength")])]
     yield from check_list(f"{where}: a number that is no call's", stands, due, "no call")
 
 
@@ -798,6 +881,16 @@ def check_rtt_faults(table, path):
         places_due = [place for place, *_ in due]
         if tested != places_due:
             yield f"{path}: {name}: what is given at {tested} is tested there, and should be what is given at {places_due}"
+
+
+def check_rtt_naming(table, path, naming):
+    """Each call finds the first fault of its own list, in what it is given."""
+    for row in table.rows("rtt_calls"):
+        here, name = row["here"], naming[row["here"]]
+        stands = re.findall(r"\b(\w+_fault)\(([^()]*)\)", functions(path).get(name, ""))
+        due = [(f"{here}_fault", ", ".join(parameters(path, f"{here}_fault") or []))]
+        if stands != due:
+            yield f"{path}: {name}: {stands} are its faults there, and should be {due}"
 
 
 def takes(path, name):
@@ -888,6 +981,7 @@ def check_rtt_form(table, path, name):
 def check_rtt(table):
     for path in RTT.values():
         yield from check_rtt_faults(table, path)
+    yield from check_rtt_naming(table, RTT[".rt"], RTT_NAMING)
     yield from check_rtt_rows(table, RTT[".antt"])
     for kind, path in TRIPS.items():
         yield from check_rtt_choices(table, path, RTT_CHOICES[kind])
@@ -914,6 +1008,7 @@ def named():
     yield from [HANDED, *CHOOSERS.values()]
     yield from NOT_COUNTED
     yield from (path for *_, paths in NUMBERED for path in paths)
+    yield from CAUSES[-2:]
     yield from [*FAULTS.values(), *PLACES.values()]
     yield from (path for _, path, _ in EXPORTED)
     yield from (path for path, *_ in FITS + STANDING + STEPS)
@@ -937,8 +1032,9 @@ def faults(table):
     out += check_arguments(table, HANDED, CHOOSERS, KNOWING)
     out += check_phrases(table, PHRASES, [path for path in files(SIZED) if path not in RTT_SIZED])
     out += check_numbers(table, [path for path in files(COUNTED) if path not in NOT_COUNTED], OTHERS)
-    for numbered in NUMBERED:
-        out += check_numbered(table, *numbered)
+    for section in NUMBERED:
+        out += check_numbered(table, *section)
+    out += check_causes(table, *CAUSES)
     for kind, path in FAULTS.items():
         out += check_kinds(table, path)
         out += check_places(table, PLACES[kind], path)

@@ -902,7 +902,10 @@ def taken():
 
 
 def number_of(text):
-    """A number as source and definitions write it, 0x10_0000_0000 or 2 ^ 64 - 1; nothing where it is written otherwise."""
+    """A number as source and definitions write it, 0x10_0000_0000, u64::MAX or 2 ^ 64 - 1; nothing where it is written
+    otherwise."""
+    if text == "u64::MAX":
+        return 2**64 - 1
     power = re.fullmatch(r"2 ?\^ ?(\d+)(?: - (\d+))?", text)
     if power:
         return 2 ** int(power[1]) - int(power[2] or 0)

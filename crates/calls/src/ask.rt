@@ -1,4 +1,5 @@
 // The calls that only answer.
+// A call is its number, a word of the C interface, and is matched once (docs/DESIGN-PASS.md).
 ghost use Rattle.std.specs.Prelude.{◌≡◌};
 ghost use Rattle.state.specs.Refusals.{caused, given};
 ghost use Rattle.state.specs.Answers.{settled};

@@ -1,4 +1,5 @@
 // The calls that change the model alone, but for a send.
+// A call is its number, a word of the C interface, and is matched once (docs/DESIGN-PASS.md).
 ghost use Rattle.std.specs.Prelude.{◌≡◌};
 ghost use Rattle.state.specs.Refusals.{caused};
 ghost use Rattle.state.specs.Answers.{settled};

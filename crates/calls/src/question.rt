@@ -1,4 +1,5 @@
 // The questions about an event, and the queue's.
+// A call is its number, a word of the C interface, and is matched once (docs/DESIGN-PASS.md).
 ghost use Rattle.std.specs.Prelude.{◌≡◌, false};
 ghost use Rattle.state.specs.Refusals.{caused, given};
 ghost use Rattle.state.specs.Answers.{settled};

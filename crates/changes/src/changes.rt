@@ -34,7 +34,8 @@ pub fn on_packet_sent(
     sent_tested(model, fine, now, inflight, packet, bytes).map_err(refused)
 }
 
-// The same for a run, where it is known whether the model is within its bounds.
+// The same for a run, where it is known whether the model is within its bounds. `fine` is no invariant of a type: that calls
+// keep it is proved of their contracts, in crates/laws.
 pub fn sent_tested(
     model: &mut NetworkModel,
     fine: bool,

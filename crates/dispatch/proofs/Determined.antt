@@ -8,14 +8,14 @@ use Rattle.dispatch.proofs.one_call as call
 both : {A B : Type 0} {a b : A} {c d : B} → a ≡ b → c ≡ d → ◌≡◌ {A = A × B} (a, c) (b, d)
 both p q = ap₂ (λ x y. (x, y)) p q
 
-pub one_send : OneOutcome {S = NetworkModel × List ℕ} call.send.Reads.Learnt (λ κ e. (e.0.now, e.1.1.1.1.0.now))
+pub one_send : OneOutcome {S = NetworkModel × List ℕ} call.send.Reads.Learnt (λ κ e. (e.0.now, e.1.1.1.0.now))
 one_send κ a x y s t p q = (refl, both (p.0 ∙ sym q.0) (p.1 ∙ sym q.1))
 
-pub one_event_start : OneOutcome {S = NetworkModel × List ℕ} call.event_start.Reads.Learnt (λ κ e. (e.0.now, e.1.1.1.1.1.0.now))
+pub one_event_start : OneOutcome {S = NetworkModel × List ℕ} call.event_start.Reads.Learnt (λ κ e. (e.0.now, e.1.1.1.1.0.now))
 one_event_start κ a x y s t p q = (refl, both (p.0 ∙ sym q.0) (p.1 ∙ sym q.1))
 
-pub one_event_finish : OneOutcome {S = NetworkModel × List ℕ} call.event_finish.Reads.Learnt (λ κ e. (e.0.now, e.1.1.1.1.1.0.now))
+pub one_event_finish : OneOutcome {S = NetworkModel × List ℕ} call.event_finish.Reads.Learnt (λ κ e. (e.0.now, e.1.1.1.1.0.now))
 one_event_finish κ a x y s t p q = (refl, both (p.0 ∙ sym q.0) (p.1 ∙ sym q.1))
 
-pub one_other : OneOutcome {S = NetworkModel × (Cycle × List ℕ)} call.other.Reads.Learnt (λ κ e. (e.0.now, (e.1.0.now, e.1.1.1.1.1.0.now)))
+pub one_other : OneOutcome {S = NetworkModel × (Cycle × List ℕ)} call.other.Reads.Learnt (λ κ e. (e.0.now, (e.1.0.now, e.1.1.1.1.0.now)))
 one_other κ a x y s t p q = (refl, both (p.0 ∙ sym q.0) (both (p.1.0 ∙ sym q.1.0) (p.1.1 ∙ sym q.1.1)))

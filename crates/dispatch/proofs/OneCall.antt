@@ -3,11 +3,8 @@ use Prim.Native.Nat.{ℕ}
 use mathlib.Core.Bool.{Bool, true, false, cond}
 use mathlib.Core.List.{List}
 use mathlib.Core.Path.{◌≡◌, refl}
-use native.Mathlib.Omega.{arith}
 use lib.Dec.{eqb, leb}
-use Rattle.units.specs.Reply.{reply_word}
-use Rattle.state.specs.Faults.{named, replied}
-use lib.ListN.{length, get_or}
+use lib.ListN.{get_or}
 use Rattle.state.specs.declared.network_model.NetworkModel.{NetworkModel}
 use Rattle.state.specs.Answers.{settled}
 use Rattle.state.specs.declared.congestion_event.CongestionEvent.{CongestionEvent}

@@ -1,8 +1,7 @@
 // One call of a run: carried out, with its answer written. A send and an event's two calls have ways
 // of their own, since nearly all calls are of these, and are told whether the model is within its
-// bounds.
-ghost use Rattle.std.specs.Prelude.{◌≡◌, ◌∷◌, ◌+◌, ◌≤◌, length};
-ghost use Rattle.std.proofs.lemmas.List.Edits.{sets};
+// bounds. Each is lent the call's own 392 bytes and its answer's 144.
+ghost use Rattle.std.specs.Prelude.{◌≡◌, ◌∷◌, length};
 ghost use Rattle.state.specs.NetworkModel.{model_ok};
 ghost use Rattle.words.specs.Words.{all_bytes};
 ghost use Rattle.units.specs.Reply.{reply_word};
@@ -33,22 +32,20 @@ use words::{get_word, get_words, put_words};
 pub fn send(
     model: &mut NetworkModel,
     fine: bool,
-    calls: &[u8],
-    at: usize,
-    answers: &mut [u8],
-    to: usize,
+    call: &[u8],
+    answer: &mut [u8],
 )
-    requires { (at + 392 ≤ length calls.now) × (to + 144 ≤ length answers.old) × (fine ≡ model_ok model.old) }
-    ensures value { model.new ≡ send_leaves (own_at calls.now at) model.old }
-    ensures answers_after { answers.new ≡ sets answers.old to (all_bytes (send_word (own_at calls.now at) model.old ∷ 0 ∷ no_event)) }
+    requires { (length call.now ≡ 392) × (length answer.old ≡ 144) × (fine ≡ model_ok model.old) }
+    ensures value { model.new ≡ send_leaves (own_at call.now 0) model.old }
+    ensures answer_after { answer.new ≡ all_bytes (send_word (own_at call.now 0) model.old ∷ 0 ∷ no_event) }
 {
-    let time = Moment(get_word(calls, at + 8));
-    let inflight = get_word(calls, at + 16);
-    let packet = get_word(calls, at + 24);
-    let bytes = get_word(calls, at + 32);
+    let time = Moment(get_word(call, 8));
+    let inflight = get_word(call, 16);
+    let packet = get_word(call, 24);
+    let bytes = get_word(call, 32);
     let reply = changes::sent_tested(model, fine, time, inflight, packet, bytes);
     let word = sent_word(reply, time, inflight, bytes);
-    put_answer(answers, to, word, 0, &[0; 16]);
+    put_answer(answer, word, 0, &[0; 16]);
 }
 
 // The word of a send's reply.
@@ -68,17 +65,15 @@ fn sent_word(reply: Result<(), Cause>, time: Moment, inflight: u64, bytes: u64) 
 pub fn event_start(
     model: &mut NetworkModel,
     fine: bool,
-    calls: &[u8],
-    at: usize,
+    call: &[u8],
     lists: &[u64],
-    answers: &mut [u8],
-    to: usize,
+    answer: &mut [u8],
 )
-    requires { (at + 392 ≤ length calls.now) × (to + 144 ≤ length answers.old) × (fine ≡ model_ok model.old) }
-    ensures value { model.new ≡ event_start_leaves (call_at calls.now lists.now at) model.old }
-    ensures answers_after { answers.new ≡ sets answers.old to (all_bytes (call_word (call_at calls.now lists.now at) model.old (event_start_number (call_at calls.now lists.now at) model.old) ∷ 0 ∷ event_start_words (call_at calls.now lists.now at) model.old)) }
+    requires { (length call.now ≡ 392) × (length answer.old ≡ 144) × (fine ≡ model_ok model.old) }
+    ensures value { model.new ≡ event_start_leaves (call_at call.now lists.now 0) model.old }
+    ensures answer_after { answer.new ≡ all_bytes (call_word (call_at call.now lists.now 0) model.old (event_start_number (call_at call.now lists.now 0) model.old) ∷ 0 ∷ event_start_words (call_at call.now lists.now 0) model.old) }
 {
-    let words = call_at(calls, at);
+    let words = call_words(call);
     let least = model.minrtt.timestamp;
     let mut event = event_from(&words);
     let reply = start_tested(
@@ -89,8 +84,8 @@ pub fn event_start(
         sample_from(&words, lists),
         greatest_acked(&words, lists),
     );
-    let word = reply_word(reply, least, calls, at, lists);
-    put_answer(answers, to, word, 0, &event_left(reply, event, &words));
+    let word = reply_word(reply, least, call, lists);
+    put_answer(answer, word, 0, &event_left(reply, event, &words));
 }
 
 // The record's words after an event; where it was refused, as they were handed in.
@@ -109,21 +104,19 @@ fn event_left(reply: Result<(), Cause>, after: CongestionEvent, words: &[u64; 49
 pub fn event_finish(
     model: &mut NetworkModel,
     fine: bool,
-    calls: &[u8],
-    at: usize,
+    call: &[u8],
     lists: &[u64],
-    answers: &mut [u8],
-    to: usize,
+    answer: &mut [u8],
 )
-    requires { (at + 392 ≤ length calls.now) × (to + 144 ≤ length answers.old) × (fine ≡ model_ok model.old) }
-    ensures value { model.new ≡ event_finish_leaves (own_at calls.now at) model.old }
-    ensures answers_after { answers.new ≡ sets answers.old to (all_bytes (call_word (call_at calls.now lists.now at) model.old (event_finish_number (own_at calls.now at) model.old) ∷ 0 ∷ no_event)) }
+    requires { (length call.now ≡ 392) × (length answer.old ≡ 144) × (fine ≡ model_ok model.old) }
+    ensures value { model.new ≡ event_finish_leaves (own_at call.now 0) model.old }
+    ensures answer_after { answer.new ≡ all_bytes (call_word (call_at call.now lists.now 0) model.old (event_finish_number (own_at call.now 0) model.old) ∷ 0 ∷ no_event) }
 {
-    let words = call_at(calls, at);
+    let words = call_words(call);
     let least = model.minrtt.timestamp;
     let reply = finish_tested(model, fine, event_from(&words));
-    let word = reply_word(reply, least, calls, at, lists);
-    put_answer(answers, to, word, 0, &[0; 16]);
+    let word = reply_word(reply, least, call, lists);
+    put_answer(answer, word, 0, &[0; 16]);
 }
 
 // Every other call.
@@ -131,22 +124,20 @@ pub fn event_finish(
 pub fn other(
     model: &mut NetworkModel,
     cycle: &mut Cycle,
-    calls: &[u8],
-    at: usize,
+    call: &[u8],
     lists: &[u64],
-    answers: &mut [u8],
-    to: usize,
+    answer: &mut [u8],
 )
-    requires { (at + 392 ≤ length calls.now) × (to + 144 ≤ length answers.old) }
-    ensures model { model.new ≡ (other_outcome (own_at calls.now at) model.old cycle.old).model }
-    ensures cycle { cycle.new ≡ (other_outcome (own_at calls.now at) model.old cycle.old).cycle }
-    ensures answers_after { answers.new ≡ sets answers.old to (all_bytes (answer_words (call_at calls.now lists.now at) model.old (other_outcome (own_at calls.now at) model.old cycle.old))) }
+    requires { (length call.now ≡ 392) × (length answer.old ≡ 144) }
+    ensures model { model.new ≡ (other_outcome (own_at call.now 0) model.old cycle.old).model }
+    ensures cycle { cycle.new ≡ (other_outcome (own_at call.now 0) model.old cycle.old).cycle }
+    ensures answer_after { answer.new ≡ all_bytes (answer_words (call_at call.now lists.now 0) model.old (other_outcome (own_at call.now 0) model.old cycle.old)) }
 {
-    let words = call_at(calls, at);
+    let words = call_words(call);
     let least = model.minrtt.timestamp;
     let reply = carry_out(model, cycle, &words);
-    let word = reply_word(reply, least, calls, at, lists);
-    put_answer(answers, to, word, reply.unwrap_or(0), &[0; 16]);
+    let word = reply_word(reply, least, call, lists);
+    put_answer(answer, word, reply.unwrap_or(0), &[0; 16]);
 }
 
 // The word of a call's reply: its row, and where that is 2 the first fault of the call's words, which is seldom needed.
@@ -154,44 +145,44 @@ pub fn other(
 fn reply_word<T: Drop>(
     reply: Result<T, Cause>,
     least: Moment,
-    calls: &[u8],
-    at: usize,
+    call: &[u8],
     lists: &[u64],
 ) -> u64
-    requires { at + 392 ≤ length calls.now }
-    ensures { result ≡ replied (caused reply) (first (faults_of (call_at calls.now lists.now at) least)) }
+    requires { length call.now ≡ 392 }
+    ensures { result ≡ replied (caused reply) (first (faults_of (call_at call.now lists.now 0) least)) }
 {
     match reply {
         Ok(_) => 0,
-        Err(Cause::Argument) => fault_at(least, calls, at, lists),
+        Err(Cause::Argument) => fault_found(least, call, lists),
         Err(cause) => cause.row(),
     }
 }
 
-// The word of a refusal 2, with the first fault of the call at an index.
-fn fault_at(least: Moment, calls: &[u8], at: usize, lists: &[u64]) -> u64
-    requires { at + 392 ≤ length calls.now }
-    ensures { result ≡ reply_word 2 (first (faults_of (call_at calls.now lists.now at) least)) }
+// The word of a refusal 2, with the first fault of the call. `cold`: the loop of a run is built for calls that are done.
+#[cold]
+fn fault_found(least: Moment, call: &[u8], lists: &[u64]) -> u64
+    requires { length call.now ≡ 392 }
+    ensures { result ≡ reply_word 2 (first (faults_of (call_at call.now lists.now 0) least)) }
 {
-    let words = call_at(calls, at);
+    let words = call_words(call);
     fault_word(fault_of(least, &words, lists))
 }
 
-// The words of the call at an index.
-fn call_at(calls: &[u8], at: usize) -> [u64; 49]
-    requires { at + 392 ≤ length calls.now }
-    ensures { result ≡ own_at calls.now at }
+// The words of a call.
+fn call_words(call: &[u8]) -> [u64; 49]
+    requires { length call.now ≡ 392 }
+    ensures { result ≡ own_at call.now 0 }
 {
     let mut words = [0u64; 49];
-    get_words(calls, at, &mut words);
+    get_words(call, 0, &mut words);
     words
 }
 
 // Writes an answer: the reply's word, the value and the record's words.
-fn put_answer(answers: &mut [u8], to: usize, reply: u64, value: u64, event: &[u64; 16])
-    requires { (to + 144 ≤ length answers.old) × (length event.now ≡ 16) }
-    ensures { answers.new ≡ sets answers.old to (all_bytes (reply ∷ value ∷ event.now)) }
+fn put_answer(answer: &mut [u8], reply: u64, value: u64, event: &[u64; 16])
+    requires { (length answer.old ≡ 144) × (length event.now ≡ 16) }
+    ensures { answer.new ≡ all_bytes (reply ∷ value ∷ event.now) }
 {
-    put_words(answers, to, &[reply, value]);
-    put_words(answers, to + 16, event);
+    put_words(answer, 0, &[reply, value]);
+    put_words(answer, 16, event);
 }

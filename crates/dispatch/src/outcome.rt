@@ -1,4 +1,5 @@
 // One call on a model and a cycle, from its 49 words.
+// A call is its number, a word of the C interface (docs/DESIGN-PASS.md).
 ghost use Rattle.std.specs.Prelude.{◌≡◌};
 ghost use Rattle.state.specs.Refusals.{caused, given};
 ghost use Rattle.dispatch.specs.Outcome.{is_judged, is_asked, start_outcome};

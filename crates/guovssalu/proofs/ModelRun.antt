@@ -9,6 +9,7 @@ use lib.Dec.{T, eqb, ltb}
 use lib.Ieee.{binary32, fits}
 use lib.ListN.{length, get_or}
 use lib.Seq.{sets}
+use borrow.Rule.Slice.PartMut.{mid_of, put_mid}
 use borrow.Author.Tests.{ltb-false, eqb-true, not-false, ne_eqb}
 use Rattle.state.specs.declared.network_model.NetworkModel.{NetworkModel}
 use Rattle.state.specs.Answers.{settled}
@@ -19,6 +20,8 @@ use Rattle.laws.proofs.Tested.{sent_same, start_same, finish_same}
 use Rattle.state.specs.declared.cycle.Cycle.{Cycle}
 use Rattle.words.specs.Words.{word_at, all_bytes}
 use Rattle.words.proofs.Stores.{sets-append}
+use Rattle.words.proofs.Parts.{words_of_part}
+use Rattle.words.proofs.Turns.{put_part}
 use Rattle.words.proofs.Laws.{all_bytes_append, length_all_bytes, length_words_at, get_or_words_at}
 use Rattle.layout.specs.NetworkModel.{model_from}
 use Rattle.layout.specs.Cycle.{cycle_from}
@@ -112,11 +115,11 @@ other_at : (w : List ℕ) (m : NetworkModel) (y : Cycle) → (get_or w 0 0 ≡ 1
 unfolding outcome_of other_outcome
 other_at w m y f g h = rw (ne_eqb _ 1 f, ne_eqb _ 3 g, ne_eqb _ 4 h)
 
--- ---- one call, by its number: the bytes with its answer, the state that it leaves, and whether the model is within its bounds
-module _ (m : NetworkModel) (y : Cycle) (src lists : List ℕ) (at : ℕ) (out : List ℕ) (to : ℕ) (out' : List ℕ) (m' : NetworkModel) (y' : Cycle) (fine' : Bool) where
+-- ---- one call, by its number: the bytes with its answer, however it is put there, the state that it leaves, and whether the model is within its bounds
+module _ (m : NetworkModel) (y : Cycle) (src lists : List ℕ) (at : ℕ) (put : List ℕ → List ℕ) (out' : List ℕ) (m' : NetworkModel) (y' : Cycle) (fine' : Bool) where
   abbrev pub Carried : Type 0
   Carried =
-      (out' ≡ sets out to (all_bytes (answer_words (call_at src lists at) m (outcome_at m y src lists at))))
+      (out' ≡ put (all_bytes (answer_words (call_at src lists at) m (outcome_at m y src lists at))))
       × (m' ≡ (outcome_at m y src lists at).model)
       × (y' ≡ (outcome_at m y src lists at).cycle)
       × (fine' ≡ model_ok m')
@@ -136,25 +139,25 @@ module _ (m : NetworkModel) (y : Cycle) (src lists : List ℕ) (at : ℕ) (out :
   still p same f = f ∙ sym (ap model_ok p ∙ same)
 
   -- an outcome that is the call's
-  carried : {t : Outcome} → t ≡ outcome_at m y src lists at → out' ≡ sets out to (all_bytes (answer_words (call_at src lists at) m t)) → m' ≡ t.model → y' ≡ t.cycle → fine' ≡ model_ok m' → Carried
-  carried e r p q f = (r ∙ ap (λ (t : Outcome). sets out to (all_bytes (answer_words (call_at src lists at) m t))) e, p ∙ ap (λ (t : Outcome). t.model) e, q ∙ ap (λ (t : Outcome). t.cycle) e, f)
+  carried : {t : Outcome} → t ≡ outcome_at m y src lists at → out' ≡ put (all_bytes (answer_words (call_at src lists at) m t)) → m' ≡ t.model → y' ≡ t.cycle → fine' ≡ model_ok m' → Carried
+  carried e r p q f = (r ∙ ap (λ (t : Outcome). put (all_bytes (answer_words (call_at src lists at) m t))) e, p ∙ ap (λ (t : Outcome). t.model) e, q ∙ ap (λ (t : Outcome). t.cycle) e, f)
 
   -- what a send's four words are at fault for
   send_word_lem : word_at src at ≡ 1 → send_word (own_at src at) m ≡ call_word (call_at src lists at) m (send_number (own_at src at) m)
   unfolding send_word call_word faults_of other_faults number_faults
   send_word_lem e = rw (number_at e, alike 1 refl, alike 2 refl, alike 4 refl)
 
-  pub by_send : word_at src at ≡ 1 → m' ≡ send_leaves (own_at src at) m → y' ≡ y → fine' ≡ model_ok m → out' ≡ sets out to (all_bytes (send_word (own_at src at) m ∷ 0 ∷ no_event)) → Carried
+  pub by_send : word_at src at ≡ 1 → m' ≡ send_leaves (own_at src at) m → y' ≡ y → fine' ≡ model_ok m → out' ≡ put (all_bytes (send_word (own_at src at) m ∷ 0 ∷ no_event)) → Carried
   unfolding outcome_at outcome_of send_outcome answer_words
   by_send e p q f r =
       let is : send_outcome (own_at src at) m y ≡ outcome_at m y src lists at = rw (number_at e) (sym (send_alike (call_at src lists at) (own_at src at) alike m y)) in
-      carried is (r ∙ ap (λ (n : ℕ). sets out to (all_bytes (n ∷ 0 ∷ no_event))) (send_word_lem e)) p q (still p (sent_same m _ _ _ _) f)
+      carried is (r ∙ ap (λ (n : ℕ). put (all_bytes (n ∷ 0 ∷ no_event))) (send_word_lem e)) p q (still p (sent_same m _ _ _ _) f)
 
-  pub by_start : word_at src at ≡ 3 → m' ≡ event_start_leaves (call_at src lists at) m → y' ≡ y → fine' ≡ model_ok m → out' ≡ sets out to (all_bytes (call_word (call_at src lists at) m (event_start_number (call_at src lists at) m) ∷ 0 ∷ event_start_words (call_at src lists at) m)) → Carried
+  pub by_start : word_at src at ≡ 3 → m' ≡ event_start_leaves (call_at src lists at) m → y' ≡ y → fine' ≡ model_ok m → out' ≡ put (all_bytes (call_word (call_at src lists at) m (event_start_number (call_at src lists at) m) ∷ 0 ∷ event_start_words (call_at src lists at) m)) → Carried
   unfolding outcome_at outcome_of event_outcome answer_words
   by_start e p q f r = rw (number_at e) (r, p, q, still p (start_same m _ _ _ _ (beta_fits (call_at src lists at))) f)
 
-  pub by_end : word_at src at ≡ 4 → m' ≡ event_finish_leaves (own_at src at) m → y' ≡ y → fine' ≡ model_ok m → out' ≡ sets out to (all_bytes (call_word (call_at src lists at) m (event_finish_number (own_at src at) m) ∷ 0 ∷ no_event)) → Carried
+  pub by_end : word_at src at ≡ 4 → m' ≡ event_finish_leaves (own_at src at) m → y' ≡ y → fine' ≡ model_ok m → out' ≡ put (all_bytes (call_word (call_at src lists at) m (event_finish_number (own_at src at) m) ∷ 0 ∷ no_event)) → Carried
   unfolding outcome_at outcome_of finish_outcome answer_words
   by_end e p q f r =
       let is : finish_outcome (own_at src at) m y ≡ outcome_at m y src lists at = rw (number_at e) (sym (finish_alike (call_at src lists at) (own_at src at) alike m y)) in
@@ -162,13 +165,24 @@ module _ (m : NetworkModel) (y : Cycle) (src lists : List ℕ) (at : ℕ) (out :
 
   pub by_other :
       {n : ℕ} → n ≡ word_at src at → (n ≡ 1 → ⊥) → (n ≡ 3 → ⊥) → (n ≡ 4 → ⊥) →
-      m' ≡ (other_outcome (own_at src at) m y).model → y' ≡ (other_outcome (own_at src at) m y).cycle → fine' ≡ model_ok m' → out' ≡ sets out to (all_bytes (answer_words (call_at src lists at) m (other_outcome (own_at src at) m y))) → Carried
+      m' ≡ (other_outcome (own_at src at) m y).model → y' ≡ (other_outcome (own_at src at) m y).cycle → fine' ≡ model_ok m' → out' ≡ put (all_bytes (answer_words (call_at src lists at) m (other_outcome (own_at src at) m y))) → Carried
   unfolding outcome_at
   by_other e f g h p q b r =
       let w = call_at src lists at in
       let number = sym (number_at (sym e)) in
       let is : other_outcome (own_at src at) m y ≡ outcome_at m y src lists at = sym (other_at w m y (λ x. f (number ∙ x)) (λ x. g (number ∙ x)) (λ x. h (number ∙ x)) ∙ other_alike w (own_at src at) alike m y) in
       carried is r p q b
+
+-- a call in a part of the calls, whose answer is put into a part of the answers
+pub in_place :
+    (m : NetworkModel) (y : Cycle) (src lists : List ℕ) (at k : ℕ) (out : List ℕ) (to j : ℕ) (out' : List ℕ) (m' : NetworkModel) (y' : Cycle) (fine' : Bool) →
+    k ≡ 392 → at + 392 ≤ length src → j ≡ 144 → to + 144 ≤ length out →
+    Carried m y (mid_of at k src) lists 0 (put_mid to j out) out' m' y' fine' → Carried m y src lists at (sets out to) out' m' y' fine'
+unfolding outcome_at
+in_place m y src lists at k out to j out' m' y' fine' e h f g did =
+    let own = words_of_part src at k 0 49 (omega arith) (omega arith) ∙ rw add-zero in
+    let there = rw own at did in
+    (there.0 ∙ put_part to j out _ (length_answer m y src lists at ∙ sym f) (omega arith), there.1, there.2, there.3)
 
 -- ---- what a run that is done has been lent
 pub run_room : (state src : List ℕ) (room : ℕ) → eqb (model_row state src room) 0 ≡ true → 144 * calls_in src ≤ room

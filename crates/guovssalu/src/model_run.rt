@@ -110,12 +110,14 @@ fn run_calls(
     for i in 0..calls.len() / 392 {
         let at = 392 * i;
         let to = 144 * i;
-        match get_word(calls, at) {
-            1 => send(&mut m, fine, calls, at, answers, to),
-            3 => event_start(&mut m, fine, calls, at, lists, answers, to),
-            4 => event_finish(&mut m, fine, calls, at, lists, answers, to),
+        let call = &calls[at..at + 392];
+        let answer = &mut answers[to..to + 144];
+        match get_word(call, 0) {
+            1 => send(&mut m, fine, call, answer),
+            3 => event_start(&mut m, fine, call, lists, answer),
+            4 => event_finish(&mut m, fine, call, lists, answer),
             _ => {
-                other(&mut m, &mut y, calls, at, lists, answers, to);
+                other(&mut m, &mut y, call, lists, answer);
                 fine = m.ok();
             }
         }

@@ -1,4 +1,5 @@
 // The cycle: words 35 to 50 of the state.
+// Words are put one by one: a literal of all of them would say less of which is which.
 ghost use Rattle.std.specs.Prelude.{◌≡◌, [], ◌∷◌};
 ghost use Rattle.std.proofs.lemmas.List.Edits.{sets};
 ghost use Rattle.layout.specs.Cycle.{stay_of, wait_of, slope_of, cycle_from, times_words, slope_words, marks_words, cycle_words};

@@ -1,4 +1,5 @@
 // The model: words 0 to 34 of the state.
+// Words are put one by one: a literal of all of them would say less of which is which.
 ghost use Rattle.std.specs.Prelude.{◌≡◌, [], ◌∷◌, ◌++◌};
 ghost use Rattle.std.proofs.lemmas.List.Edits.{sets};
 ghost use Rattle.words.specs.Word.{flag_word};

@@ -1,4 +1,5 @@
 // Whole numbers and floats: Rust's casts between them, and products taken by way of a float.
+// The two formats are no twins by type: one product is cut and one is rounded, and each cast has its own rule and its own proof.
 #![tactic(auto)]
 
 pub mod float_to_int;

@@ -1,4 +1,5 @@
 // The calls on model and cycle side by side: the phase entries, the exit from Down, the slope.
+// Most calls take the model alone, so model and cycle stay two parameters; the theorems pair them.
 ghost use Rattle.std.specs.Prelude.{◌≡◌, true};
 ghost use Rattle.units.specs.Reply.{number, fault};
 ghost use Rattle.state.specs.Answers.{settled};

@@ -1,4 +1,5 @@
 // Which argument of a call of a run is at fault, by the call's number. Asked only of calls that were refused with 2.
+// A call is its number, a word of the C interface, and is matched once (docs/DESIGN-PASS.md).
 ghost use Rattle.std.specs.Prelude.{◌≡◌, cond, [], ◌++◌, length};
 ghost use Rattle.state.specs.Faults.{first, started_faults, postpone_faults};
 ghost use Rattle.units.specs.Time.{plus};

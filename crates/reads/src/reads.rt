@@ -1,4 +1,5 @@
 // The calls that only answer.
+// Document 01 names each call: one that reads a number is two lines.
 ghost use Rattle.std.specs.Prelude.{◌≡◌, ◌&&◌, true, false, ◌*◌, ◌-◌, ◌^◌};
 ghost use Rattle.units.specs.Reply.{number, fault, kept};
 ghost use Rattle.filters.specs.MaxBandwidthFilter.{max_get};

@@ -18,6 +18,7 @@ pub struct State {
 #[derive(Clone, Copy)]
 pub struct Row {
     pub line: u64,
+    // A number, 0 where the line is done: the row writes it, and the theorems of a trace compare it.
     pub refusal: u64,
     pub part: Option<u64>,
     pub state: Option<State>,

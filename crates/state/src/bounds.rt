@@ -10,6 +10,7 @@ pub const MOST_TOTAL: u64 = 0x4000_0000_0000_0000;
 
 pub const MOST_LENGTH: u64 = 0x10_0000_0000;
 
+// What stands for an unset bound of bytes: the original has a number there, and the exported words show it.
 pub const UNSET: u64 = u64::MAX;
 
 // A byte count is at most 2^40.

@@ -75,7 +75,7 @@ impl SampleFits {
     };
 }
 
-// No fault where the test holds; this kind at this place where it fails.
+// No fault where the test holds; this kind at this place where it fails. A fault is a number as it crosses to C.
 pub fn unless(test: bool, place: u8, kind: Kind) -> u32
     ensures { result ≡ unless test place (kind_number kind) }
 {

@@ -20,7 +20,7 @@ use Rattle.filters.specs.Reason.{reason_number, windowed_reason}
 use Rattle.filters.specs.WindowedFilter.{sample_at, best_of, second_of, third_of, windowed_new, windowed_number}
 use Rattle.state.proofs.Rows.{or_left, or_right}
 use Rattle.words.specs.Words.{word_at, all_bytes}
-use Rattle.words.proofs.Laws.{AllWords, get_or_words_at, words_back}
+use Rattle.words.proofs.Laws.{get_or_words_at, words_back}
 use Rattle.pairs.specs.Pairs.{pairs, after_pair, refuses, sample_in, samples, pair_words, run_words, run_row}
 use Rattle.guovssalu.specs.Reply.{answered}
 use Rattle.guovssalu.specs.FilterRun.{run_out}

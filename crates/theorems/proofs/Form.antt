@@ -26,7 +26,7 @@ use Rattle.state.specs.declared.cycle.CyclePhase.TheVariants.{NotStarted, Up, Do
 use Rattle.state.specs.Cycle.{wait_ok, up_bytes_ok, cycle_tests, cycle_ok}
 use Rattle.words.proofs.Laws.{AllWords}
 use Rattle.words.specs.Word.{outside, flag_word, flag_of, float_word}
-use Rattle.words.specs.Maybe.{is_unset, number_in, bandwidth_maybe, bandwidth_of, plain_maybe, length_maybe}
+use Rattle.words.specs.Maybe.{is_unset, number_in, maybe_of, pair_of, bandwidth_of}
 use Rattle.layout.specs.NetworkModel.{model_from, model_words}
 use Rattle.layout.specs.Cycle.{phase_word, cycle_from, cycle_words}
 use Rattle.words.proofs.Back.{float_fits_lem}
@@ -39,27 +39,25 @@ Word n = n < 2 ^ 64
 abbrev pub Single : Float → Type 0
 Single x = T (fits binary32 x)
 
-abbrev pub EndForm : Option ℕ → Type 0
-EndForm None = Unit {0}
-EndForm (Some n) = Word n
+-- of what may be unset, its number
+abbrev pub MaybeForm : {A : Type 0} → (A → ℕ) → Option A → Type 0
+MaybeForm number None = Unit {0}
+MaybeForm number (Some x) = Word (number x)
+
+abbrev pub PlainForm : Option ℕ → Type 0
+PlainForm x = MaybeForm (λ n. n) x
 
 abbrev pub BandwidthForm : Option Bandwidth → Type 0
-BandwidthForm None = Unit {0}
-BandwidthForm (Some b) = Word b.0
+BandwidthForm x = MaybeForm (λ b. b.0) x
 
 abbrev pub LengthForm : Option Duration → Type 0
-LengthForm None = Unit {0}
-LengthForm (Some d) = Word d.0
-
-abbrev pub BytesForm : Option ℕ → Type 0
-BytesForm None = Unit {0}
-BytesForm (Some n) = Word n
+LengthForm x = MaybeForm (λ d. d.0) x
 
 -- "Counters and packet numbers are free"; the gains' range says nothing of their format
 pub record Free (rounds : RoundTripCounter) (l f q : ℕ) (gains : Gains) : Type 0 where
   pub count : Word rounds.count
   pub sent : Word rounds.sent
-  pub end : EndForm rounds.end
+  pub end : PlainForm rounds.end
   pub losses : Word l
   pub flat : Word f
   pub queueing : Word q
@@ -99,7 +97,7 @@ pub record BoundCycle (y : Cycle) : Type 0 where
   pub start : Word y.wait.start.0
   pub length : LengthForm y.wait.length
   pub rounds : Word y.slope.rounds
-  pub bytes : BytesForm y.slope.bytes
+  pub bytes : PlainForm y.slope.bytes
   pub acked : Word y.slope.acked
 
 pub record InForm (s : State) : Type 0 where
@@ -177,7 +175,7 @@ wait_word : (x : Option Duration) → wait_ok x ≡ true → LengthForm x
 wait_word None h = tt
 wait_word (Some d) h = word_of d.0 (2 ^ 36 + 500_000) (omega arith) h
 
-up_word : (x : Option ℕ) → up_bytes_ok x ≡ true → BytesForm x
+up_word : (x : Option ℕ) → up_bytes_ok x ≡ true → PlainForm x
 up_word None h = tt
 up_word (Some n) h = bytes_word n h
 
@@ -198,13 +196,17 @@ number_word : (set n : ℕ) → Word n → Word (number_in set n)
 number_word set n h = either Word (flag_of set) n outside h (omega arith)
 
 module _ (w : List ℕ) (h : AllWords w) where
+  read_maybe : {A : Type 0} (P : Option A → Type 0) (some : ℕ → Option A) → P None → ((n : ℕ) → Word n → P (some n)) → (i j : ℕ) → P (maybe_of None some (get_or w i 0) (get_or w j 0))
+  read_maybe P some p q i j =
+      let set = get_or w i 0 in let n = get_or w j 0 in either P (is_unset set n) None (some (number_in set n)) p (q (number_in set n) (number_word set n (h j)))
+
   read_free : FreeModel (model_from w)
   unfolding model_from
   read_free =
       record {
         count = h 0;
         sent = h 1;
-        end = either EndForm (is_unset (get_or w 2 0) (get_or w 3 0)) None (Some (number_in (get_or w 2 0) (get_or w 3 0))) tt (number_word (get_or w 2 0) (get_or w 3 0) (h 3));
+        end = read_maybe PlainForm (λ n. Some n) tt (λ n l. l) 2 3;
         losses = h 9;
         flat = h 24;
         queueing = h 25;
@@ -213,7 +215,7 @@ module _ (w : List ℕ) (h : AllWords w) where
       }
 
   read_bandwidth : (i j : ℕ) → BandwidthForm (bandwidth_of (get_or w i 0) (get_or w j 0))
-  read_bandwidth i j = let set = get_or w i 0 in let n = get_or w j 0 in either BandwidthForm (is_unset set n) None (Some (record { 0 = number_in set n })) tt (number_word set n (h j))
+  read_bandwidth i j = read_maybe BandwidthForm (λ n. Some (record { 0 = n })) tt (λ n l. l) i j
 
   read_bound : Bound (model_from w)
   unfolding model_from
@@ -249,9 +251,9 @@ module _ (w : List ℕ) (h : AllWords w) where
       record {
         entered = h 37;
         start = h 36;
-        length = either LengthForm (is_unset (get_or w 40 0) (get_or w 41 0)) None (Some (record { 0 = number_in (get_or w 40 0) (get_or w 41 0) })) tt (number_word (get_or w 40 0) (get_or w 41 0) (h 41));
+        length = read_maybe LengthForm (λ n. Some (record { 0 = n })) tt (λ n l. l) 40 41;
         rounds = h 42;
-        bytes = either BytesForm (is_unset (get_or w 43 0) (get_or w 44 0)) None (Some (number_in (get_or w 43 0) (get_or w 44 0))) tt (number_word (get_or w 43 0) (get_or w 44 0) (h 44));
+        bytes = read_maybe PlainForm (λ n. Some n) tt (λ n l. l) 43 44;
         acked = h 45;
       }
 
@@ -273,21 +275,9 @@ phase_word_lem Down = omega arith
 phase_word_lem Cruise = omega arith
 phase_word_lem Refill = omega arith
 
-end_words : (x : Option ℕ) → EndForm x → Word (plain_maybe x).0 × Word (plain_maybe x).1
-end_words None h = (omega arith, omega arith)
-end_words (Some n) h = (omega arith, h)
-
-bandwidth_words : (x : Option Bandwidth) → BandwidthForm x → Word (bandwidth_maybe x).0 × Word (bandwidth_maybe x).1
-bandwidth_words None h = (omega arith, omega arith)
-bandwidth_words (Some b) h = (omega arith, h)
-
-wait_words : (x : Option Duration) → LengthForm x → Word (length_maybe x).0 × Word (length_maybe x).1
-wait_words None h = (omega arith, omega arith)
-wait_words (Some d) h = (omega arith, h)
-
-up_words : (x : Option ℕ) → BytesForm x → Word (plain_maybe x).0 × Word (plain_maybe x).1
-up_words None h = (omega arith, omega arith)
-up_words (Some n) h = (omega arith, h)
+pair_words : {A : Type 0} (number : A → ℕ) (x : Option A) → MaybeForm number x → Word (pair_of number x).0 × Word (pair_of number x).1
+pair_words number None h = (omega arith, omega arith)
+pair_words number (Some x) h = (omega arith, h)
 
 pub at_words : (l : List ℕ) → Words l → AllWords l
 at_words [] none i = omega arith
@@ -301,10 +291,10 @@ append_words (x ∷ a) b (also p h) q = also p (append_words a b h q)
 model_words_lem : (m : NetworkModel) → FreeModel m → Bound m → Words (model_words m)
 unfolding model_words
 model_words_lem m f b =
-    let end = end_words m.rounds.end f.end in
-    let low = bandwidth_words m.lower.bandwidth b.low_bandwidth in
-    let send = bandwidth_words m.rates.send b.send in
-    let ack = bandwidth_words m.rates.ack b.ack in
+    let end = pair_words (λ n. n) m.rounds.end f.end in
+    let low = pair_words (λ b. b.0) m.lower.bandwidth b.low_bandwidth in
+    let send = pair_words (λ b. b.0) m.rates.send b.send in
+    let ack = pair_words (λ b. b.0) m.rates.ack b.ack in
     also f.count (also f.sent (also end.0 (also end.1 (also b.slot0 (also b.slot1
     (also b.rtt (also b.timestamp (also b.lost (also f.losses (also b.delivered (also b.mininflight
     (also (flag_word_lem m.round.hilimited) (also b.bandwidth (also b.inflight (also low.0 (also low.1 (also b.low_inflight
@@ -315,8 +305,8 @@ model_words_lem m f b =
 cycle_words_lem : (y : Cycle) → FreeCycle y → BoundCycle y → Words (cycle_words y)
 unfolding cycle_words
 cycle_words_lem y f b =
-    let length = wait_words y.wait.length b.length in
-    let up = up_words y.slope.bytes b.bytes in
+    let length = pair_words (λ d. d.0) y.wait.length b.length in
+    let up = pair_words (λ n. n) y.slope.bytes b.bytes in
     also (phase_word_lem y.stay.phase) (also b.start (also b.entered (also f.0 (also f.1 (also length.0
     (also length.1 (also b.rounds (also up.0 (also up.1 (also b.acked (also (flag_word_lem y.slope.applimited)
     (also (flag_word_lem y.advanced) (also (flag_word_lem y.probing) (also (flag_word_lem y.last.high) (also (flag_word_lem y.last.risky) none)))))))))))))))

@@ -47,7 +47,7 @@ use Rattle.dispatch.specs.Outcome.{is_judged, is_asked}
 use Rattle.theorems.specs.Steps.{Step, begins, makes, keeps, judge_step, enter_step, change_step, step_of, after_start, after_step}
 use Rattle.theorems.proofs.Choice.{either}
 use Rattle.theorems.proofs.Decoded.{state}
-use Rattle.theorems.proofs.Form.{Word, Single, EndForm, FreeModel, Bound, FreeCycle, BoundCycle, InForm, bound_ok, bound_cycle_ok}
+use Rattle.theorems.proofs.Form.{Word, Single, PlainForm, FreeModel, Bound, FreeCycle, BoundCycle, InForm, bound_ok, bound_cycle_ok}
 
 -- ---- what a call is given: only what its tests don't bound
 abbrev pub OtherForm : Other → Type 0
@@ -125,7 +125,7 @@ free_queue m p gain done f = go (J.is_queueing m gain) (none _ _ _ _ _ done).not
 
 -- an event counts a round and a loss
 abbrev Counted : RoundTripCounter → Type 0
-Counted r = Word r.count × Word r.sent × EndForm r.end
+Counted r = Word r.count × Word r.sent × PlainForm r.end
 
 counted : (r : RoundTripCounter) (acked : List ℕ) → Counted r → Counted (rounds_acked r acked)
 unfolding rounds_acked rounds_ended rounds_full

@@ -12,7 +12,7 @@ use Rattle.units.specs.Reply.{row_in}
 use Rattle.units.specs.declared.time.Duration.{Duration}
 use Rattle.units.proofs.refusal.Number.{row_back}
 use Rattle.state.specs.Answers.{settled}
-use Rattle.words.specs.Word.{flag_word, flag_of, flag_fits}
+use Rattle.words.specs.Word.{flag_of, flag_fits}
 use Rattle.words.specs.Words.{word_at, words_at, all_bytes}
 use Rattle.words.proofs.Back.{flag_back}
 use Rattle.words.proofs.Laws.{AllWords, length_all_bytes, words_of_lem}

@@ -2,7 +2,7 @@
 use Rattle.std.specs.Prelude.{None, Some}
 use Prim.Native.Nat.{ℕ, zero, suc, ◌+◌, ◌*◌, ◌^◌, ◌≤◌, ◌<◌}
 use mathlib.Core.Bool.{Bool, true, false, cond, true≢false}
-use mathlib.Core.List.{List, [], ◌∷◌, ◌++◌}
+use mathlib.Core.List.{List, [], ◌∷◌}
 use mathlib.Core.Logic.{◌⊎◌, inl, inr}
 use mathlib.Core.Path.{◌≡◌, refl, sym, ap, subst, ◌∙◌}
 use native.Mathlib.Nat.{add-zero, zero-add}
@@ -18,7 +18,7 @@ use Rattle.state.specs.Faults.{unless, first, named, replied}
 use Rattle.words.specs.Word.{flag_word, flag_of, flag_fits}
 use Rattle.words.specs.Words.{word_at, words_at, all_bytes}
 use Rattle.words.proofs.Back.{flag_written}
-use Rattle.words.proofs.Laws.{AllWords, length_all_bytes, get_or_words_at, words_back}
+use Rattle.words.proofs.Laws.{length_all_bytes, get_or_words_at, words_back}
 use Rattle.rtt.specs.declared.rtt.RttStats.{RttStats}
 use Rattle.rtt.specs.Rtt.{stats_tests, stats_ok, stats_new, new_faults, new_number, new_left, update_faults, update_number, update_left, delay_faults, delay_number, delay_left, given_number, minimum_shown}
 use Rattle.rtt.specs.Exact.{Sample, go_on, least, Promised}

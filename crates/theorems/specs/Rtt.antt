@@ -90,7 +90,9 @@ pub record RttCall (s : RttStats) (n a b c : ℕ) : Type 0 where
       (cond (eqb n 1) (update_next s (ns a) (ns b) (flag_of c)) (delay_next s (ns a)))
 
 -- ---- the public functions: each is refused with the number of the first row that holds, exactly then; refused, it
--- leaves what it was given, and done, what its definition says; and a 2 names the first argument at fault
+-- leaves what it was given, and done, what its definition says; and a 2 names the first argument at fault. Of those
+-- that are lent the estimator, `a.0.now` is what they were lent, and `e.0.now` what they leave there; `kept x d` is
+-- what x gives, or d where it is a refusal
 pub record EveryRttReply : Type 0 where
   pub new : (initial limit : Duration) →
       Every stats.new.Reads.Learnt (λ κ. (initial, (limit, tt)))

@@ -300,6 +300,6 @@ pub record Theorems : Type 0 where
 -- which are only read, share bytes. The page docs/LAYOUT.md. And the definitions that this page is made of, written
 -- from documents 01 and 02, the original and docs/LAYOUT.md: all files of specs/ to which `use` lines lead from here,
 -- with their remarks. A script of the gate counts their lines (tests/contracts.py):
---   numbers 245, units 120, filters 414, words 125, text 220, rows 70, state 915, worth 259, rtt 463, layout 208,
---   events 449, phases 200, changes 59, judge 189, arguments 208, reads 15, places 139, pairs 57, trips 180, calls
---   192, laws 638, dispatch 233, trace 563, guovssalu 193, drift 367, mending 419, theorems 1302: together 8442
+--   numbers 245, units 134, filters 414, words 126, text 256, rows 76, state 972, worth 263, rtt 463, layout 202,
+--   events 449, phases 200, changes 59, judge 189, arguments 208, reads 15, places 139, pairs 57, trips 190, calls
+--   192, laws 771, dispatch 241, trace 574, guovssalu 193, drift 367, mending 417, theorems 1317: together 8729

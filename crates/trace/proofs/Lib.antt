@@ -1,4 +1,5 @@
 -- Laws on traces.
+pub mod Steps
 pub mod Occur
 pub mod Streams
 pub mod Moves

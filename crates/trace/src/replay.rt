@@ -16,6 +16,7 @@ use units::{Duration, Moment, Refusal};
 #[derive(Clone, Copy)]
 pub struct Replay {
     pub line: u64,
+    // Beside the model, which the definitions read before a start too.
     pub started: bool,
     pub model: NetworkModel,
     pub tally: Tally,

@@ -6,6 +6,7 @@ use rows::row::Row;
 
 // The rounds that ended; the lowest inflight_lo, or 2^64 - 1; the line of the first refusal; how many lines were
 // refused, and how many with 6, 1, 2.1 to 2.5, 2.9, 3, 4, 10 and 5.
+// Each has a name, by which the summary says it; a map from a refusal to a count would need a heap.
 #[derive(Clone, Copy)]
 pub struct Tally {
     pub rounds: u64,

@@ -1,4 +1,5 @@
 // The round-trip estimator, run over calls in bytes.
+// A call is its number, a word of the C interface, and is matched once (docs/DESIGN-PASS.md).
 ghost use Rattle.std.specs.Prelude.{[], ◌∷◌, ◌≡◌, ◌+◌, ◌*◌, ◌≤◌, length};
 ghost use Rattle.std.proofs.lemmas.List.Edits.{sets};
 ghost use Rattle.units.specs.Reply.{number, fault, reply_word};

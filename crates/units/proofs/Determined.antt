@@ -21,9 +21,6 @@ one_refusal_refusal_word κ a x y s t p q = p ∙ sym q
 pub one_refusal_fault_word : OneReply refusal.fault_word.Reads.Learnt
 one_refusal_fault_word κ a x y s t p q = p ∙ sym q
 
-pub one_refusal_word_of : OneReply refusal.word_of.Reads.Learnt
-one_refusal_word_of κ a x y s t p q = p ∙ sym q
-
 pub one_time_moment_plus : OneReply time-moment.plus.Reads.Learnt
 one_time_moment_plus κ a x y s t p q = p ∙ sym q
 

@@ -1,7 +1,7 @@
 // Why a call is refused: document 01's table, 1 to 7, and document 02's 10. A bad argument is named by a fault: the kind of
 // the bound that it passed, and 256 times its place (crates/state/src/faults.rt).
 ghost use Rattle.std.specs.Prelude.{◌≡◌};
-ghost use Rattle.units.specs.Reply.{row_of, fault_of, number, fault, reply_word};
+ghost use Rattle.units.specs.Reply.{row_of, fault_of, reply_word};
 
 #[derive(Clone, Copy, PartialEq, Eq)]
 pub enum Refusal {
@@ -40,16 +40,6 @@ impl Refusal {
             Refusal::BadArgument(fault) => fault_word(fault),
             _ => self.row(),
         }
-    }
-}
-
-// The word of a call that answers nothing else: 0 where it is done.
-pub fn word_of(reply: Result<(), Refusal>) -> u64
-    ensures { result ≡ reply_word (number reply) (fault reply) }
-{
-    match reply {
-        Ok(()) => 0,
-        Err(refusal) => refusal.word(),
     }
 }
 

@@ -3,4 +3,5 @@ pub mod Determined
 pub mod Stores
 pub mod Back
 pub mod Laws
+pub mod Parts
 pub mod Turns

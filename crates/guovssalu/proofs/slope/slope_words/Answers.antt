@@ -1,5 +1,4 @@
 -- `guovssalu::slope_words` meets its contract: the slope that `raised` promises has its bytes. Assumes nothing.
-use Rattle.std.proofs.Common.{◌∙◌}
 use Rattle.phases.specs.Slope.{slope_raised}
 use Rattle.guovssalu.specs.Slope.{slope_words}
 use Rattle.guovssalu.proofs.slope.slope_words.Goals as goal
