@@ -41,6 +41,7 @@ fn answer_piece<P: Program>(
     requires { held ≤ 4097 }
     ensures { IfOk result (λ next. IfSome next (λ n. n ≤ 4097)) }
 {
+    // By `match`: the check doesn't take `map_err` with a variant that holds a type parameter.
     let got = match read_piece(input, buf, held) {
         Ok(got) => got,
         Err(e) => return Err(Stopped::Unreadable(e)),

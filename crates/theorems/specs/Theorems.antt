@@ -302,4 +302,4 @@ pub record Theorems : Type 0 where
 -- with their remarks. A script of the gate counts their lines (tests/contracts.py):
 --   numbers 245, units 134, filters 414, words 126, text 256, rows 76, state 972, worth 263, rtt 463, layout 202,
 --   events 449, phases 200, changes 59, judge 189, arguments 208, reads 15, places 139, pairs 57, trips 190, calls
---   192, laws 771, dispatch 241, trace 574, guovssalu 193, drift 367, mending 417, theorems 1317: together 8729
+--   192, laws 771, dispatch 241, trace 574, guovssalu 193, drift 367, mending 419, theorems 1319: together 8733
