@@ -155,7 +155,7 @@ EXPORTED = [
 # Where a reply is put together, and by which part's step: a fault is a kind and so many times a place, a reply a row and
 # so many times a fault.
 STEPS = [
-    ("crates/state/src/faults.rt", r"\bkind as u32 \+ (\d+) \* u32::from\(place\)", "place"),
+    ("crates/state/src/faults.rt", r"\bu32::from\(kind\) \+ (\d+) \* u32::from\(place\)", "place"),
     ("crates/state/specs/Faults.antt", r"\(kind \+ (\d+) \* place\)", "place"),
     ("crates/units/src/refusal.rt", r" \+ (\d+) \* u64::from\(fault\)", "kind"),
     ("crates/units/specs/Reply.antt", r"= row \+ (\d+) \* fault\b", "kind"),
@@ -701,9 +701,10 @@ def entries(path, name):
     if ending(path) == ".rt":
         bodies, types = methods(path)
         body = bodies.get(name, "")
-        for found in re.finditer(r"\bunless\(|\b(\w+)\.fault\(", body):
-            record = types[name].get(found.group(1), "") if found.group(1) else None
-            yield record, split(closed(body, found.end() - 1), ",")
+        for found in re.finditer(r"\bKind::(\w+)\.unless\(|\b(\w+)\.fault\(", body):
+            record = types[name].get(found.group(2), "") if found.group(2) else None
+            given = split(closed(body, found.end() - 1), ",")
+            yield record, given + [found.group(1)] if found.group(1) else given
         return
     body = functions(path).get(name, "")
     for found in re.finditer(r"\bunless |\b(\w+_faults) ", body):
@@ -717,7 +718,7 @@ def listed(path, name, kinds, place=None):
             yield from listed(path, record, kinds, given[0])
         else:
             test, at, kind = given[:3]
-            yield place if at == "place" else at, kinds.get(kind.removeprefix("Kind::"), kind), test
+            yield place if at == "place" else at, kinds.get(kind, kind), test
 
 
 def check_list(where, stands, due, of):
@@ -815,7 +816,7 @@ def differing_places(table, path, beside):
     for number in sorted(number for number in free if faults_due(table, numbers.get(number, ""))):
         yield f"{path}: call {number} is given nothing there, and should be given what {numbers[number]} is"
     if source:
-        where, stands = beside, [divmod(int(found), 256) for found in re.findall(r"\bNO_CALL: u32 = (\d+);", code(beside))]
+        where, stands = beside, [(0, kinds.get(found, found)) for found in re.findall(r"\bNO_CALL: u32 = Kind::(\w+) as u32;", code(beside))]
     else:
         where, stands = path, listed(path, "no_call", kinds)
     due = [(0, kinds[kind_name(path, "ListLength")])]

@@ -1,4 +1,5 @@
 // One line of a list, asked of the port.
+// What a line asks is a number: the kept lists write it so.
 use filters::{MaxBandwidthFilter, MinRttFilter, RoundTripCounter, WindowedFilter};
 use std::num::{
     f32_from_bits_with_nan, f32_to_bits_with_nan, f64_from_bits_with_nan, f64_to_bits_with_nan,

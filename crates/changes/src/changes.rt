@@ -1,4 +1,5 @@
 // The calls that change the model and carry no event.
+// Document 01 names each call, the two gains and the plain ones too: each is two or three lines.
 ghost use Rattle.std.specs.Prelude.{◌≡◌, true, ◌+◌, leb};
 ghost use Rattle.units.specs.Reply.{number, fault};
 ghost use Rattle.state.specs.Answers.{settled};

@@ -29,6 +29,7 @@ pub fn read_header(input: &mut impl Read) -> io::Result<Header> {
     Ok(Header::Wrong)
 }
 
+// A buffer and how much of it is held: nothing is allocated.
 // Reads a piece behind the bytes held, and answers how long it is.
 pub fn read_piece(input: &mut impl Read, buf: &mut [u8], held: usize) -> io::Result<usize>
     requires { (held ≤ 4097) × (69633 ≤ length buf.old) }

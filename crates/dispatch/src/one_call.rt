@@ -1,6 +1,7 @@
 // One call of a run: carried out, with its answer written. A send and an event's two calls have ways
 // of their own, since nearly all calls are of these, and are told whether the model is within its
 // bounds. Each is lent the call's own 392 bytes and its answer's 144.
+// `fine` is no invariant of a type: see `sent_tested` (changes).
 ghost use Rattle.std.specs.Prelude.{◌≡◌, ◌∷◌, length};
 ghost use Rattle.state.specs.NetworkModel.{model_ok};
 ghost use Rattle.words.specs.Words.{all_bytes};

@@ -49,6 +49,7 @@ pub fn on_congestion_event_start(
 
 // The same for a run, where it is known whether the model is within its bounds, and which of the acked numbers is the
 // greatest. It says the row alone; the run finds the fault.
+// `fine` is no invariant of a type: see `sent_tested` (changes).
 #[tactic(auto, unfolding(crate::specs::Event::event_number, crate::specs::Event::event_next, crate::specs::Event::model_next, state::specs::Answers::settled))]
 pub fn start_tested(
     model: &mut NetworkModel,
@@ -378,6 +379,7 @@ pub fn on_congestion_event_finish(
 }
 
 // The same for a run, where it is known whether the model is within its bounds.
+// `fine` is no invariant of a type: see `sent_tested` (changes).
 #[tactic(auto, unfolding(crate::specs::Event::finish_number, crate::specs::Event::finish_next, state::specs::Answers::settled, state::specs::NetworkModel::with_round))]
 pub fn finish_tested(
     model: &mut NetworkModel,

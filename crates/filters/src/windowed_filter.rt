@@ -82,6 +82,7 @@ impl WindowedFilter {
         WindowedFilter::new(self.window)
     }
 
+    // The original has a method for each of the three.
     // The best estimate.
     pub fn get_best(self) -> Option<u64>
         ensures { result ≡ best_of self.held }

@@ -11,7 +11,7 @@ use layout::cycle::cycle_from;
 use layout::form::is_state;
 use layout::network_model::model_from;
 use layout::state_words::state_words;
-use state::faults::{Kind, first_of, unless};
+use state::faults::{Kind, first_of};
 use state::refusals::{Rows, or_short, refusal};
 use state::{Cycle, NetworkModel};
 use units::Refusal;
@@ -50,6 +50,7 @@ pub fn guovssalu_run_lists(state: &mut [u8], calls: &[u8], lists: &[u64], answer
     0
 }
 
+// Beside the estimator's (trips): sizes, forms and definitions differ.
 fn model_reply(state: &[u8], calls: &[u8], room: usize) -> Result<(), Refusal>
     ensures reply { number result ≡ model_row state.now calls.now room }
     ensures fault { fault result ≡ named (model_row state.now calls.now room)
@@ -63,8 +64,8 @@ fn model_reply(state: &[u8], calls: &[u8], room: usize) -> Result<(), Refusal>
         ..Rows::NONE
     };
     let faults = [
-        unless(whole, 1, Kind::ListLength),
-        unless(even, 2, Kind::ListLength),
+        Kind::ListLength.unless(whole, 1),
+        Kind::ListLength.unless(even, 2),
     ];
     let reply = refusal(rows, first_of(&faults));
     or_short(reply, room < 144 * (calls.len() / 392))
@@ -112,6 +113,7 @@ fn run_calls(
         let to = 144 * i;
         let call = &calls[at..at + 392];
         let answer = &mut answers[to..to + 144];
+        // A call is its number, a word of the C interface.
         match get_word(call, 0) {
             1 => send(&mut m, fine, call, answer),
             3 => event_start(&mut m, fine, call, lists, answer),

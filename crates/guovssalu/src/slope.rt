@@ -9,7 +9,7 @@ use phases::slope::slope_raised;
 use state::Cycle;
 use state::bounds::bytes_ok;
 use state::cycle::Slope;
-use state::faults::{Kind, unless};
+use state::faults::Kind;
 use state::refusals::{Rows, or_short, refusal};
 use units::Refusal;
 use words::put_words;
@@ -37,7 +37,7 @@ fn slope_reply(rounds: u64, window: u64, room: usize) -> Result<(), Refusal>
         argument: !fine,
         ..Rows::NONE
     };
-    let reply = refusal(rows, unless(fine, 2, Kind::Window));
+    let reply = refusal(rows, Kind::Window.unless(fine, 2));
     or_short(reply, room < 16)
 }
 

@@ -51,6 +51,7 @@ pub fn put_sorted(
     }
 }
 
+// Beside `run` (trace): two outputs in place of one, and other laws.
 // Sifts the lines of s from an index on, as long as there is room for a line and for an entry.
 pub fn sift(mend: Mend, s: &[u8], from: usize, out: &mut [u8], list: &mut [u8]) -> Sifted
     ensures { Sifts (sift_of (length out.old) (length list.old) (lines_from [] (drop from s.now)) (sifting mend from))

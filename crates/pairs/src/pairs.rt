@@ -10,7 +10,7 @@ ghost use Rattle.pairs.specs.Inner.{times_fall, pair_at, stepped_words};
 
 use filters::WindowedFilter;
 use filters::windowed_filter::{Sample, Stepped, step};
-use state::faults::{Kind, unless};
+use state::faults::Kind;
 use state::refusals::{Rows, or_short, refusal};
 use units::Refusal;
 use words::{get_word, put_words};
@@ -27,7 +27,7 @@ pub fn run_reply(window: u64, src: &[u8], room: usize) -> Result<(), Refusal>
         earlier: is_refused(window, src),
         ..Rows::NONE
     };
-    let reply = refusal(rows, unless(even, 2, Kind::ListLength));
+    let reply = refusal(rows, Kind::ListLength.unless(even, 2));
     or_short(reply, room < 32 * (src.len() / 16))
 }
 

@@ -1,4 +1,5 @@
 // Numbers in decimal digits, and what writes them into a lent slice.
+// Digits are written by hand: a number's Display writes to a formatter, not at a place of lent bytes.
 ghost use Rattle.std.specs.Prelude.{◌≡◌, [], ◌∷◌, ◌+◌, ◌≤◌, ◌<◌, length};
 ghost use Rattle.rows.specs.Digits.{places_of, digits_of, decimal, Puts};
 

@@ -7,7 +7,7 @@ ghost use Rattle.state.specs.Faults.{first, named};
 ghost use Rattle.rtt.specs.Rtt.{stats_ok, asked_rows, given_number, stored_number, new_faults, new_number, stats_new, new_left, update_faults, update_number, first_sample, delay_taken, plausible, adjusted, smoothed_after, variation_after, later_sample, update_next, update_left, delay_faults, delay_number, delay_left, minimum_shown};
 
 use state::bounds::length_ok;
-use state::faults::{Kind, first_of, unless};
+use state::faults::{Kind, first_of};
 use state::refusals::{Rows, refusal};
 use units::{Duration, Refusal};
 
@@ -20,6 +20,7 @@ pub struct RttStats {
     // max_ack_delay.
     pub limit: Duration,
     // has_first_rtt_sample.
+    // Beside a minimum that is there without it: the state's words hold both.
     pub sampled: bool,
 }
 
@@ -258,8 +259,8 @@ pub fn new_fault(initial: Duration, limit: Duration) -> u32
     ensures { result ≡ first (new_faults initial limit) }
 {
     first_of(&[
-        unless(length_ok(initial), 1, Kind::Length),
-        unless(length_ok(limit), 2, Kind::Length),
+        Kind::Length.unless(length_ok(initial), 1),
+        Kind::Length.unless(length_ok(limit), 2),
     ])
 }
 
@@ -268,9 +269,9 @@ pub fn update_fault(latest: Duration, delay: Duration, fits: bool) -> u32
     ensures { result ≡ first (update_faults latest delay fits) }
 {
     first_of(&[
-        unless(length_ok(latest), 1, Kind::Length),
-        unless(length_ok(delay), 2, Kind::Length),
-        unless(fits, 3, Kind::ListLength),
+        Kind::Length.unless(length_ok(latest), 1),
+        Kind::Length.unless(length_ok(delay), 2),
+        Kind::ListLength.unless(fits, 3),
     ])
 }
 
@@ -278,7 +279,7 @@ pub fn update_fault(latest: Duration, delay: Duration, fits: bool) -> u32
 pub fn delay_fault(limit: Duration) -> u32
     ensures { result ≡ first (delay_faults limit) }
 {
-    first_of(&[unless(length_ok(limit), 1, Kind::Length)])
+    first_of(&[Kind::Length.unless(length_ok(limit), 1)])
 }
 
 // ---- lengths

@@ -1,4 +1,5 @@
 // One call of a frame, from its bytes.
+// Calls and functions are numbers: the frames of the comparison write them so.
 ghost use Rattle.std.specs.Prelude.{◌≡◌, length};
 
 use crate::put::put;

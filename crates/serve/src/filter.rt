@@ -1,4 +1,5 @@
 // Call 46: an operation on a windowed filter that is handed in.
+// Calls and functions are numbers: the frames of the comparison write them so.
 ghost use Rattle.std.specs.Prelude.{◌≡◌, length};
 
 use filters::WindowedFilter;

@@ -1,4 +1,5 @@
 // Call 47: a function's answers to 64 neighbouring numbers.
+// Calls and functions are numbers: the frames of the comparison write them so.
 ghost use Rattle.std.specs.Prelude.{◌≡◌, length};
 
 use guovssalu::conversions::{

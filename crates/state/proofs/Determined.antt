@@ -25,6 +25,7 @@ use Rattle.state.proofs.congestion_event.CongestionEventSample as congestion-eve
 use Rattle.state.proofs.cycle.Stay as cycle-stay
 use Rattle.state.proofs.cycle.Cycle as cycle-cycle
 use Rattle.state.proofs.faults as faults
+use Rattle.state.proofs.faults.Kind as faults-kind
 use Rattle.state.proofs.network_model.NetworkModel as network-model-networkmodel
 use Rattle.state.proofs.params.Params as params-params
 use Rattle.state.proofs.parts.Round as parts-round
@@ -96,6 +97,9 @@ one_congestion_event_sample_ok κ a x y s t p q = p ∙ sym q
 
 pub one_faults_unless : OneReply faults.unless.Reads.Learnt
 one_faults_unless κ a x y s t p q = p ∙ sym q
+
+pub one_faults_kind_unless : OneReply faults-kind.unless.Reads.Learnt
+one_faults_kind_unless κ a x y s t p q = p ∙ sym q
 
 pub one_faults_first_of : OneReply faults.first_of.Reads.Learnt
 one_faults_first_of κ a x y s t p q = p ∙ sym q

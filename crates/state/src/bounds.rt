@@ -1,4 +1,5 @@
 // Document 01's bounds.
+// A test for each bound, by its name: the documents, the definitions and the table of faults have these names.
 ghost use Rattle.std.specs.Prelude.{◌≡◌};
 ghost use Rattle.state.specs.Bounds.{bytes_ok, bytes_or_unset_ok, total_ok, moment_ok, length_ok, bandwidth_ok, maybe_ok, fraction_ok, gain_ok};
 

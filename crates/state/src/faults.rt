@@ -25,7 +25,7 @@ pub enum Kind {
 }
 
 // A number that is no call's: a list length, at place 0.
-pub const NO_CALL: u32 = 8;
+pub const NO_CALL: u32 = Kind::ListLength as u32;
 
 // Which words of a record in a call are a writer's.
 #[derive(Clone, Copy)]
@@ -76,13 +76,22 @@ impl SampleFits {
 }
 
 // No fault where the test holds; this kind at this place where it fails. A fault is a number as it crosses to C.
-pub fn unless(test: bool, place: u8, kind: Kind) -> u32
-    ensures { result ≡ unless test place (kind_number kind) }
+pub fn unless(test: bool, place: u8, kind: u8) -> u32
+    ensures { result ≡ unless test place kind }
 {
     if test {
         0
     } else {
-        kind as u32 + 256 * u32::from(place)
+        u32::from(kind) + 256 * u32::from(place)
+    }
+}
+
+impl Kind {
+    // The same, by the kind's name.
+    pub fn unless(self, test: bool, place: u8) -> u32
+        ensures { result ≡ unless test place (kind_number self) }
+    {
+        unless(test, place, self as u8)
     }
 }
 
@@ -108,22 +117,22 @@ impl CongestionEvent {
         ensures { result ≡ first (record_faults place fits self) }
     {
         first_of(&[
-            unless(moment_ok(self.time), place, Kind::Moment),
-            unless(bytes_ok(self.window), place, Kind::Window),
-            unless(bytes_ok(self.prior), place, Kind::ByteCount),
-            unless(bytes_ok(self.inflight), place, Kind::ByteCount),
-            unless(total_ok(self.acked), place, Kind::Total),
-            unless(total_ok(self.lost), place, Kind::Total),
-            unless(fits.ended, place, Kind::ListLength),
-            unless(fits.probing, place, Kind::ListLength),
-            unless(fits.bandwidth, place, Kind::ListLength),
-            unless(maybe_ok(self.bandwidth), place, Kind::Bandwidth),
-            unless(fits.rtt, place, Kind::ListLength),
-            unless(maybe_length_ok(self.rtt), place, Kind::Length),
-            unless(fits.valid, place, Kind::ListLength),
-            unless(fits.applimited, place, Kind::ListLength),
-            unless(total_ok(self.state.acked), place, Kind::Total),
-            unless(bytes_ok(self.state.inflight), place, Kind::ByteCount),
+            Kind::Moment.unless(moment_ok(self.time), place),
+            Kind::Window.unless(bytes_ok(self.window), place),
+            Kind::ByteCount.unless(bytes_ok(self.prior), place),
+            Kind::ByteCount.unless(bytes_ok(self.inflight), place),
+            Kind::Total.unless(total_ok(self.acked), place),
+            Kind::Total.unless(total_ok(self.lost), place),
+            Kind::ListLength.unless(fits.ended, place),
+            Kind::ListLength.unless(fits.probing, place),
+            Kind::ListLength.unless(fits.bandwidth, place),
+            Kind::Bandwidth.unless(maybe_ok(self.bandwidth), place),
+            Kind::ListLength.unless(fits.rtt, place),
+            Kind::Length.unless(maybe_length_ok(self.rtt), place),
+            Kind::ListLength.unless(fits.valid, place),
+            Kind::ListLength.unless(fits.applimited, place),
+            Kind::Total.unless(total_ok(self.state.acked), place),
+            Kind::ByteCount.unless(bytes_ok(self.state.inflight), place),
         ])
     }
 }
@@ -134,23 +143,23 @@ impl CongestionEventSample {
         ensures { result ≡ first (sample_faults fits self) }
     {
         first_of(&[
-            unless(fits.bandwidth, 3, Kind::ListLength),
-            unless(maybe_ok(self.bandwidth), 3, Kind::Bandwidth),
-            unless(fits.send, 3, Kind::ListLength),
-            unless(maybe_ok(self.send), 3, Kind::Bandwidth),
-            unless(fits.ack, 3, Kind::ListLength),
-            unless(maybe_ok(self.ack), 3, Kind::Bandwidth),
-            unless(fits.applimited, 3, Kind::ListLength),
-            unless(fits.rtt, 3, Kind::ListLength),
-            unless(maybe_length_ok(self.rtt), 3, Kind::Length),
-            unless(bytes_ok(self.inflight), 3, Kind::ByteCount),
-            unless(bytes_ok(self.extra), 3, Kind::ByteCount),
-            unless(fits.valid, 3, Kind::ListLength),
-            unless(fits.limited, 3, Kind::ListLength),
-            unless(total_ok(self.state.acked), 3, Kind::Total),
-            unless(bytes_ok(self.state.inflight), 3, Kind::ByteCount),
-            unless(total_ok(self.totals.acked), 3, Kind::Total),
-            unless(total_ok(self.totals.lost), 3, Kind::Total),
+            Kind::ListLength.unless(fits.bandwidth, 3),
+            Kind::Bandwidth.unless(maybe_ok(self.bandwidth), 3),
+            Kind::ListLength.unless(fits.send, 3),
+            Kind::Bandwidth.unless(maybe_ok(self.send), 3),
+            Kind::ListLength.unless(fits.ack, 3),
+            Kind::Bandwidth.unless(maybe_ok(self.ack), 3),
+            Kind::ListLength.unless(fits.applimited, 3),
+            Kind::ListLength.unless(fits.rtt, 3),
+            Kind::Length.unless(maybe_length_ok(self.rtt), 3),
+            Kind::ByteCount.unless(bytes_ok(self.inflight), 3),
+            Kind::ByteCount.unless(bytes_ok(self.extra), 3),
+            Kind::ListLength.unless(fits.valid, 3),
+            Kind::ListLength.unless(fits.limited, 3),
+            Kind::Total.unless(total_ok(self.state.acked), 3),
+            Kind::ByteCount.unless(bytes_ok(self.state.inflight), 3),
+            Kind::Total.unless(total_ok(self.totals.acked), 3),
+            Kind::Total.unless(total_ok(self.totals.lost), 3),
         ])
     }
 }
@@ -162,8 +171,8 @@ pub fn start_fault(rtt: Duration, now: Moment) -> u32
     ensures { result ≡ first (start_faults rtt now) }
 {
     first_of(&[
-        unless(length_ok(rtt), 1, Kind::Length),
-        unless(moment_ok(now), 2, Kind::Moment),
+        Kind::Length.unless(length_ok(rtt), 1),
+        Kind::Moment.unless(moment_ok(now), 2),
     ])
 }
 
@@ -172,9 +181,9 @@ pub fn sent_fault(now: Moment, inflight: u64, bytes: u64) -> u32
     ensures { result ≡ first (sent_faults now inflight bytes) }
 {
     first_of(&[
-        unless(moment_ok(now), 1, Kind::Moment),
-        unless(bytes_ok(inflight), 2, Kind::ByteCount),
-        unless(bytes_ok(bytes), 4, Kind::ByteCount),
+        Kind::Moment.unless(moment_ok(now), 1),
+        Kind::ByteCount.unless(bytes_ok(inflight), 2),
+        Kind::ByteCount.unless(bytes_ok(bytes), 4),
     ])
 }
 
@@ -190,7 +199,7 @@ pub fn started_fault(
     ensures { result ≡ first (started_faults acked whole event complete sample) }
 {
     first_of(&[
-        unless(acked, 1, Kind::ListLength),
+        Kind::ListLength.unless(acked, 1),
         event.fault(2, whole),
         sample.fault(complete),
     ])
@@ -201,8 +210,8 @@ pub fn gain_fault(fits: bool, gain: f32) -> u32
     ensures { result ≡ first (gain_faults fits gain) }
 {
     first_of(&[
-        unless(fits, 1, Kind::ListLength),
-        unless(gain_ok(gain), 1, Kind::Gain),
+        Kind::ListLength.unless(fits, 1),
+        Kind::Gain.unless(gain_ok(gain), 1),
     ])
 }
 
@@ -211,9 +220,9 @@ pub fn bdp_fault(bandwidth: Bandwidth, fits: bool, gain: f32) -> u32
     ensures { result ≡ first (bdp_faults bandwidth fits gain) }
 {
     first_of(&[
-        unless(bandwidth_ok(bandwidth), 1, Kind::Bandwidth),
-        unless(fits, 2, Kind::ListLength),
-        unless(gain_ok(gain), 2, Kind::Gain),
+        Kind::Bandwidth.unless(bandwidth_ok(bandwidth), 1),
+        Kind::ListLength.unless(fits, 2),
+        Kind::Gain.unless(gain_ok(gain), 2),
     ])
 }
 
@@ -221,7 +230,7 @@ pub fn bdp_fault(bandwidth: Bandwidth, fits: bool, gain: f32) -> u32
 pub fn bdp1_fault(bandwidth: Bandwidth) -> u32
     ensures { result ≡ first (bdp1_faults bandwidth) }
 {
-    first_of(&[unless(bandwidth_ok(bandwidth), 1, Kind::Bandwidth)])
+    first_of(&[Kind::Bandwidth.unless(bandwidth_ok(bandwidth), 1)])
 }
 
 // inflight_hi, or a cap.
@@ -229,7 +238,7 @@ pub fn bdp1_fault(bandwidth: Bandwidth) -> u32
 pub fn limit_fault(bytes: u64) -> u32
     ensures { result ≡ first (limit_faults bytes) }
 {
-    first_of(&[unless(bytes_or_unset_ok(bytes), 1, Kind::ByteCount)])
+    first_of(&[Kind::ByteCount.unless(bytes_or_unset_ok(bytes), 1)])
 }
 
 #[tactic(auto, unfolding(crate::specs::Faults::postpone_faults))]
@@ -237,8 +246,8 @@ pub fn postpone_fault(length: Duration, postponed: Moment) -> u32
     ensures { result ≡ first (postpone_faults length postponed) }
 {
     first_of(&[
-        unless(length_ok(length), 1, Kind::Length),
-        unless(moment_ok(postponed), 1, Kind::Moment),
+        Kind::Length.unless(length_ok(length), 1),
+        Kind::Moment.unless(moment_ok(postponed), 1),
     ])
 }
 
@@ -247,9 +256,9 @@ pub fn down_fault(high: bool, risky: bool, now: Moment) -> u32
     ensures { result ≡ first (down_faults high risky now) }
 {
     first_of(&[
-        unless(high, 1, Kind::ListLength),
-        unless(risky, 2, Kind::ListLength),
-        unless(moment_ok(now), 3, Kind::Moment),
+        Kind::ListLength.unless(high, 1),
+        Kind::ListLength.unless(risky, 2),
+        Kind::Moment.unless(moment_ok(now), 3),
     ])
 }
 
@@ -258,7 +267,7 @@ pub fn down_fault(high: bool, risky: bool, now: Moment) -> u32
 pub fn now_fault(now: Moment) -> u32
     ensures { result ≡ first (now_faults now) }
 {
-    first_of(&[unless(moment_ok(now), 1, Kind::Moment)])
+    first_of(&[Kind::Moment.unless(moment_ok(now), 1)])
 }
 
 #[tactic(auto, unfolding(crate::specs::Faults::refill_faults))]
@@ -266,8 +275,8 @@ pub fn refill_fault(rounds: u64, now: Moment) -> u32
     ensures { result ≡ first (refill_faults rounds now) }
 {
     first_of(&[
-        unless(rounds <= Cycle::MOST_ROUNDS, 1, Kind::ProbeRounds),
-        unless(moment_ok(now), 2, Kind::Moment),
+        Kind::ProbeRounds.unless(rounds <= Cycle::MOST_ROUNDS, 1),
+        Kind::Moment.unless(moment_ok(now), 2),
     ])
 }
 
@@ -276,8 +285,8 @@ pub fn up_fault(now: Moment, window: u64) -> u32
     ensures { result ≡ first (up_faults now window) }
 {
     first_of(&[
-        unless(moment_ok(now), 1, Kind::Moment),
-        unless(bytes_ok(window), 2, Kind::Window),
+        Kind::Moment.unless(moment_ok(now), 1),
+        Kind::Window.unless(bytes_ok(window), 2),
     ])
 }
 
@@ -285,5 +294,5 @@ pub fn up_fault(now: Moment, window: u64) -> u32
 pub fn slope_fault(window: u64) -> u32
     ensures { result ≡ first (slope_faults window) }
 {
-    first_of(&[unless(bytes_ok(window), 1, Kind::Window)])
+    first_of(&[Kind::Window.unless(bytes_ok(window), 1)])
 }

@@ -36,7 +36,8 @@ impl Rows {
     };
 }
 
-// The row of the table that refuses a call, where it isn't said which argument is at fault.
+// The row of the table that refuses a call, where it isn't said which argument is at fault. It stands beside `Refusal`: a run
+// finds the fault only where it has to answer it, and its row is a number of the compiler's, with no table.
 #[derive(Clone, Copy, PartialEq, Eq)]
 pub enum Cause {
     Stored = 1,

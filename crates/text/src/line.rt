@@ -37,6 +37,7 @@ pub enum Line {
 }
 
 // A line that is refused with 6: the first field at fault, or 0.
+// It is a number, 0 where no field is at fault: the list of a mended trace writes it.
 #[derive(Clone, Copy, Debug, PartialEq, Eq)]
 pub struct BadField {
     pub field: u64,

@@ -1,4 +1,5 @@
 // Plain decimal numbers, and the fields that hold them.
+// Read by hand: `parse` takes a sign and leading zeros, which a trace may not have.
 ghost use Rattle.std.specs.Prelude.{◌≡◌};
 ghost use Rattle.text.specs.Inner.{pushed, read_from};
 ghost use Rattle.text.specs.Number.{cell_of, number_of};

@@ -10,6 +10,7 @@ use rows::row::Row;
 #[derive(Clone, Copy)]
 pub struct Tally {
     pub rounds: u64,
+    // As inflight_lo is stored, 2^64 - 1 where none was set.
     pub lowest: u64,
     pub first: Option<u64>,
     pub refused: u64,

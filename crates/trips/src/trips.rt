@@ -11,7 +11,7 @@ ghost use Rattle.trips.specs.Trips.{stats_words, stats_in, encodes_none, call_ro
 
 use rtt::RttStats;
 use state::bounds::UNSET;
-use state::faults::{Kind, NO_CALL, first_of, unless};
+use state::faults::{Kind, NO_CALL, first_of};
 use state::refusals::{Rows, or_short, refusal};
 use units::{Duration, Refusal};
 use words::word::flag_fits;
@@ -33,8 +33,8 @@ pub fn run_reply(state: &[u8], calls: &[u8], room: usize) -> Result<(), Refusal>
         ..Rows::NONE
     };
     let faults = [
-        unless(whole, 1, Kind::ListLength),
-        unless(even, 2, Kind::ListLength),
+        Kind::ListLength.unless(whole, 1),
+        Kind::ListLength.unless(even, 2),
     ];
     let reply = refusal(rows, first_of(&faults));
     or_short(reply, room < 40 * (calls.len() / 32))

@@ -5,7 +5,8 @@ ghost use Rattle.words.specs.Maybe.{is_unset, maybe_fits, number_in, maybe_of, p
 use crate::word::or_outside;
 use units::{Bandwidth, Duration};
 
-// What is one number: a bandwidth, a length of time, a plain number.
+// What is one number: a bandwidth, a length of time, a plain number. A trait of its own: the laws of From and Into don't tie
+// the two ways to each other.
 pub trait AsNumber {
     ghost of: { ℕ → Self };
 
