@@ -23,28 +23,8 @@ pub enum Asked {
     Rounds(RoundTripCounter),
 }
 
-#[derive(Clone, Copy)]
-pub struct Compared {
-    pub asked: Asked,
-    pub same: bool,
-}
-
-// Whether the port answers as the line has it, and what the next line asks.
-pub fn answer(asked: Asked, n: &[u64; 16]) -> Compared {
-    match asked {
-        Asked::Windowed(filter) => windowed(filter, n),
-        Asked::MaxBandwidth(filter) => max_bandwidth(filter, n),
-        Asked::MinRtt(filter) => min_rtt(filter, n),
-        Asked::Rounds(counter) => rounds(counter, n),
-        _ => Compared {
-            asked,
-            same: number(asked, n),
-        },
-    }
-}
-
-// Whether a conversion or a bandwidth is as the line has it.
-fn number(asked: Asked, n: &[u64; 16]) -> bool {
+// Whether the port answers as the line has it. The filter goes on to the next line.
+pub fn answer(asked: &mut Asked, n: &[u64; 16]) -> bool {
     match asked {
         Asked::ToF32 => u64::from(f32_to_bits_with_nan(numbers::to_f32(n[0]))) == n[1],
         Asked::ToF64 => f64_to_bits_with_nan(numbers::to_f64(n[0])) == n[1],
@@ -57,7 +37,10 @@ fn number(asked: Asked, n: &[u64; 16]) -> bool {
             == n[2],
         Asked::BandwidthPeriod => Bandwidth(n[0]).to_bytes_per_period(Duration(n[1])) == n[2],
         Asked::BandwidthOrder => order(Bandwidth(n[0]), Bandwidth(n[1]), n),
-        _ => false,
+        Asked::Windowed(filter) => windowed(filter, n),
+        Asked::MaxBandwidth(filter) => max_bandwidth(filter, n),
+        Asked::MinRtt(filter) => min_rtt(filter, n),
+        Asked::Rounds(counter) => rounds(counter, n),
     }
 }
 
@@ -70,30 +53,22 @@ fn order(a: Bandwidth, b: Bandwidth, n: &[u64; 16]) -> bool {
     ((a < b) == (n[2] == 1)) & (a.max(b).0 == n[3]) & (a.min(b).0 == n[4])
 }
 
-fn windowed(filter: WindowedFilter, n: &[u64; 16]) -> Compared {
-    let op = n[0];
-    let next = match op {
-        0 => WindowedFilter::new(n[1]),
-        1 => filter.reset(n[1], n[2]),
+fn windowed(filter: &mut WindowedFilter, n: &[u64; 16]) -> bool {
+    match n[0] {
+        0 => *filter = WindowedFilter::new(n[1]),
+        1 => *filter = filter.reset(n[1], n[2]),
         2 => return updated(filter, n),
-        _ => filter.clear(),
-    };
-    Compared {
-        asked: Asked::Windowed(next),
-        same: (n[10] == 0) & holds(next, n),
+        _ => *filter = filter.clear(),
     }
+    (n[10] == 0) & holds(*filter, n)
 }
 
 // An update, with its reason. No line expects a refusal.
-fn updated(filter: WindowedFilter, n: &[u64; 16]) -> Compared {
-    let mut next = filter;
-    let named = next
+fn updated(filter: &mut WindowedFilter, n: &[u64; 16]) -> bool {
+    let named = filter
         .update(n[1], n[2])
         .is_ok_and(|reason| reason.number() == n[10]);
-    Compared {
-        asked: Asked::Windowed(next),
-        same: named & holds(next, n),
-    }
+    named & holds(*filter, n)
 }
 
 // Whether the filter answers the samples of the line, and holds their times.
@@ -116,57 +91,41 @@ fn has_times(filter: WindowedFilter, n: &[u64; 16]) -> bool {
     }
 }
 
-fn max_bandwidth(filter: MaxBandwidthFilter, n: &[u64; 16]) -> Compared {
-    let op = n[0];
-    let next = match op {
+fn max_bandwidth(filter: &mut MaxBandwidthFilter, n: &[u64; 16]) -> bool {
+    *filter = match n[0] {
         0 => MaxBandwidthFilter::new(),
         1 => filter.update(Bandwidth(n[1])),
         _ => filter.advance(),
     };
-    Compared {
-        asked: Asked::MaxBandwidth(next),
-        same: (next.slot0.0 == n[2]) & (next.slot1.0 == n[3]) & (next.get().0 == n[4]),
-    }
+    (filter.slot0.0 == n[2]) & (filter.slot1.0 == n[3]) & (filter.get().0 == n[4])
 }
 
-fn min_rtt(filter: MinRttFilter, n: &[u64; 16]) -> Compared {
+fn min_rtt(filter: &mut MinRttFilter, n: &[u64; 16]) -> bool {
     let rtt = Duration(n[1]);
     let now = Moment(n[2]);
-    let op = n[0];
-    let next = match op {
+    *filter = match n[0] {
         0 => MinRttFilter::new(rtt, now),
         1 => filter.update(rtt, now),
         _ => filter.force_update(rtt, now),
     };
-    Compared {
-        asked: Asked::MinRtt(next),
-        same: (next.get().0 == n[3]) & (next.get_timestamps().0 == n[4]),
-    }
+    (filter.get().0 == n[3]) & (filter.get_timestamps().0 == n[4])
 }
 
-fn rounds(counter: RoundTripCounter, n: &[u64; 16]) -> Compared {
-    let op = n[0];
-    let next = match op {
-        0 => RoundTripCounter::new(),
-        1 => counter.on_packet_sent(n[2]),
+fn rounds(counter: &mut RoundTripCounter, n: &[u64; 16]) -> bool {
+    match n[0] {
+        0 => *counter = RoundTripCounter::new(),
+        1 => *counter = counter.on_packet_sent(n[2]),
         2 => return acked(counter, n),
-        _ => counter.restart_round(),
-    };
-    Compared {
-        asked: Asked::Rounds(next),
-        same: (n[5] == 0) & stands(next, n),
+        _ => *counter = counter.restart_round(),
     }
+    (n[5] == 0) & stands(*counter, n)
 }
 
-fn acked(counter: RoundTripCounter, n: &[u64; 16]) -> Compared {
+fn acked(counter: &mut RoundTripCounter, n: &[u64; 16]) -> bool {
     let packets = [n[2], n[3], n[4]];
     let few = (n[1] % 4) as usize;
-    let mut next = counter;
-    let ended = next.on_packets_acked(&packets[..few]).unwrap_or(false);
-    Compared {
-        asked: Asked::Rounds(next),
-        same: (ended == (n[5] == 1)) & stands(next, n),
-    }
+    let ended = counter.on_packets_acked(&packets[..few]).unwrap_or(false);
+    (ended == (n[5] == 1)) & stands(*counter, n)
 }
 
 fn stands(counter: RoundTripCounter, n: &[u64; 16]) -> bool {

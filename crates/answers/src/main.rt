@@ -30,13 +30,11 @@ fn sum(a: Tally, b: Tally) -> Tally {
 }
 
 // The lines of a list, counted, and those that the port answers otherwise.
-fn compared(asked: Asked, text: &[u8]) -> Tally {
-    let mut next = asked;
+fn compared(mut asked: Asked, text: &[u8]) -> Tally {
     let mut tally = Tally::default();
     for line in text.split_inclusive(|b| *b == b'\n') {
-        let compared = asked::answer(next, &read_line(line));
-        next = compared.asked;
-        let differ = u64::from(!compared.same);
+        let same = asked::answer(&mut asked, &read_line(line));
+        let differ = u64::from(!same);
         tally = sum(tally, Tally { answers: 1, differ });
     }
     tally
