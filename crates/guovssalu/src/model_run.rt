@@ -94,6 +94,7 @@ fn state_in(state: &[u8]) -> [u64; 51]
 }
 
 // Makes the calls in order from a model and a cycle, writes their answers, and gives the words of the state that they leave.
+// By index: after an adapter of `iter_mut`, as `zip`, nothing is known of what was written.
 fn run_calls(
     model: NetworkModel,
     cycle: Cycle,

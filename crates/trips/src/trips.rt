@@ -80,6 +80,7 @@ pub fn stats_words(stats: RttStats) -> [u64; 6]
 }
 
 // Makes the calls in order, writes their answers, and gives the estimator that they leave.
+// By index: after an adapter of `iter_mut`, as `zip`, nothing is known of what was written.
 #[tactic(auto, using(crate::proofs::Run::left_later, crate::proofs::Run::left_end, crate::proofs::Run::write_answer, crate::proofs::Run::answers_end))]
 pub fn run_calls(stats: RttStats, calls: &[u8], answers: &mut [u8]) -> RttStats
     requires { 40 * calls_in calls.now ≤ length answers.old }
