@@ -76,7 +76,7 @@ module _ {B : Type 0} (reply : Result B Refusal) (r : Rows) (faults : List ℕ) 
       }
 
 -- where the test of row 2 is that there is no fault
-flipped : {a b : Bool} → a ≡ b → not b ≡ not a
+pub flipped : {a b : Bool} → a ≡ b → not b ≡ not a
 flipped e = ap not (sym e)
 
 pub every_fault : EveryFault

@@ -150,7 +150,7 @@ rest_none p (b ∷ t) h = go (eqb b 10) refl (rest_none [] t refl) (λ k. rest_n
     go true e f g = f
     go false e f g = g (one_goes_on p b h e)
 
-no_lines : lines_from [] [] ≡ []
+pub no_lines : lines_from [] [] ≡ []
 unfolding lines_from
 no_lines = refl
 

@@ -25,7 +25,7 @@ use Rattle.mending.specs.Sorted.{unread, sorted_as, sorted, kept_text, list_text
 use Rattle.mending.specs.Pieces.{mend_after, kept_texts, list_texts, Fed, unfed, fed_lines, fed_piece, fed_pieces, fed_end}
 use Rattle.mending.proofs.Lines.{kept_few}
 use Rattle.mending.proofs.Beside.{beside_begin, kept_follows, list_follows, count_follows}
-use Rattle.mending.proofs.Bytes.{rest_none}
+use Rattle.mending.proofs.Bytes.{rest_none, no_lines}
 
 -- ---- two lists of lines, one after the other
 mend_append : (m : Mend) (a b : List (List ℕ)) → mend_after m (a ++ b) ≡ mend_after (mend_after m a) b
@@ -154,10 +154,6 @@ same_seen cs =
     ∙ sym (map-append seen (lines_from [] (joined cs)) (last_line (rest_from [] (joined cs))))
 
 -- ---- so the whole
-no_lines : lines_from [] [] ≡ []
-unfolding lines_from
-no_lines = refl
-
 ended : (cs : List (List ℕ)) → fed_end (fed_pieces unfed cs) ≡ fed_lines unfed (lines_in [] cs ++ last_line (rest_in [] cs)) []
 ended cs = ap fed_end (pieces_are unfed cs no_lines) ∙ end_is_lem unfed (lines_in [] cs) (rest_in [] cs)
 

@@ -13,7 +13,7 @@ use console::pieces::{Program, Stopped, answer_all};
 use console::said::{fail, fail_output, say};
 use rows::row::put_row;
 use std::io;
-use std::io::Read;
+use std::io::{ErrorKind, Read};
 use std::process::ExitCode;
 use summary::summary;
 use trace::Replay;
@@ -40,11 +40,13 @@ fn answer(rt: &impl Print, replay: &mut Replay, s: &[u8], out: &mut [u8]) -> io:
 
 // The bytes after the last line feed are one more line.
 fn last(rt: &impl Print, replay: &mut Replay, s: &[u8], out: &mut [u8]) -> io::Result<()>
-    requires { 148 ≤ length out.old }
     ensures { OnOk result (replay.new ≡ last_replay replay.old s.now) }
 {
     if s.is_empty() {
         return Ok(());
+    }
+    if out.len() < 148 {
+        return Err(io::Error::from(ErrorKind::WriteZero));
     }
     let stepped = replay.step(s);
     let n = put_row(out, 0, stepped.row);

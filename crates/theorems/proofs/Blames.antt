@@ -20,7 +20,7 @@ use Rattle.units.proofs.refusal.Number.{row_back, fault_back}
 use Rattle.state.specs.declared.refusals.Rows.{Rows}
 use Rattle.dispatch.specs.OneCall.{call_word}
 use Rattle.laws.specs.Replies.{Exactly}
-use Rattle.laws.proofs.Named.{found}
+use Rattle.laws.proofs.Named.{found, flipped}
 use Rattle.drift.specs.Calls.{State}
 use Rattle.pairs.specs.Pairs.{run_row, pairs_faults}
 use Rattle.guovssalu.specs.FilterRun.{run_reply}
@@ -33,9 +33,6 @@ use Rattle.theorems.specs.Steps.{outcome_in}
 use Rattle.theorems.proofs.Rows.{every_row}
 use Rattle.theorems.specs.Rows.{rows_of}
 use Rattle.theorems.proofs.Below.{Below, nothing, also, every, above_46}
-
-pub flipped : {a b : Bool} → a ≡ b → not b ≡ not a
-flipped e = ap not (sym e)
 
 -- ---- row 2 holds exactly where there is a fault
 module _ (w : List ℕ) (s : State) where
