@@ -11,7 +11,7 @@ use units::{Duration, Moment, Refusal};
 
 const WINDOW: u64 = 1_300;
 
-// The original's own.
+// The original's own. In trace too, which keeps them to itself: what a reader copies from stands by itself.
 fn params() -> Params {
     Params {
         beta: 0.3,

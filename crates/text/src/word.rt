@@ -10,7 +10,7 @@ pub enum Kind {
     Event,
 }
 
-// Whether two texts are the same.
+// Whether two texts are the same. `==`, with what it says as the definitions say it.
 pub fn same_text(a: &[u8], b: &[u8]) -> bool
     ensures { result ≡ same a.now b.now }
 {
