@@ -71,6 +71,7 @@ fn meets_refusal(window: u64, src: &[u8]) -> bool
 }
 
 // Writes the samples that each pair leaves, and why they moved. Asks that no pair is refused.
+// By index, as all three loops here: after an adapter of `iter_mut`, as `zip`, nothing is known of what was written.
 #[tactic(auto, using(crate::proofs::Run::length_stepped, crate::proofs::Run::taken_later, crate::proofs::Run::written, crate::proofs::Run::written_end), unfolding(crate::specs::Inner::stepped_words))]
 pub fn write_run(window: u64, src: &[u8], out: &mut [u8])
     requires { (refuses (windowed_new window) src.now 0 (pairs src.now) ≡ false) × (32 * pairs src.now ≤ length out.old) }
