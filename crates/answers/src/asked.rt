@@ -28,11 +28,11 @@ pub fn answer(asked: &mut Asked, n: &[u64; 16]) -> bool {
     match asked {
         Asked::ToF32 => u64::from(f32_to_bits_with_nan(numbers::to_f32(n[0]))) == n[1],
         Asked::ToF64 => f64_to_bits_with_nan(numbers::to_f64(n[0])) == n[1],
-        Asked::ToU64 => numbers::to_u64(f32_from_bits_with_nan(n[0] as u32)) == n[1],
+        Asked::ToU64 => numbers::to_u64(f32_from_bits_with_nan(low_bits(n[0]))) == n[1],
         Asked::RoundToU64 => numbers::round_to_u64(f64_from_bits_with_nan(n[0])) == n[1],
-        Asked::Scale => numbers::scale(n[0], f32_from_bits_with_nan(n[1] as u32)) == n[2],
+        Asked::Scale => numbers::scale(n[0], f32_from_bits_with_nan(low_bits(n[1]))) == n[2],
         Asked::BandwidthMul => Bandwidth(n[0])
-            .mul_f32(f32_from_bits_with_nan(n[1] as u32))
+            .mul_f32(f32_from_bits_with_nan(low_bits(n[1])))
             .0
             == n[2],
         Asked::BandwidthPeriod => Bandwidth(n[0]).to_bytes_per_period(Duration(n[1])) == n[2],
@@ -42,6 +42,11 @@ pub fn answer(asked: &mut Asked, n: &[u64; 16]) -> bool {
         Asked::MinRtt(filter) => min_rtt(filter, n),
         Asked::Rounds(counter) => rounds(counter, n),
     }
+}
+
+// The low 32 bits, a pattern of an `f32`. In serve too: no proof is written for either, and `as u32` of any number wants one.
+fn low_bits(n: u64) -> u32 {
+    (n % 0x1_0000_0000) as u32
 }
 
 fn order(a: Bandwidth, b: Bandwidth, n: &[u64; 16]) -> bool {

@@ -32,10 +32,15 @@ fn value(function: u64, n: u64, other: u64) -> u64 {
     match function {
         0 => guovssalu_u64_to_f32(n) as u64,
         1 => guovssalu_u64_to_f64(n),
-        2 => guovssalu_f32_to_u64(n as u32),
+        2 => guovssalu_f32_to_u64(low_bits(n)),
         3 => guovssalu_f64_round_to_u64(n),
-        4 => guovssalu_scale(other, n as u32),
-        5 => guovssalu_bandwidth_mul_f32(other, n as u32),
+        4 => guovssalu_scale(other, low_bits(n)),
+        5 => guovssalu_bandwidth_mul_f32(other, low_bits(n)),
         _ => guovssalu_to_bytes_per_period(other, n),
     }
+}
+
+// The low 32 bits, a pattern of an `f32`. In answers too: no proof is written for either, and `as u32` of any number wants one.
+fn low_bits(n: u64) -> u32 {
+    (n % 0x1_0000_0000) as u32
 }

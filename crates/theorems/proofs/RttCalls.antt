@@ -19,11 +19,11 @@ use Rattle.rtt.proofs.Exact.{given_fine}
 use Rattle.trips.specs.Trips.{ns, call_row, call_faults, call_left, rtt_row, rtt_faults}
 use Rattle.guovssalu.specs.RttRun.{rtt_reply}
 use Rattle.laws.specs.Replies.{Exactly}
-use Rattle.laws.proofs.Named.{names}
+use Rattle.laws.proofs.Named.{flipped, names}
 use Rattle.laws.proofs.Replies.{exactly, answered}
 use Rattle.theorems.specs.Blames.{Named}
 use Rattle.theorems.specs.Rtt.{RttRun, RttRan, rtt_rows, RttCall, EveryRttReply}
-use Rattle.theorems.proofs.Blames.{flipped, row_below, word_named, two_some, worded, either_uneven, byte}
+use Rattle.theorems.proofs.Blames.{row_below, word_named, two_some, worded, either_uneven, byte}
 use Rattle.theorems.proofs.Choice.{both, settled_taken, settled_kept}
 use Rattle.theorems.proofs.Rtt.{rtt_is, rtt_row_lem, rtt_row_is}
 
