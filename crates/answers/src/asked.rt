@@ -44,7 +44,8 @@ pub fn answer(asked: &mut Asked, n: &[u64; 16]) -> bool {
     }
 }
 
-// The low 32 bits, a pattern of an `f32`. In serve too: no proof is written for either, and `as u32` of any number wants one.
+// The low 32 bits, a pattern of an `f32`.
+// In serve too: no proof is written for either, and `as u32` of any number wants one.
 fn low_bits(n: u64) -> u32 {
     (n % 0x1_0000_0000) as u32
 }
