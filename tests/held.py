@@ -81,7 +81,7 @@ CHOOSERS = {
     "change": "crates/calls/src/change.rt",
 }
 KNOWING = [
-    (HANDED, "started", "NetworkModel::new", "start", ["initial_rtt", "now"]),
+    (HANDED, "started", "model.begin", "start", ["initial_rtt", "now"]),
     ("crates/dispatch/src/one_call.rt", "send", "sent_tested", "on_packet_sent", None),
 ]
 # Phrases of the source and of definitions that have a size, and which.
