@@ -120,7 +120,7 @@ fn run_calls(
             3 => event_start(&mut m, fine, call, lists, answer),
             4 => event_finish(&mut m, fine, call, lists, answer),
             _ => {
-                other(&mut m, &mut y, call, lists, answer);
+                let _ = other(&mut m, &mut y, call, lists, answer);
                 fine = m.ok();
             }
         }
