@@ -45,7 +45,7 @@ pub fn answer(asked: &mut Asked, n: &[u64; 16]) -> bool {
 }
 
 // The low 32 bits, a pattern of an `f32`.
-// In serve too: `as u32` of any number wants an answer by hand, and they share no crate for it.
+// In serve too: `as` has to be proved to lose nothing, so a number is cut first, and they share no crate for it.
 fn low_bits(n: u64) -> u32 {
     (n % 0x1_0000_0000) as u32
 }
