@@ -81,7 +81,7 @@ CHOOSERS = {
     "change": "crates/calls/src/change.rt",
 }
 KNOWING = [
-    (HANDED, "started", "NetworkModel::new", "start", ["initial_rtt", "now"]),
+    (HANDED, "started", "model.begin", "start", ["initial_rtt", "now"]),
     ("crates/dispatch/src/one_call.rt", "send", "sent_tested", "on_packet_sent", None),
 ]
 # Phrases of the source and of definitions that have a size, and which.
@@ -94,9 +94,9 @@ PHRASES = [
     (r"\bstate\.len\(\) != (\d+)|state\.(?:now|old|new) ≡ (\d+)|eqb \(length (?:s|state|r\.state)\) (\d+)", ("STATE_BYTES",)),
     (r"words_at s 0 (\d+)|\(cycle_from w\)\) w 0 (\d+)|cycle_words c\) ≡ (\d+)", ("STATE_WORDS",)),
     (r"\bcalls\.len\(\) [%/] (\d+)|r\.calls % (\d+)|calls_in src = length src / (\d+)", ("CALL_BYTES",)),
-    (r"\bat = (\d+) \* i\b|\bcalls\[at\.\.at \+ (\d+)\]|length call\.now ≡ (\d+)|src \(at \+ ([2-9]\d\d)\) n|calls \(at \+ (\d+)\)", ("CALL_BYTES",)),
+    (r"\bat = (\d+) \* i\b|\bcalls\[at\.\.at \+ (\d+)\]|(\d+) ≤ length call\.now|src \(at \+ ([2-9]\d\d)\) n|calls \(at \+ (\d+)\)", ("CALL_BYTES",)),
     (r"words_at src at (\d+)", ("CALL_WORDS",)),
-    (r"\bto = (\d+) \* i\b|\banswers\[to\.\.to \+ (\d+)\]|length answer\.old ≡ (\d+)|\b(\d+) \* \(?(?:calls_in|count r|calls\.len)", ("ANSWER_BYTES",)),
+    (r"\bto = (\d+) \* i\b|\banswers\[to\.\.to \+ (\d+)\]|(\d+) ≤ length answer\.old|\b(\d+) \* \(?(?:calls_in|count r|calls\.len)", ("ANSWER_BYTES",)),
     (r"\(event_words e\) ≡ (\d+)|words_from l 22 (\d+)", ("EVENT_WORDS",)),
     (r"event_from_word l (\d+)|words_from l (\d+) 16", ("EVENT_IN_CALL",)),
     (r"words_from l (\d+) 11", ("PARAMS_IN_CALL",)),
@@ -108,7 +108,7 @@ SIZED = [f"crates/{crate}/{folder}/*" for crate in ("words", "layout", "argument
 # Where a number above every word and every call, and below 1000, is a size, or one of these: bits of a word, values of a
 # byte, and what is the program `serve`'s own (oracle/README.md, "The frames").
 COUNTED = SIZED + ["crates/serve/src/*"]
-OTHERS = {64, 256} | {56, 72, 98, 99, 100, 165, 272, 304, 480, 536}
+OTHERS = {64, 256} | {56, 66, 72, 98, 99, 100, 165, 272, 304, 480, 536}
 # Worked examples, and a count of lines.
 NOT_COUNTED = ["crates/guovssalu/specs/Examples.antt", "crates/theorems/specs/Examples.antt", "crates/theorems/specs/Theorems.antt"]
 # Where the numbers of a section's names stand: `Refusal::NeverSent => 10`, or `NeverSent = 10` in the enum itself, in the
@@ -556,7 +556,7 @@ def check_numbers(table, paths, others):
     for path in paths:
         mark = r"//.*" if path.endswith(".rt") else r"--.*"
         for number, line in enumerate(read(path).splitlines(), 1):
-            for literal in re.findall(r"(?<![\w.])\d[\d_]*(?![\w.])", re.sub(mark, "", line)):
+            for literal in re.findall(r"(?:(?<![\w.])|(?<=\.\.))\d[\d_]*(?!\w|\.(?!\.))", re.sub(mark, "", line)):
                 value = int(literal.replace("_", ""))
                 if last < value < 1000 and value not in allowed:
                     yield f"{path}:{number}: {value} stands there, and is no size, word or call of {PATH}"

@@ -195,21 +195,26 @@ def changes(path, specs, variants, fields):
             for other in sorted(fields.get(match.group(2), ())):
                 yield Change(path, index, line, replaced(line, match, f"{match.group(1)}.{other}"))
         for match in VARIANT.finditer(line):
-            for other in sorted(variants.get(match.group(1), set()) - {match.group(2)}):
+            for other in sorted(others(variants.get(match.group(1), []), match.group(2))):
                 yield Change(path, index, line, replaced(line, match, f"{match.group(1)}::{other}"))
         if STEP.match(line) and not line.strip().startswith("let "):
             yield Change(path, index, line, "")
 
 
+def others(enums, variant):
+    """The other variants of the enum of that name that has this one: two crates may each have an enum of one name."""
+    return {other for enum in enums if variant in enum for other in enum} - {variant}
+
+
 def declared():
-    """The variants of every enum; for every field the other fields of the same type in the same struct."""
+    """The variants of the enums, by name; for every field the other fields of the same type in the same struct."""
     variants, fields = {}, {}
     for crate in needs():
         for path in files(crate, False):
             text = read(path)
             for kind, name, body in re.findall(r"^pub (struct|enum) (\w+) \{\n(.*?)^\}", text, re.M | re.S):
                 if kind == "enum":
-                    variants.setdefault(name, set()).update(re.findall(r"^    ([A-Z]\w*),", body, re.M))
+                    variants.setdefault(name, []).append(re.findall(r"^    ([A-Z]\w*)(?: = \d+)?,", body, re.M))
                     continue
                 typed = re.findall(r"^    pub (\w+): ([\w:]+),", body, re.M)
                 for field, of in typed:

@@ -45,13 +45,13 @@ pub fn answer(asked: &mut Asked, n: &[u64; 16]) -> bool {
 }
 
 // The low 32 bits, a pattern of an `f32`.
-// In serve too: no proof is written for either, and `as u32` of any number wants one.
+// In serve too: `as` has to be proved to lose nothing, so a number is cut first, and they share no crate for it.
 fn low_bits(n: u64) -> u32 {
     (n % 0x1_0000_0000) as u32
 }
 
 fn order(a: Bandwidth, b: Bandwidth, n: &[u64; 16]) -> bool {
-    ((a < b) == (n[2] == 1)) & (a.max(b).0 == n[3]) & (a.min(b).0 == n[4])
+    (a.lt(b) == (n[2] == 1)) & (a.max(b).0 == n[3]) & (a.min(b).0 == n[4])
 }
 
 fn windowed(filter: &mut WindowedFilter, n: &[u64; 16]) -> bool {

@@ -1,2 +1,3 @@
 -- Laws, and theorems about the contracts.
+pub mod Same
 pub mod Determined

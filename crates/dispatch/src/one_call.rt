@@ -1,12 +1,13 @@
 // One call of a run: carried out, with its answer written. A send and an event's two calls have ways
 // of their own, since nearly all calls are of these, and are told whether the model is within its
-// bounds. Each is lent the call's own 392 bytes and its answer's 144.
+// bounds. Each is lent the call's bytes and the answer's: it reads 392 and writes 144.
 // `fine` is no invariant of a type: see `sent_tested` (changes).
-ghost use Rattle.std.specs.Prelude.{◌≡◌, ◌∷◌, length};
+ghost use Rattle.std.specs.Prelude.{◌≡◌, ◌∷◌, ◌≤◌, length};
+ghost use Rattle.std.proofs.lemmas.List.Edits.{sets};
 ghost use Rattle.state.specs.NetworkModel.{model_ok};
 ghost use Rattle.words.specs.Words.{all_bytes};
 ghost use Rattle.units.specs.Reply.{reply_word};
-ghost use Rattle.state.specs.Refusals.{caused};
+ghost use Rattle.state.specs.Refusals.{caused, given};
 ghost use Rattle.state.specs.Answers.{settled};
 ghost use Rattle.state.specs.Faults.{first, replied, sent_faults};
 ghost use Rattle.places.specs.Places.{faults_of};
@@ -31,9 +32,9 @@ use words::{get_word, get_words, put_words};
 
 // Call 1, a send, which reads four of its words.
 pub fn send(model: &mut NetworkModel, fine: bool, call: &[u8], answer: &mut [u8])
-    requires { (length call.now ≡ 392) × (length answer.old ≡ 144) × (fine ≡ model_ok model.old) }
+    requires { (392 ≤ length call.now) × (144 ≤ length answer.old) × (fine ≡ model_ok model.old) }
     ensures value { model.new ≡ send_leaves (own_at call.now 0) model.old }
-    ensures answer_after { answer.new ≡ all_bytes (send_word (own_at call.now 0) model.old ∷ 0 ∷ no_event) }
+    ensures answer_after { answer.new ≡ sets answer.old 0 (all_bytes (send_word (own_at call.now 0) model.old ∷ 0 ∷ no_event)) }
 {
     let time = Moment(get_word(call, 8));
     let inflight = get_word(call, 16);
@@ -65,9 +66,9 @@ pub fn event_start(
     lists: &[u64],
     answer: &mut [u8],
 )
-    requires { (length call.now ≡ 392) × (length answer.old ≡ 144) × (fine ≡ model_ok model.old) }
+    requires { (392 ≤ length call.now) × (144 ≤ length answer.old) × (fine ≡ model_ok model.old) }
     ensures value { model.new ≡ event_start_leaves (call_at call.now lists.now 0) model.old }
-    ensures answer_after { answer.new ≡ all_bytes (call_word (call_at call.now lists.now 0) model.old (event_start_number (call_at call.now lists.now 0) model.old) ∷ 0 ∷ event_start_words (call_at call.now lists.now 0) model.old) }
+    ensures answer_after { answer.new ≡ sets answer.old 0 (all_bytes (call_word (call_at call.now lists.now 0) model.old (event_start_number (call_at call.now lists.now 0) model.old) ∷ 0 ∷ event_start_words (call_at call.now lists.now 0) model.old)) }
 {
     let words = call_words(call);
     let least = model.minrtt.timestamp;
@@ -104,9 +105,9 @@ pub fn event_finish(
     lists: &[u64],
     answer: &mut [u8],
 )
-    requires { (length call.now ≡ 392) × (length answer.old ≡ 144) × (fine ≡ model_ok model.old) }
+    requires { (392 ≤ length call.now) × (144 ≤ length answer.old) × (fine ≡ model_ok model.old) }
     ensures value { model.new ≡ event_finish_leaves (own_at call.now 0) model.old }
-    ensures answer_after { answer.new ≡ all_bytes (call_word (call_at call.now lists.now 0) model.old (event_finish_number (own_at call.now 0) model.old) ∷ 0 ∷ no_event) }
+    ensures answer_after { answer.new ≡ sets answer.old 0 (all_bytes (call_word (call_at call.now lists.now 0) model.old (event_finish_number (own_at call.now 0) model.old) ∷ 0 ∷ no_event)) }
 {
     let words = call_words(call);
     let least = model.minrtt.timestamp;
@@ -115,7 +116,7 @@ pub fn event_finish(
     put_answer(answer, word, 0, &[0; 16]);
 }
 
-// Every other call.
+// Every other call, and what it answers.
 #[tactic(auto, unfolding(crate::specs::OneCall::call_word, crate::specs::OneCall::answer_words))]
 pub fn other(
     model: &mut NetworkModel,
@@ -123,23 +124,26 @@ pub fn other(
     call: &[u8],
     lists: &[u64],
     answer: &mut [u8],
-)
-    requires { (length call.now ≡ 392) × (length answer.old ≡ 144) }
+) -> Result<u64, Cause>
+    requires { (392 ≤ length call.now) × (144 ≤ length answer.old) }
+    ensures reply { caused result ≡ (other_outcome (own_at call.now 0) model.old cycle.old).reply }
+    ensures value { given result 0 ≡ (other_outcome (own_at call.now 0) model.old cycle.old).value }
     ensures model { model.new ≡ (other_outcome (own_at call.now 0) model.old cycle.old).model }
     ensures cycle { cycle.new ≡ (other_outcome (own_at call.now 0) model.old cycle.old).cycle }
-    ensures answer_after { answer.new ≡ all_bytes (answer_words (call_at call.now lists.now 0) model.old (other_outcome (own_at call.now 0) model.old cycle.old)) }
+    ensures answer_after { answer.new ≡ sets answer.old 0 (all_bytes (answer_words (call_at call.now lists.now 0) model.old (other_outcome (own_at call.now 0) model.old cycle.old))) }
 {
     let words = call_words(call);
     let least = model.minrtt.timestamp;
     let reply = carry_out(model, cycle, &words);
     let word = reply_word(reply, least, call, lists);
     put_answer(answer, word, reply.unwrap_or(0), &[0; 16]);
+    reply
 }
 
 // The word of a call's reply: its row, and where that is 2 the first fault of the call's words, which is seldom needed.
 #[tactic(auto, unfolding(state::specs::Faults::named))]
 fn reply_word<T: Drop>(reply: Result<T, Cause>, least: Moment, call: &[u8], lists: &[u64]) -> u64
-    requires { length call.now ≡ 392 }
+    requires { 392 ≤ length call.now }
     ensures { result ≡ replied (caused reply) (first (faults_of (call_at call.now lists.now 0) least)) }
 {
     match reply {
@@ -152,7 +156,7 @@ fn reply_word<T: Drop>(reply: Result<T, Cause>, least: Moment, call: &[u8], list
 // The word of a refusal 2, with the first fault of the call. `cold`: the loop of a run is built for calls that are done.
 #[cold]
 fn fault_found(least: Moment, call: &[u8], lists: &[u64]) -> u64
-    requires { length call.now ≡ 392 }
+    requires { 392 ≤ length call.now }
     ensures { result ≡ reply_word 2 (first (faults_of (call_at call.now lists.now 0) least)) }
 {
     let words = call_words(call);
@@ -161,7 +165,7 @@ fn fault_found(least: Moment, call: &[u8], lists: &[u64]) -> u64
 
 // The words of a call.
 fn call_words(call: &[u8]) -> [u64; 49]
-    requires { length call.now ≡ 392 }
+    requires { 392 ≤ length call.now }
     ensures { result ≡ own_at call.now 0 }
 {
     let mut words = [0u64; 49];
@@ -171,8 +175,8 @@ fn call_words(call: &[u8]) -> [u64; 49]
 
 // Writes an answer: the reply's word, the value and the record's words.
 fn put_answer(answer: &mut [u8], reply: u64, value: u64, event: &[u64; 16])
-    requires { (length answer.old ≡ 144) × (length event.now ≡ 16) }
-    ensures { answer.new ≡ all_bytes (reply ∷ value ∷ event.now) }
+    requires { (144 ≤ length answer.old) × (length event.now ≡ 16) }
+    ensures { answer.new ≡ sets answer.old 0 (all_bytes (reply ∷ value ∷ event.now)) }
 {
     put_words(answer, 0, &[reply, value]);
     put_words(answer, 16, event);

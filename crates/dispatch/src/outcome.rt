@@ -1,6 +1,8 @@
 // One call on a model and a cycle, from its 49 words.
 // A call is its number, a word of the C interface (docs/DESIGN-PASS.md).
 ghost use Rattle.std.specs.Prelude.{◌≡◌};
+ghost use Rattle.units.specs.Reply.{number};
+ghost use Rattle.state.specs.Answers.{settled, zero_moment};
 ghost use Rattle.state.specs.Refusals.{caused, given};
 ghost use Rattle.dispatch.specs.Outcome.{is_judged, is_asked, start_outcome};
 ghost use Rattle.dispatch.specs.Inner.{other_outcome};
@@ -13,7 +15,7 @@ use calls::enter::enter;
 use calls::question::judge;
 use state::refusals::Cause;
 use state::{Cycle, NetworkModel};
-use units::{Duration, Moment};
+use units::{Duration, Moment, Refusal};
 use words::word::float_of;
 
 // All calls but 1, 3 and 4, a send and an event's two, which a run makes for itself. A number that is no call's is
@@ -66,16 +68,16 @@ fn started(model: &mut NetworkModel, cycle: &mut Cycle, n: &[u64; 49]) -> Result
     ensures cycle { cycle.new ≡ (start_outcome n.now).cycle }
 {
     let now = Moment(n[1]);
-    match NetworkModel::new(params_from(n), Duration(n[2]), now) {
-        Ok(begun) => {
-            *model = begun;
-            *cycle = Cycle::new(now).unwrap_or_default();
-            Ok(0)
-        }
-        Err(refusal) => {
-            *model = NetworkModel::default();
-            *cycle = Cycle::default();
-            Err(Cause::from(refusal))
-        }
-    }
+    let reply = model.begin(params_from(n), Duration(n[2]), now);
+    let _ = cycle.begin(moment_of(reply, now));
+    reply?;
+    Ok(0)
+}
+
+// The moment of a start, 0 where it is refused.
+#[tactic(auto, unfolding(state::specs::Answers::settled))]
+fn moment_of(reply: Result<(), Refusal>, now: Moment) -> Moment
+    ensures { result ≡ settled (number reply) now zero_moment }
+{
+    if reply.is_ok() { now } else { Moment(0) }
 }

@@ -3,6 +3,7 @@ use Rattle.std.specs.Prelude.{Option}
 use Prim.Native.Nat.{ℕ}
 use mathlib.Core.Bool.{Bool, true, false, cond}
 use mathlib.Core.List.{List, [], ◌∷◌}
+use mathlib.Core.Logic.{inl, inr}
 use mathlib.Core.Path.{◌≡◌, refl, sym, ap, subst, ◌∙◌}
 use lib.Dec.{eqb}
 use Rattle.numbers.specs.Scaling.{complement, parts_of}
@@ -87,10 +88,11 @@ start_same a b c = λ i. start_model (a i) (b i) (c i)
 
 begun : (p : Params) (rtt : Duration) (time : Moment) (s : State) → Begun p rtt time s → s ≡ started p rtt time s.cycle
 unfolding started
-begun p rtt time s r =
-    let m = r.5 in
-    let model : s.model ≡ start_model p rtt time = m.1 ∙ r.4.1.0 ∙ start_same (λ i. (m.0 i).0) (λ i. (m.0 i).1.0) (λ i. (m.0 i).1.1.0) in
-    λ i. record { model = model i; cycle = s.cycle }
+begun p rtt time s b = λ i. record { model = model b i; cycle = s.cycle }
+  where
+    model : Begun p rtt time s → s.model ≡ start_model p rtt time
+    model (inl r) = let m = r.5 in m.1 ∙ r.4.1.0 ∙ start_same (λ i. (m.0 i).0) (λ i. (m.0 i).1.0) (λ i. (m.0 i).1.1.0)
+    model (inr r) = let m = r.5 in m.1 ∙ r.4.1.0 ∙ start_same (λ i. (m.0 i).0) (λ i. (m.0 i).1.0) (λ i. (m.0 i).1.1.0)
 
 -- what holds of a start and of where its run ends, over the definitions, holds of the code
 module _ (p : Params) (rtt : Duration) (time : Moment) (calls : List Call) (s t : State) (b : Begun p rtt time s) (r : Ran calls s t) where

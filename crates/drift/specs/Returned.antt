@@ -4,8 +4,8 @@
 --
 -- How to read it. The symbols are those of Drift.antt; crates/units/specs/Outcomes.antt says how a statement speaks of
 -- a contract (`Allowed`, `Returned`), and what the symbols in it are. Where the first argument is lent, `a.0.now` is
--- what it holds at the call, and `e.0.now` what it holds after it.
-use Rattle.std.specs.Prelude.{ℕ, ◌^◌, false, List, [], ◌∷◌, ◌≡◌, Float, Option}
+-- what it holds at the call, and `e.0.now` what it holds after it. `A ⊎ B` is "A or B".
+use Rattle.std.specs.Prelude.{ℕ, ◌^◌, false, List, [], ◌∷◌, ◌⊎◌, ◌≡◌, Float, Option}
 use Rattle.std.specs.Float.Ieee.Exact.{HasValue}
 use Rattle.numbers.specs.Scaling.{complement, parts_of}
 use Rattle.units.specs.Outcomes.{Allowed, Returned}
@@ -132,13 +132,24 @@ Made (Calls.refill rounds time) s t =
     (λ κ e. record { model = e.0.now; cycle = e.1.0.now }) t
 Made (Calls.other c) s t = MadeOther c s t
 
--- a fresh model: the start's, or document 01's where it is refused
-abbrev pub Begun : Params → Duration → Moment → State → Type 0
-Begun p rtt time s =
+-- a fresh model: what a start leaves in any that it is lent, where it is refused too
+abbrev pub Started : Params → Duration → Moment → State → Type 0
+Started p rtt time s =
+    Allowed model.begin.Reads.Learnt
+    (λ κ a x e.
+    (a.1 ≡ (p, (rtt, (time, tt))))
+    × (s.model ≡ e.0.now))
+
+-- or what it gives where nothing is lent, and document 01's where that is refused
+abbrev pub Given : Params → Duration → Moment → State → Type 0
+Given p rtt time s =
     Returned model.new.Reads.Learnt
     (λ κ a x.
     (a ≡ (p, (rtt, (time, tt))))
     × (s.model ≡ kept x (model_new one one false zero_length zero_moment)))
+
+abbrev pub Begun : Params → Duration → Moment → State → Type 0
+Begun p rtt time s = Started p rtt time s ⊎ Given p rtt time s
 
 -- ---- a run: each call on what the one before it left
 abbrev pub Ran : List Call → State → State → Type 0

@@ -6,7 +6,7 @@ ghost use Rattle.state.specs.Answers.{settled};
 ghost use Rattle.state.specs.Faults.{first, named, started_faults, event_faults, whole_record, whole_sample};
 ghost use Rattle.state.specs.NetworkModel.{model_ok};
 ghost use Rattle.state.specs.Refusals.{caused};
-ghost use Rattle.events.specs.Event.{cwndlimited_after, state_after, is_changed, maxbw_after, bandwidth_after, minrtt_after, delivered_by, round_after, latest_raised, start_of, newest_of, latest_after, event_after, event_next, maxbw_next, round_next, adapt_lower_bounds, model_after, model_next, is_lower, is_unsent, is_full, event_rows, event_number, finish_number, finish_next};
+ghost use Rattle.events.specs.Event.{cwndlimited_after, state_after, is_changed, maxbw_after, bandwidth_after, minrtt_after, delivered_by, round_after, latest_raised, seed_of, start_of, newest_of, latest_after, event_after, event_next, maxbw_next, round_next, adapt_lower_bounds, model_after, model_next, is_lower, is_unsent, is_full, event_rows, event_number, finish_number, finish_next};
 
 use filters::round_trip_counter::greatest_of;
 use filters::{MaxBandwidthFilter, MinRttFilter, RoundTripCounter};
@@ -229,7 +229,7 @@ fn adapt_lower_bounds(
     if after.ended & !after.probing & (0 < lost) {
         let b = 1.0 - params.beta;
         let latest = latest_raised(model.latest, sample);
-        let seed = lower.bandwidth.unwrap_or(most.get());
+        let seed = seed_of(lower.bandwidth, most.get());
         let start = start_of(lower.inflight, after.window);
         return Lower {
             bandwidth: Some(latest.bandwidth.max(seed.mul_f32(b))),
@@ -330,6 +330,16 @@ fn latest_raised(latest: Latest, sample: CongestionEventSample) -> Latest
             .map_or(latest.bandwidth, |seen| latest.bandwidth.max(seen)),
         inflight: latest.inflight.max(sample.inflight),
     }
+}
+
+// bandwidth_lo, or the maximum where it is unset.
+fn seed_of(lo: Option<Bandwidth>, most: Bandwidth) -> Bandwidth
+    ensures { result ≡ seed_of lo most }
+{
+    let Some(bandwidth) = lo else {
+        return most;
+    };
+    bandwidth
 }
 
 // inflight_lo, or the window where it is unset.

@@ -7,8 +7,8 @@ use native.Mathlib.Nat.{add-zero}
 use native.Mathlib.Omega.{arith}
 use lib.Dec.{T, eqb, ltb}
 use lib.Ieee.{binary32, fits}
-use lib.ListN.{length, get_or}
-use lib.Seq.{sets}
+use lib.ListN.{length, get_or, drop, length-drop}
+use lib.Seq.{sets, length-take-le}
 use borrow.Rule.Slice.PartMut.{mid_of, put_mid}
 use borrow.Author.Tests.{ltb-false, eqb-true, not-false, ne_eqb}
 use Rattle.state.specs.declared.network_model.NetworkModel.{NetworkModel}
@@ -19,7 +19,7 @@ use Rattle.events.specs.Event.{event_next}
 use Rattle.laws.proofs.Tested.{sent_same, start_same, finish_same}
 use Rattle.state.specs.declared.cycle.Cycle.{Cycle}
 use Rattle.words.specs.Words.{word_at, all_bytes}
-use Rattle.words.proofs.Stores.{sets-append}
+use Rattle.words.proofs.Stores.{sets-append, sets_whole}
 use Rattle.words.proofs.Parts.{words_of_part}
 use Rattle.words.proofs.Turns.{put_part}
 use Rattle.words.proofs.Laws.{all_bytes_append, length_all_bytes, length_words_at, get_or_words_at}
@@ -173,16 +173,21 @@ module _ (m : NetworkModel) (y : Cycle) (src lists : List ℕ) (at : ℕ) (put :
       let is : other_outcome (own_at src at) m y ≡ outcome_at m y src lists at = sym (other_at w m y (λ x. f (number ∙ x)) (λ x. g (number ∙ x)) (λ x. h (number ∙ x)) ∙ other_alike w (own_at src at) alike m y) in
       carried is r p q b
 
--- a call in a part of the calls, whose answer is put into a part of the answers
+-- a call in a part of the calls, whose answer fills a part of the answers
 pub in_place :
     (m : NetworkModel) (y : Cycle) (src lists : List ℕ) (at k : ℕ) (out : List ℕ) (to j : ℕ) (out' : List ℕ) (m' : NetworkModel) (y' : Cycle) (fine' : Bool) →
     k ≡ 392 → at + 392 ≤ length src → j ≡ 144 → to + 144 ≤ length out →
-    Carried m y (mid_of at k src) lists 0 (put_mid to j out) out' m' y' fine' → Carried m y src lists at (sets out to) out' m' y' fine'
+    Carried m y (mid_of at k src) lists 0 (λ (l : List ℕ). put_mid to j out (sets (mid_of to j out) 0 l)) out' m' y' fine' → Carried m y src lists at (sets out to) out' m' y' fine'
 unfolding outcome_at
 in_place m y src lists at k out to j out' m' y' fine' e h f g did =
+    let answer = all_bytes (answer_words (call_at src lists at) m (outcome_at m y src lists at)) in
+    let long : length answer ≡ j = length_answer m y src lists at ∙ sym f in
+    let room : to + j ≤ length out = omega arith in
+    let part : length (mid_of to j out) ≡ j = length-take-le j (drop to out) (omega (arith, length-drop to out)) in
+    let filled = ap (put_mid to j out) (sets_whole (mid_of to j out) answer (long ∙ sym part)) ∙ put_part to j out answer long room in
     let own = words_of_part src at k 0 49 (omega arith) (omega arith) ∙ rw add-zero in
     let there = rw own at did in
-    (there.0 ∙ put_part to j out _ (length_answer m y src lists at ∙ sym f) (omega arith), there.1, there.2, there.3)
+    (there.0 ∙ filled, there.1, there.2, there.3)
 
 -- ---- what a run that is done has been lent
 pub run_room : (state src : List ℕ) (room : ℕ) → eqb (model_row state src room) 0 ≡ true → 144 * calls_in src ≤ room

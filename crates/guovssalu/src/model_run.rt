@@ -95,6 +95,8 @@ fn state_in(state: &[u8]) -> [u64; 51]
 
 // Makes the calls in order from a model and a cycle, writes their answers, and gives the words of the state that they leave.
 // By index: after an adapter of `iter_mut`, as `zip`, nothing is known of what was written.
+// `inline(always)`: called, it is handed copies of the model and the cycle, which a run of one call pays for.
+#[inline(always)]
 fn run_calls(
     model: NetworkModel,
     cycle: Cycle,
@@ -120,7 +122,7 @@ fn run_calls(
             3 => event_start(&mut m, fine, call, lists, answer),
             4 => event_finish(&mut m, fine, call, lists, answer),
             _ => {
-                other(&mut m, &mut y, call, lists, answer);
+                let _ = other(&mut m, &mut y, call, lists, answer);
                 fine = m.ok();
             }
         }

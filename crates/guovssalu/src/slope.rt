@@ -3,6 +3,7 @@ ghost use Rattle.std.specs.Prelude.{◌≡◌, length};
 ghost use Rattle.units.specs.Reply.{number, fault};
 ghost use Rattle.state.specs.Faults.{first, named};
 ghost use Rattle.state.specs.Cycle.{rounds_ok};
+ghost use Rattle.guovssalu.specs.Inner.{count_in};
 ghost use Rattle.guovssalu.specs.Slope.{slope_row, window_faults, slope_reply, slope_words, slope_out};
 
 use phases::slope::slope_raised;
@@ -59,5 +60,12 @@ fn slope_words(rounds: u64, window: u64) -> [u64; 2]
         applimited: false,
     };
     let raised = slope_raised(slope, window);
-    [raised.rounds, raised.bytes.unwrap_or(0)]
+    [raised.rounds, count_in(raised.bytes)]
+}
+
+// A byte count; 0 where there is none.
+fn count_in(bytes: Option<u64>) -> u64
+    ensures { result ≡ count_in bytes }
+{
+    bytes.unwrap_or(0)
 }

@@ -51,6 +51,7 @@ pub every_call : EveryCall
 unfolding start_model fresh_cycle
 every_call = record {
   start = λ κs a x e g p. keeps model_ok p.0 p.1.0 (M.start_kept _ _ _);
+  made = λ κs a x e g p. keeps model_ok p.0 p.1.0 (M.start_kept _ _ _);
   sent = λ κs a x e g p. keeps model_ok p.0 p.1.0 (M.sent_kept _ _ _ _ _);
   restart = λ κs a x e g p. keeps model_ok p.0 p.1 (λ h. M.restart_kept _ (M.stored _ h));
   reached = λ κs a x e g p. keeps model_ok p.0 p.1 (λ h. M.reached_kept _ (M.stored _ h));
@@ -73,5 +74,6 @@ every_call = record {
   up = λ κs a x e g p. keeps_both model_ok cycle_ok p.0 p.1.0 p.1.1.0 (P.up_kept _ _ _ _);
   exit = λ κs a x e g p. keeps_both model_ok cycle_ok p.0 p.1.0 p.1.1 (P.exit_kept _ _);
   fresh = λ κs a x e g p. keeps cycle_ok p.0 p.1.0 (P.fresh_kept _);
+  made_cycle = λ κs a x e g p. keeps cycle_ok p.0 p.1.0 (P.fresh_kept _);
   slope = λ κs a x e g p. keeps cycle_ok p.0 p.1.0 (P.slope_kept _ _);
 }

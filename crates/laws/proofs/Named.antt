@@ -83,7 +83,8 @@ pub every_fault : EveryFault
 unfolding start_number given_number sent_number postpone_number event_number finish_number judged_number growth_full queue_number fresh_number entry_number slope_number
 every_fault = record {
   firsts = record { found = found; none = none };
-  start = λ q rtt t κ x s p. names x _ _ p.0 p.1.1 (flipped (start_complete rtt t));
+  start = λ κ a x e p. names x _ _ p.0 p.1.1 (flipped (start_complete a.1.1.0 a.1.1.1.0));
+  made = λ q rtt t κ x s p. names x _ _ p.0 p.1.1 (flipped (start_complete rtt t));
   sent = λ κ a x e p. names x _ _ p.0 p.1.1 (flipped (sent_complete a.1.0 a.1.1.0 a.1.1.1.1.0));
   starts = λ κ a x e p. names x _ _ p.0 p.1.1.1 (flipped (started_complete a.1.1.0.now a.1.1.1.0));
   finish = λ κ a x e p. names x _ _ p.0 p.1.1 (flipped (record_complete 1 a.1.0));
@@ -98,7 +99,8 @@ every_fault = record {
   high = λ κ a x e p. names x _ _ p.0 p.1.1 (flipped (limit_complete a.1.0));
   cap = λ κ a x e p. names x _ _ p.0 p.1.1 (flipped (limit_complete a.1.0));
   postpone = λ κ a x e p. names x _ _ p.0 p.1.1 (flipped (postpone_complete a.1.0 _));
-  fresh = λ t κ x s p. names x _ _ p.0 p.1.1 (flipped (now_complete t));
+  fresh = λ κ a x e p. names x _ _ p.0 p.1.1 (flipped (now_complete a.1.0));
+  made_cycle = λ t κ x s p. names x _ _ p.0 p.1.1 (flipped (now_complete t));
   down = λ κ a x e p. names x _ _ p.0 p.1.1.1 (flipped (down_complete a.1.1.1.1.1.0));
   cruise = λ κ a x e p. names x _ _ p.0 p.1.1.1 (flipped (cruise_complete a.1.1.0));
   refill = λ κ a x e p. names x _ _ p.0 p.1.1.1 (flipped (refill_complete a.1.1.0 a.1.1.1.0));

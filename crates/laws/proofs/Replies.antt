@@ -123,7 +123,8 @@ answers = record {
 changes : EveryChange
 unfolding start_number start_model stored_number given_number sent_number postpone_number
 changes = record {
-  start = λ q rtt t κ x s p. answered _ p.0 p.1.0;
+  start = λ κ a x e p. answered _ p.0 p.1.0;
+  made = λ q rtt t κ x s p. answered _ p.0 p.1.0;
   sent = λ κ a x e p. answered _ p.0 p.1.0;
   restart = λ κ a x e p. answered _ p.0 p.1;
   reached = λ κ a x e p. answered _ p.0 p.1;
@@ -150,7 +151,8 @@ events = record {
 entries : EveryPhase
 unfolding fresh_number fresh_cycle entry_number exit_number slope_number
 entries = record {
-  fresh = λ t κ x s p. answered _ p.0 p.1.0;
+  fresh = λ κ a x e p. answered _ p.0 p.1.0;
+  made = λ t κ x s p. answered _ p.0 p.1.0;
   down = λ κ a x e p. answered_both _ p.0 p.1.0 p.1.1.0;
   cruise = λ κ a x e p. answered_both _ p.0 p.1.0 p.1.1.0;
   refill = λ κ a x e p. answered_both _ p.0 p.1.0 p.1.1.0;

@@ -75,11 +75,16 @@ CycleKeeps ps learnt left given = Keeps ps learnt left given cycle_ok
 
 -- ---- the calls
 pub record EveryCall : Type 0 where
-  -- a refused start leaves document 01's fresh model
+  -- a refused start leaves document 01's fresh model, whatever it was lent
   pub start :
+      ModelKeeps model.begin.Kinds.ps model.begin.Reads.Learnt
+      (λ κs x e. e.0.now)
+      (λ κs a. model_new one one false zero_length zero_moment)
+  -- the same start gives a model, where nothing is lent; refused, it leaves none, and that model stands for it
+  pub made :
       ModelKeeps model.new.Kinds.ps model.new.Reads.Learnt
       (λ κs x e. kept x (model_new one one false zero_length zero_moment))
-      (λ κs a. model_new one one false zero_length zero_moment)
+      (λ κs p. model_new one one false zero_length zero_moment)
   pub sent :
       ModelKeeps changes.on_packet_sent.Kinds.ps changes.on_packet_sent.Reads.Learnt
       (λ κs x e. e.0.now)
@@ -164,11 +169,16 @@ pub record EveryCall : Type 0 where
       PhaseKeeps phases.exit_probe_down.Kinds.ps phases.exit_probe_down.Reads.Learnt
       (λ κs x e. (e.0.now, e.1.0.now))
       (λ κs a. (a.0.now, a.1.0.now))
-  -- a refused fresh cycle is one at moment 0
+  -- a refused fresh cycle is one at moment 0, whatever was lent
   pub fresh :
+      CycleKeeps cycle.begin.Kinds.ps cycle.begin.Reads.Learnt
+      (λ κs x e. e.0.now)
+      (λ κs a. cycle_new zero_moment)
+  -- the same where nothing is lent; refused, it leaves none, and that cycle stands for it
+  pub made_cycle :
       CycleKeeps cycle.new.Kinds.ps cycle.new.Reads.Learnt
       (λ κs x e. kept x (cycle_new zero_moment))
-      (λ κs a. cycle_new zero_moment)
+      (λ κs p. cycle_new zero_moment)
   pub slope :
       CycleKeeps phases.raise_inflight_high_slope.Kinds.ps phases.raise_inflight_high_slope.Reads.Learnt
       (λ κs x e. e.0.now)

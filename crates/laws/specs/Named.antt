@@ -53,7 +53,13 @@ pub record Names {B : Type 0} (reply : Result B Refusal) (r : Rows) (faults : Li
 
 pub record EveryFault : Type 0 where
   pub firsts : Firsts
-  pub start : (p : Params) (rtt : Duration) (t : Moment) →
+  pub start :
+      EveryLent model.begin.Reads.Learnt
+      (λ κ a x.
+      let rtt = a.1.1.0 in
+      let t = a.1.1.1.0 in
+      Names x (start_rows a.1.0 rtt t) (start_faults rtt t))
+  pub made : (p : Params) (rtt : Duration) (t : Moment) →
       Every model.new.Reads.Learnt (λ κ. (p, (rtt, (t, tt))))
       (λ x. Names x (start_rows p rtt t) (start_faults rtt t))
   pub sent :
@@ -127,7 +133,12 @@ pub record EveryFault : Type 0 where
       let m = a.0.now in
       let d = a.1.0 in
       Names x (given_rows m (length_ok d && moment_ok (postponed m d))) (postpone_faults d (postponed m d)))
-  pub fresh : (t : Moment) →
+  pub fresh :
+      EveryLent cycle.begin.Reads.Learnt
+      (λ κ a x.
+      let t = a.1.0 in
+      Names x (fresh_rows t) (now_faults t))
+  pub made_cycle : (t : Moment) →
       Every cycle.new.Reads.Learnt (λ κ. (t, tt))
       (λ x. Names x (fresh_rows t) (now_faults t))
   pub down :

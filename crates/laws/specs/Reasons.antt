@@ -33,7 +33,7 @@ moves_best HalfRefresh = false
 moves_best Unchanged = false
 
 pub record Reasons : Type 0 where
-  -- "unchanged" exactly when the update left the filter as it was; a refused one does, and says so
+  -- "unchanged" exactly when the update left the filter as it was; a refused one does, and is read as unchanged
   pub unchanged :
       EveryOutcome windowed.update.Reads.Learnt
       (λ κ a x e. (kept x Unchanged ≡ Unchanged) ↔ (e.0.now ≡ a.0.now))

@@ -172,7 +172,16 @@ pub record EveryAnswer : Type 0 where
 pub record EveryChange : Type 0 where
   -- "A refused start has no earlier state: it returns a fresh one at moment 0 with round trip 0, both gains 1 and the
   -- app-limited option off"
-  pub start : (p : Params) (rtt : Duration) (t : Moment) →
+  pub start :
+      EveryOutcome model.begin.Reads.Learnt
+      (λ κ a x e.
+      let p = a.1.0 in
+      let rtt = a.1.1.0 in
+      let t = a.1.1.1.0 in
+      Answered x (start_rows p rtt t) e.0.now (model_new p.cwnd p.pacing p.ignore rtt t)
+      (model_new one one false zero_length zero_moment))
+  -- the same start gives a model, where nothing is lent; refused, it leaves none, and that model stands for it
+  pub made : (p : Params) (rtt : Duration) (t : Moment) →
       Every model.new.Reads.Learnt (λ κ. (p, (rtt, (t, tt))))
       (λ x. Answered x (start_rows p rtt t) (kept x (model_new one one false zero_length zero_moment))
       (model_new p.cwnd p.pacing p.ignore rtt t) (model_new one one false zero_length zero_moment))
@@ -288,7 +297,13 @@ pub record EveryEvent : Type 0 where
 -- ---- calls that leave a cycle
 pub record EveryPhase : Type 0 where
   -- a refused fresh cycle is one at moment 0
-  pub fresh : (t : Moment) →
+  pub fresh :
+      EveryOutcome cycle.begin.Reads.Learnt
+      (λ κ a x e.
+      let t = a.1.0 in
+      Answered x (fresh_rows t) e.0.now (cycle_new t) (cycle_new zero_moment))
+  -- the same where nothing is lent; refused, it leaves none, and that cycle stands for it
+  pub made : (t : Moment) →
       Every cycle.new.Reads.Learnt (λ κ. (t, tt))
       (λ x. Answered x (fresh_rows t) (kept x (cycle_new zero_moment))
       (cycle_new t) (cycle_new zero_moment))

@@ -8,12 +8,15 @@ use native.Mathlib.Numerals.{add-one}
 use native.Mathlib.Nat.{add-zero, add-suc, suc-add, mul_comm, pow-suc, pow-le-pow_right}
 use lib.Dec.{ltb}
 use lib.ListN.{length, set, take, drop, length-append, length-set, length-take, length-drop}
-use lib.Seq.{sets, sets-eq, length-sets, drop-cons, drop-drop, drop-set-lt}
+use lib.Seq.{sets, sets-eq, length-sets, set_comm, drop-cons, drop-drop, drop-set-lt}
 use Rattle.std.proofs.lemmas.List.{get_or-set_same}
 use borrow.Rule.Slice.PartMut.{put_mid}
 use borrow.Author.Tests.{lt-ltb, le-ltb}
 use Rattle.rows.specs.Digits.{places_from, places_of, digits_of, decimal, Put, Puts}
 use Rattle.rows.specs.declared.digits.Writer.{Writer}
+
+pub ten_fits : (k : ℕ) → k < 19 → 10 ^ k * 10 < 2 ^ 64
+ten_fits k h = let q : k ≤ 18 = omega arith in let z : 10 ^ k ≤ 10 ^ 18 = pow-le-pow_right (omega arith) q in omega arith
 
 pub ten_more : (k : ℕ) → 10 ^ k * 10 ≡ 10 ^ (k + 1)
 ten_more k = sym (pow-suc 10 k) ∙ ap (λ (n : ℕ). 10 ^ n) (sym (add-one k))
@@ -69,6 +72,11 @@ decimal_few n = let a = length_decimal n in let b = places_few n in omega arith
 pub sets-append : (l : List ℕ) (i : ℕ) (a b : List ℕ) → sets (sets l i a) (i + length a) b ≡ sets l i (a ++ b)
 sets-append l i [] b = rw add-zero
 sets-append l i (x ∷ a) b = rw (add-suc, ← suc-add) (sets-append (set l i x) (suc i) a b)
+
+-- a store past a run comes before it as well as after it
+pub sets_last : (l : List ℕ) (i : ℕ) (a : List ℕ) (x : ℕ) → sets (set l (i + length a) x) i a ≡ sets l i (a ++ (x ∷ []))
+sets_last l i [] x = rw add-zero
+sets_last l i (y ∷ a) x = rw (add-suc, ← suc-add, set_comm l (suc i + length a) i x y (omega arith)) (sets_last (set l i y) (suc i) a x)
 
 pub put_put : {l m n : List ℕ} {at r q : ℕ} {a b : List ℕ} → Put l m at a r → Put m n r b q → Put l n at (a ++ b) q
 put_put {l} {m} {n} {at} {r} {q} {a} {b} f g = record {

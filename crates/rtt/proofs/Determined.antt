@@ -22,6 +22,9 @@ by_stored x y d v s p q h k = number_injective x y d (stored_number s) (no_two (
 pub one_rtt_rttstats_new : OneReply stats.new.Reads.Learnt
 one_rtt_rttstats_new κ a x y s t p q = one_answer x y (stats_new zero_length zero_length) _ _ _ p.0 q.0 p.1.1 q.1.1 p.1.0 q.1.0
 
+pub one_rtt_rttstats_begin : OneOutcome stats.begin.Reads.Learnt (λ κ e. e.0.now)
+one_rtt_rttstats_begin κ a x y s t p q = (only_reply x y (p.0 ∙ sym q.0) (p.1.1 ∙ sym q.1.1), p.1.0 ∙ sym q.1.0)
+
 pub one_rtt_rttstats_update_rtt : OneOutcome stats.update_rtt.Reads.Learnt (λ κ e. e.0.now)
 one_rtt_rttstats_update_rtt κ a x y s t p q = (only_reply x y (p.0 ∙ sym q.0) (p.1.1 ∙ sym q.1.1), p.1.0 ∙ sym q.1.0)
 

@@ -67,6 +67,17 @@ impl RttStats {
         Ok(RttStats::fresh(initial, limit))
     }
 
+    // The same of an estimator that is lent. Refused, it is left as a fresh one of 0 and 0.
+    pub fn begin(&mut self, initial: Duration, limit: Duration) -> Result<(), Refusal>
+        ensures reply { number result ≡ new_number initial limit }
+        ensures stats { self.new ≡ new_left initial limit }
+        ensures fault { fault result ≡ named (new_number initial limit) (first (new_faults initial limit)) }
+    {
+        let fresh = RttStats::new(initial, limit);
+        *self = fresh.unwrap_or_default();
+        fresh.map(|_| ())
+    }
+
     // A sample: a round trip just measured, the ack delay that the peer reported, and whether the handshake is
     // confirmed.
     pub fn update_rtt(

@@ -41,7 +41,7 @@ fn value(function: u64, n: u64, other: u64) -> u64 {
 }
 
 // The low 32 bits, a pattern of an `f32`.
-// In answers too: no proof is written for either, and `as u32` of any number wants one.
+// In answers too: `as` has to be proved to lose nothing, so a number is cut first, and they share no crate for it.
 fn low_bits(n: u64) -> u32 {
     (n % 0x1_0000_0000) as u32
 }

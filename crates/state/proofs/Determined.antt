@@ -1,6 +1,6 @@
 -- Any two replies that the contract of a public function allows coincide: a line for each, about what its contract says (`Reads.Learnt`).
 use mathlib.Core.Path.{◌≡◌, refl, sym, ◌∙◌}
-use Rattle.numbers.specs.OneReply.{OneReply}
+use Rattle.numbers.specs.OneReply.{OneReply, OneOutcome}
 use Rattle.units.proofs.refusal.Number.{number_injective, reply_injective, refusal_injective, only_reply}
 use Rattle.state.specs.declared.network_model.NetworkModel.{NetworkModel}
 use Rattle.std.specs.Prelude.{Result}
@@ -155,6 +155,9 @@ one_cycle_stay_from κ a x y s t p q = p ∙ sym q
 pub one_cycle_cycle_new : OneReply cycle-cycle.new.Reads.Learnt
 one_cycle_cycle_new κ a x y s t p q = one_answer x y (cycle_new zero_moment) _ _ _ p.0 q.0 p.1.1 q.1.1 p.1.0 q.1.0
 
+pub one_cycle_cycle_begin : OneOutcome cycle-cycle.begin.Reads.Learnt (λ κ e. e.0.now)
+one_cycle_cycle_begin κ a x y s t p q = (only_reply x y (p.0 ∙ sym q.0) (p.1.1 ∙ sym q.1.1), p.1.0 ∙ sym q.1.0)
+
 pub one_cycle_cycle_ok : OneReply cycle-cycle.ok.Reads.Learnt
 one_cycle_cycle_ok κ a x y s t p q = p ∙ sym q
 
@@ -163,6 +166,9 @@ one_network_model_networkmodel_ok κ a x y s t p q = p ∙ sym q
 
 pub one_network_model_networkmodel_new : OneReply network-model-networkmodel.new.Reads.Learnt
 one_network_model_networkmodel_new κ a x y s t p q = one_answer x y (model_new one one false zero_length zero_moment) _ _ _ p.0 q.0 p.1.1 q.1.1 p.1.0 q.1.0
+
+pub one_network_model_networkmodel_begin : OneOutcome network-model-networkmodel.begin.Reads.Learnt (λ κ e. e.0.now)
+one_network_model_networkmodel_begin κ a x y s t p q = (only_reply x y (p.0 ∙ sym q.0) (p.1.1 ∙ sym q.1.1), p.1.0 ∙ sym q.1.0)
 
 pub one_network_model_networkmodel_stored : OneReply network-model-networkmodel.stored.Reads.Learnt
 one_network_model_networkmodel_stored κ a x y s t p q = by_stored x y tt tt a.0 p q refl refl

@@ -111,6 +111,17 @@ impl Cycle {
         Ok(Cycle::fresh(now))
     }
 
+    // The same of a cycle that is lent. Refused, it is left as a fresh one at moment 0.
+    pub fn begin(&mut self, now: Moment) -> Result<(), Refusal>
+        ensures reply { number result ≡ fresh_number now }
+        ensures cycle { self.new ≡ fresh_cycle now }
+        ensures fault { fault result ≡ named (fresh_number now) (first (now_faults now)) }
+    {
+        let fresh = Cycle::new(now);
+        *self = fresh.unwrap_or_default();
+        fresh.map(|_| ())
+    }
+
     #[tactic(auto, unfolding(crate::specs::Cycle::cycle_new))]
     fn fresh(now: Moment) -> Cycle
         ensures { result ≡ cycle_new now }

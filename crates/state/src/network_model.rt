@@ -122,6 +122,17 @@ impl NetworkModel {
         Ok(NetworkModel::fresh(params.cwnd, params.pacing, params.ignore, rtt, now))
     }
 
+    // The same of a model that is lent. Refused, it is left as document 01's fresh model.
+    pub fn begin(&mut self, params: Params, rtt: Duration, now: Moment) -> Result<(), Refusal>
+        ensures reply { number result ≡ start_number params rtt now }
+        ensures model { self.new ≡ start_model params rtt now }
+        ensures fault { fault result ≡ named (start_number params rtt now) (first (start_faults rtt now)) }
+    {
+        let fresh = NetworkModel::new(params, rtt, now);
+        *self = fresh.unwrap_or_default();
+        fresh.map(|_| ())
+    }
+
     // The reply of a call that is given nothing.
     #[tactic(auto, unfolding(crate::specs::NetworkModel::stored_number))]
     pub fn stored(self) -> Result<(), Refusal>

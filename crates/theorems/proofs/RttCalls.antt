@@ -98,7 +98,8 @@ pub every_rtt_reply : EveryRttReply
 unfolding new_number new_left update_number update_left delay_number delay_left given_number stored_number
 every_rtt_reply =
     record {
-      new = λ initial limit κ x s p. (answered _ p.0 p.1.0, names x _ _ p.0 p.1.1 (flipped (new_complete initial limit)));
+      new = λ κ a x e p. (answered _ p.0 p.1.0, names x _ _ p.0 p.1.1 (flipped (new_complete a.1.0 a.1.1.0)));
+      made = λ initial limit κ x s p. (answered _ p.0 p.1.0, names x _ _ p.0 p.1.1 (flipped (new_complete initial limit)));
       updated = λ κ a x e p. (answered _ p.0 p.1.0, names x _ _ p.0 p.1.1 (flipped (update_complete a.1.0 a.1.1.0 true)));
       limited = λ κ a x e p. (answered _ p.0 p.1.0, names x _ _ p.0 p.1.1 (flipped (delay_complete a.1.0)));
       latest = λ t κ x s p. answered _ p.0 p.1;

@@ -94,7 +94,16 @@ pub record RttCall (s : RttStats) (n a b c : ℕ) : Type 0 where
 -- that are lent the estimator, `a.0.now` is what they were lent, and `e.0.now` what they leave there; `kept x d` is
 -- what x gives, or d where it is a refusal
 pub record EveryRttReply : Type 0 where
-  pub new : (initial limit : Duration) →
+  -- refused, it leaves a fresh estimator of 0 and 0, whatever it was lent
+  pub new :
+      EveryOutcome stats.begin.Reads.Learnt
+      (λ κ a x e.
+      let initial = a.1.0 in
+      let limit = a.1.1.0 in
+      Answered x (new_rows initial limit) e.0.now (stats_new initial limit) (stats_new zero_length zero_length)
+      × Names x (new_rows initial limit) (new_faults initial limit))
+  -- the same where nothing is lent; refused, it leaves none, and that estimator stands for it
+  pub made : (initial limit : Duration) →
       Every stats.new.Reads.Learnt (λ κ. (initial, (limit, tt)))
       (λ x. Answered x (new_rows initial limit) (kept x (stats_new zero_length zero_length))
       (stats_new initial limit) (stats_new zero_length zero_length)

@@ -301,5 +301,5 @@ pub record Theorems : Type 0 where
 -- from documents 01 and 02, the original and docs/LAYOUT.md: all files of specs/ to which `use` lines lead from here,
 -- with their remarks. A script of the gate counts their lines (tests/contracts.py):
 --   numbers 245, units 134, filters 414, words 126, text 256, rows 76, state 972, worth 263, rtt 463, layout 202,
---   events 449, phases 200, changes 59, judge 189, arguments 208, reads 15, places 139, pairs 57, trips 190, calls
---   192, laws 771, dispatch 241, trace 574, guovssalu 193, drift 367, mending 419, theorems 1319: together 8733
+--   events 449, phases 200, changes 59, judge 189, arguments 208, reads 15, places 139, pairs 57, trips 201, calls
+--   192, laws 807, dispatch 241, trace 574, guovssalu 193, drift 367, mending 419, theorems 1328: together 8789

@@ -3,6 +3,7 @@ use Rattle.std.specs.Prelude.{Option, None, Some}
 use Prim.Native.Nat.{ℕ}
 use mathlib.Core.Bool.{true}
 use mathlib.Core.List.{List, [], ◌∷◌}
+use mathlib.Core.Logic.{inl, inr}
 use mathlib.Core.Path.{◌≡◌, refl, sym, ap, subst, ◌∙◌}
 use Rattle.units.proofs.Outcomes.{said}
 use Rattle.units.specs.declared.time.Duration.{Duration}
@@ -19,7 +20,8 @@ made_of : {s t : RttStats} {l k : List Sample} → s ≡ t → l ≡ k → ◌�
 made_of p q i = record { stats = p i; taken = q i }
 
 fresh : (initial most : Duration) (q : Ran) → Begun initial most q → q ≡ begun initial most
-fresh initial most q m = let x = said _ _ _ q m in x.4 ∙ made_of x.3.1.0 refl
+fresh initial most q (inl m) = m.5.1 ∙ made_of (rw m.5.0 at m.4.1.0) refl
+fresh initial most q (inr m) = let x = said _ _ _ q m in x.4 ∙ made_of x.3.1.0 refl
 
 made : (c : Step) (r q : Ran) → Made c r q → q ≡ step r c
 made (begins initial most) r q m = fresh initial most q m

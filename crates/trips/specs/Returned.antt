@@ -1,8 +1,8 @@
 -- What crates/rtt/specs/Exact.antt says, of the code: a run made by the public functions of crates/rtt/src/rtt.rt, of
 -- which no more is known than their contracts. Statements only. crates/units/specs/Outcomes.antt says how a statement
--- speaks of a contract (`Allowed`, `Leaves`), Exact.antt how to read the rest. crates/theorems/specs/Theorems.antt says
--- more: it speaks of the bytes that the exported run leaves.
-use Rattle.std.specs.Prelude.{List, [], ◌∷◌, ◌≡◌, Option, None, Some, Result}
+-- speaks of a contract (`Allowed`, `Leaves`), Exact.antt how to read the rest; `A ⊎ B` is "A or B".
+-- crates/theorems/specs/Theorems.antt says more: it speaks of the bytes that the exported run leaves.
+use Rattle.std.specs.Prelude.{List, [], ◌∷◌, ◌⊎◌, ◌≡◌, Option, None, Some, Result}
 use Rattle.units.specs.Outcomes.{Allowed, Leaves}
 use Rattle.units.specs.Reply.{number, kept}
 use Rattle.units.specs.declared.refusal.Refusal.{Refusal}
@@ -13,12 +13,23 @@ use Rattle.rtt.specs.Rtt.{stats_new}
 use Rattle.rtt.specs.Exact.{Step, begins, updates, limits, other, Sample, Ran, sample_of, taken_by, exactly, NearSmoothed, NearVariation, least, Holds}
 
 -- ---- a step by the public function of its name: r becomes q. Whether an update was refused is what its reply says. Of
--- a function that is lent the estimator, `a.0.now` is what it was lent, and `e.0.now` what it left there. A refused
--- `new` leaves a fresh one of 0 and 0
-abbrev pub Begun : (initial most : Duration) → Ran → Type 0
-Begun initial most q =
+-- a function that is lent the estimator, `a.0.now` is what it was lent, and `e.0.now` what it left there. What `begin`
+-- leaves in any that it is lent, where it is refused too
+abbrev pub Started : (initial most : Duration) → Ran → Type 0
+Started initial most q =
+    Allowed stats.begin.Reads.Learnt
+    (λ κ a x e.
+    (a.1 ≡ (initial, (most, tt)))
+    × (q ≡ record { stats = e.0.now; taken = [] }))
+
+-- or what `new` gives, and a fresh one of 0 and 0 where that is refused
+abbrev pub Given : (initial most : Duration) → Ran → Type 0
+Given initial most q =
     Leaves stats.new.Reads.Learnt (λ κ. (initial, (most, tt)))
     (λ x. record { stats = kept x (stats_new zero_length zero_length); taken = [] }) q
+
+abbrev pub Begun : (initial most : Duration) → Ran → Type 0
+Begun initial most q = Started initial most q ⊎ Given initial most q
 
 abbrev pub Made : Step → (r q : Ran) → Type 0
 Made (begins initial most) r q = Begun initial most q

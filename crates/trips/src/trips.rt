@@ -6,7 +6,7 @@ ghost use Rattle.units.specs.Reply.{number, fault, reply_word};
 ghost use Rattle.state.specs.Answers.{settled};
 ghost use Rattle.state.specs.Faults.{first, named};
 ghost use Rattle.words.specs.Words.{all_bytes};
-ghost use Rattle.rtt.specs.Rtt.{new_number, new_faults, new_left, minimum_shown};
+ghost use Rattle.rtt.specs.Rtt.{minimum_shown};
 ghost use Rattle.trips.specs.Trips.{stats_words, stats_in, encodes_none, call_row, call_faults, call_left, length_shown, shown, answer_at, left_at, calls_in, answers_to, left_by, rtt_row, rtt_faults};
 
 use rtt::RttStats;
@@ -120,22 +120,11 @@ fn call_made(stats: &mut RttStats, call: u64, a: u64, b: u64, c: u64) -> Result<
         (first (call_faults call a b c)) }
 {
     match call {
-        0 => begin(stats, Duration(a), Duration(b)),
+        0 => stats.begin(Duration(a), Duration(b)),
         1 => stats.update_taken(Duration(a), Duration(b), c == 1, flag_fits(c)),
         2 => stats.update_max_ack_delay(Duration(a)),
         _ => stats.given(false, NO_CALL),
     }
-}
-
-// Begins anew: refused, the estimator is a fresh one of 0 and 0.
-fn begin(stats: &mut RttStats, initial: Duration, limit: Duration) -> Result<(), Refusal>
-    ensures reply { number result ≡ new_number initial limit }
-    ensures stats { stats.new ≡ new_left initial limit }
-    ensures fault { fault result ≡ named (new_number initial limit) (first (new_faults initial limit)) }
-{
-    let fresh = RttStats::new(initial, limit);
-    *stats = fresh.unwrap_or_default();
-    fresh.map(|_| ())
 }
 
 // The reply's word, and the estimator after the call, or zeros where it is refused.

@@ -6,6 +6,15 @@ use Rattle.units.proofs.refusal as refusal
 use Rattle.units.proofs.refusal.Refusal as refusal-refusal
 use Rattle.units.proofs.time.Moment as time-moment
 
+pub one_bandwidth_bandwidth_max : OneReply bandwidth-bandwidth.max.Reads.Learnt
+one_bandwidth_bandwidth_max κ a x y s t p q = p ∙ sym q
+
+pub one_bandwidth_bandwidth_min : OneReply bandwidth-bandwidth.min.Reads.Learnt
+one_bandwidth_bandwidth_min κ a x y s t p q = p ∙ sym q
+
+pub one_bandwidth_bandwidth_lt : OneReply bandwidth-bandwidth.lt.Reads.Learnt
+one_bandwidth_bandwidth_lt κ a x y s t p q = p ∙ sym q
+
 pub one_bandwidth_bandwidth_mul_f32 : OneReply bandwidth-bandwidth.mul_f32.Reads.Learnt
 one_bandwidth_bandwidth_mul_f32 κ a x y s t p q = p ∙ sym q
 
@@ -26,3 +35,6 @@ one_time_moment_plus κ a x y s t p q = p ∙ sym q
 
 pub one_time_moment_since : OneReply time-moment.since.Reads.Learnt
 one_time_moment_since κ a x y s t p q = p ∙ sym q
+
+pub one_time_moment_is_before : OneReply time-moment.is_before.Reads.Learnt
+one_time_moment_is_before κ a x y s t p q = p ∙ sym q

@@ -1,6 +1,6 @@
 // Bandwidth, in whole bits per second.
 ghost use Rattle.std.specs.Prelude.{◌≡◌, ◌*◌, ◌/◌, ◌<◌};
-ghost use Rattle.units.specs.Bandwidth.{times_f32, nanos_per_byte, bytes_per_period};
+ghost use Rattle.units.specs.Bandwidth.{times_f32, nanos_per_byte, larger_of, smaller_of, is_less, bytes_per_period};
 
 use crate::Duration;
 use numbers::scale_f64;
@@ -15,6 +15,27 @@ impl Bandwidth {
     pub const ZERO: Bandwidth = Bandwidth(0);
 
     pub const INFINITE: Bandwidth = Bandwidth(u64::MAX);
+
+    // The larger of two bandwidths. This and the next two say of the derived order what the definitions say.
+    pub fn max(self, other: Bandwidth) -> Bandwidth
+        ensures { result ≡ larger_of self other }
+    {
+        if self < other { other } else { self }
+    }
+
+    // The smaller of two bandwidths.
+    pub fn min(self, other: Bandwidth) -> Bandwidth
+        ensures { result ≡ smaller_of self other }
+    {
+        if other < self { other } else { self }
+    }
+
+    // Whether this bandwidth is below the other.
+    pub fn lt(self, other: Bandwidth) -> bool
+        ensures { result ≡ is_less self other }
+    {
+        self < other
+    }
 
     // This bandwidth times a factor, by way of an `f64`, to the nearest whole number.
     #[tactic(auto, unfolding(crate::specs::Bandwidth::times_f32))]

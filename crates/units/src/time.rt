@@ -1,6 +1,6 @@
 // A moment and a length of time, in nanoseconds, never mixed.
 ghost use Rattle.std.specs.Prelude.{◌≡◌};
-ghost use Rattle.units.specs.Time.{plus, since};
+ghost use Rattle.units.specs.Time.{plus, since, is_before};
 
 #[derive(Clone, Copy, PartialEq, Eq, PartialOrd, Ord)]
 pub struct Moment(pub u64);
@@ -21,5 +21,12 @@ impl Moment {
         ensures { result ≡ since self earlier }
     {
         Duration(self.0.saturating_sub(earlier.0))
+    }
+
+    // Whether this moment is earlier than the other: the derived `<`, with what it says as the definitions say it.
+    pub fn is_before(self, other: Moment) -> bool
+        ensures { result ≡ is_before self other }
+    {
+        self < other
     }
 }

@@ -1,5 +1,6 @@
 -- `dispatch::event_start` meets its contract: what its calls ensure, of the words that are read. Assumes nothing.
 use Rattle.std.proofs.Common.{ℕ, List, ◌∷◌, ap, ap₂, ◌∙◌}
+use lib.Seq.{sets}
 use Rattle.words.specs.Words.{all_bytes}
 use Rattle.words.proofs.Laws.{length_words_at}
 use Rattle.dispatch.proofs.Alike.{started_number, started_leaves, started_words}
@@ -23,5 +24,5 @@ returns c =
     let word = c.reply_word-word.ensures ∙ ap (λ (n : ℕ). replied n (first (faults_of (call_at args.call.now args.lists.now 0) args.model.now.minrtt.timestamp))) number in
     record {
       value = started_leaves _ args.lists.now long args.model.now most event.model;
-      answer_after = c.put_answer.ensures ∙ ap₂ (λ (n : ℕ) (record' : List ℕ). all_bytes (n ∷ 0 ∷ record')) word after;
+      answer_after = c.put_answer.ensures ∙ ap₂ (λ (n : ℕ) (record' : List ℕ). sets args.answer.now 0 (all_bytes (n ∷ 0 ∷ record'))) word after;
     }

@@ -1,5 +1,6 @@
 -- `dispatch::other` meets its contract: what its calls ensure, of the words that are read. Assumes nothing.
 use Rattle.std.proofs.Common.{ℕ, ◌∷◌, ap, ap₂, ◌∙◌}
+use lib.Seq.{sets}
 use Rattle.words.specs.Words.{all_bytes}
 use Rattle.state.specs.Faults.{first, replied}
 use Rattle.places.specs.Places.{faults_of}
@@ -16,5 +17,5 @@ returns-clause-answer_after c =
     let word = c.reply_word-word.ensures ∙ ap (λ (n : ℕ). replied n (first (faults_of (call_at args.call.now args.lists.now 0) args.model.now.minrtt.timestamp))) done.reply in
     let value = c.unwrap_or.ensures ∙ unwrapped c.carry_out-reply.result 0 ∙ done.value in
     c.put_answer.ensures
-    ∙ ap₂ (λ (n v : ℕ). all_bytes (n ∷ v ∷ no_event)) word value
+    ∙ ap₂ (λ (n v : ℕ). sets args.answer.now 0 (all_bytes (n ∷ v ∷ no_event))) word value
     ∙ rw (event_other _ args.model.now args.cycle.now)

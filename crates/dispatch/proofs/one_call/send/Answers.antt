@@ -1,5 +1,6 @@
 -- `dispatch::send` meets its contract: what its calls ensure, of the four words that are read. Assumes nothing.
 use Rattle.std.proofs.Common.{ℕ, ◌∷◌, sym, ap, ◌∙◌, arith}
+use lib.Seq.{sets}
 use Rattle.words.specs.Words.{all_bytes}
 use Rattle.words.proofs.Laws.{get_or_words_at}
 use Rattle.state.specs.Faults.{first, replied, sent_faults}
@@ -23,5 +24,5 @@ returns c =
     let word = (rw (time, inflight, bytes) at c.sent_word-word.ensures) ∙ ap (λ (n : ℕ). replied n (first (sent_faults (record { 0 = get_or (words_at call 0 49) 1 0 }) (get_or (words_at call 0 49) 2 0) (get_or (words_at call 0 49) 4 0)))) row in
     record {
       value = rw (← time, ← inflight, ← packet, ← bytes) sent.model;
-      answer_after = c.put_answer.ensures ∙ ap (λ (n : ℕ). all_bytes (n ∷ 0 ∷ no_event)) word;
+      answer_after = c.put_answer.ensures ∙ ap (λ (n : ℕ). sets args.answer.now 0 (all_bytes (n ∷ 0 ∷ no_event))) word;
     }

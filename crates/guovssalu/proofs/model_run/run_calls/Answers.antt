@@ -1,8 +1,9 @@
 -- `guovssalu::run_calls` meets its contract: a turn is a call, carried out. Assumes nothing.
-use Rattle.std.proofs.Common.{◌≡◌, ◌+◌, ◌-◌, ◌*◌, ◌/◌, length, sym, ap, ◌∙◌, arith}
+use Rattle.std.proofs.Common.{◌≡◌, ℕ, List, ◌+◌, ◌-◌, ◌*◌, ◌/◌, length, sym, ap, ◌∙◌, arith}
 use Rattle.state.specs.NetworkModel.{model_ok}
 use native.Mathlib.Nat.{sub_self}
 use borrow.Rule.Slice.PartMut.{mid_of, put_mid}
+use lib.Seq.{sets}
 use Rattle.words.specs.Words.{all_bytes}
 use Rattle.guovssalu.specs.ModelRun.{answers_to, left_by}
 use Rattle.guovssalu.proofs.ModelRun.{Carried, in_place, by_send, by_start, by_end, by_other, left_later, write_answer}
@@ -19,15 +20,17 @@ loop-i-preserved c =
     let at = 392 * loop.i in
     let to = 144 * loop.i in
     let part = mid_of at (at + 392 - at) calls in
-    let put = put_mid to (to + 144 - to) loop.answers in
+    let room = to + 144 - to in
+    let back = put_mid to room loop.answers in
+    let put = λ (l : List ℕ). back (sets (mid_of to room loop.answers) 0 l) in
     let number = c.get_word.ensures in
     let now = c.match-get_word in
     let did : Carried loop.m loop.y part lists 0 put now.answers now.m now.y now.fine =
     elim now.branch [
-      | in-1 w ↦ by_send _ _ _ _ _ put _ _ _ _ (sym number ∙ w.in-1.is) (w.m-is ∙ w.send.ensures.value) w.y-is (w.fine-is ∙ loop.invariant.known) (w.answers-is ∙ ap put w.send.ensures.answer_after)
-      | in-3 w ↦ by_start _ _ _ _ _ put _ _ _ _ (sym number ∙ w.in-3.is) (w.m-is ∙ w.event_start.ensures.value) w.y-is (w.fine-is ∙ loop.invariant.known) (w.answers-is ∙ ap put w.event_start.ensures.answer_after)
-      | in-4 w ↦ by_end _ _ _ _ _ put _ _ _ _ (sym number ∙ w.in-4.is) (w.m-is ∙ w.event_finish.ensures.value) w.y-is (w.fine-is ∙ loop.invariant.known) (w.answers-is ∙ ap put w.event_finish.ensures.answer_after)
-      | in_default w ↦ by_other _ _ _ _ _ put _ _ _ _ number (omega arith) (omega arith) (omega arith) (w.m-is ∙ w.other.ensures.model) (w.y-is ∙ w.other.ensures.cycle) (w.fine-is ∙ w.ok-fine-in_default.ensures ∙ ap model_ok (sym w.m-is)) (w.answers-is ∙ ap put w.other.ensures.answer_after)
+      | in-1 w ↦ by_send _ _ _ _ _ put _ _ _ _ (sym number ∙ w.in-1.is) (w.m-is ∙ w.send.ensures.value) w.y-is (w.fine-is ∙ loop.invariant.known) (w.answers-is ∙ ap back w.send.ensures.answer_after)
+      | in-3 w ↦ by_start _ _ _ _ _ put _ _ _ _ (sym number ∙ w.in-3.is) (w.m-is ∙ w.event_start.ensures.value) w.y-is (w.fine-is ∙ loop.invariant.known) (w.answers-is ∙ ap back w.event_start.ensures.answer_after)
+      | in-4 w ↦ by_end _ _ _ _ _ put _ _ _ _ (sym number ∙ w.in-4.is) (w.m-is ∙ w.event_finish.ensures.value) w.y-is (w.fine-is ∙ loop.invariant.known) (w.answers-is ∙ ap back w.event_finish.ensures.answer_after)
+      | in_default w ↦ by_other _ _ _ _ _ put _ _ _ _ number (omega arith) (omega arith) (omega arith) (w.m-is ∙ w.other.ensures.model) (w.y-is ∙ w.other.ensures.cycle) (w.fine-is ∙ w.ok-fine-in_default.ensures ∙ ap model_ok (sym w.m-is)) (w.answers-is ∙ ap back w.other.ensures.answer_after)
     ]
     in
     let carried = in_place _ _ calls lists at _ loop.answers to _ _ _ _ _ (omega arith) (omega arith) (omega arith) (omega arith) did in

@@ -5,4 +5,4 @@ use Rattle.guovssalu.proofs.slope.slope_words.Goals as goal
 
 pub returns : goal.returns
 unfolding slope_raised slope_words
-returns c = simp c.unwrap_or.ensures (simp c.slope_raised-raised.ensures)
+returns c = simp c.count_in.ensures (simp c.slope_raised-raised.ensures)
