@@ -4,18 +4,21 @@ use mathlib.Core.Bool.{Bool, true, false, cond}
 use mathlib.Core.List.{List}
 use mathlib.Core.Path.{◌≡◌, refl}
 use lib.Dec.{eqb, leb}
-use lib.ListN.{get_or}
+use lib.ListN.{length, get_or}
 use Rattle.state.specs.declared.network_model.NetworkModel.{NetworkModel}
 use Rattle.state.specs.Answers.{settled}
 use Rattle.state.specs.declared.congestion_event.CongestionEvent.{CongestionEvent}
 use Rattle.state.specs.declared.cycle.Cycle.{Cycle}
-use Rattle.arguments.specs.CongestionEvent.{event_words}
+use Rattle.events.specs.Event.{event_next}
+use Rattle.arguments.specs.CongestionEvent.{event_from, words_from, event_in, event_words}
+use Rattle.arguments.specs.Sample.{sample_from, acked_of}
 use Rattle.std.specs.Prelude.{Result, Ok, Err}
 use Rattle.std.specs.Result.{result_unwrap_or}
 use Rattle.state.specs.declared.refusals.Cause.{Cause}
 use Rattle.state.specs.Refusals.{given}
-use Rattle.dispatch.specs.Outcome.{Outcome, no_event, is_judged, is_asked, start_outcome, judge_outcome, ask_outcome, enter_outcome, change_outcome}
+use Rattle.dispatch.specs.Outcome.{Outcome, no_event, event_start_number, event_start_words, is_judged, is_asked, start_outcome, judge_outcome, ask_outcome, enter_outcome, change_outcome}
 use Rattle.dispatch.specs.Inner.{other_outcome}
+use Rattle.dispatch.proofs.RoundTrip.{round_trip}
 
 either : (b : Bool) (s t : Outcome) → s.event ≡ no_event → t.event ≡ no_event → (cond b s t).event ≡ no_event
 either true s t p q = p
@@ -33,6 +36,15 @@ event_other w m y =
     (either (is_judged call) (judge_outcome w m y) asks refl
     (either (is_asked call) (ask_outcome w m y) more refl
     (either (leb 40 call) (enter_outcome w m y) (change_outcome w m y) refl refl)))
+
+-- an event's start has a record of 16 words, done or refused
+pub length_started : (w : List ℕ) (m : NetworkModel) → length (event_start_words w m) ≡ 16
+unfolding settled words_from
+length_started w m = go (eqb (event_start_number w m) 0)
+  where
+    go : (t : Bool) → length (cond t (event_words (event_next m (event_from w) (sample_from w) (acked_of w))) (event_in w)) ≡ 16
+    go true = round_trip.event_length (event_next m (event_from w) (sample_from w) (acked_of w))
+    go false = refl
 
 pub unwrapped : {A : Type 0} (r : Result A Cause) (d : A) → result_unwrap_or r d ≡ given r d
 unwrapped (Ok a) d = refl

@@ -12,10 +12,8 @@ use lib.Seq.{sets, length-take-le}
 use borrow.Rule.Slice.PartMut.{mid_of, put_mid}
 use borrow.Author.Tests.{ltb-false, eqb-true, not-false, ne_eqb}
 use Rattle.state.specs.declared.network_model.NetworkModel.{NetworkModel}
-use Rattle.state.specs.Answers.{settled}
 use Rattle.state.specs.NetworkModel.{model_ok}
 use Rattle.state.proofs.Rows.{none, or_left}
-use Rattle.events.specs.Event.{event_next}
 use Rattle.laws.proofs.Tested.{sent_same, start_same, finish_same}
 use Rattle.state.specs.declared.cycle.Cycle.{Cycle}
 use Rattle.words.specs.Words.{word_at, all_bytes}
@@ -28,8 +26,6 @@ use Rattle.layout.specs.Cycle.{cycle_from}
 use Rattle.arguments.specs.Alike.{AreAlike}
 use Rattle.arguments.proofs.Alike.{own_alike}
 use Rattle.arguments.specs.Params.{params_from}
-use Rattle.arguments.specs.CongestionEvent.{event_from, words_from, event_in, event_words}
-use Rattle.arguments.specs.Sample.{sample_from, acked_of}
 use Rattle.dispatch.proofs.RoundTrip.{round_trip}
 use Rattle.words.proofs.Back.{float_fits_lem}
 use Rattle.dispatch.specs.Outcome.{Outcome}
@@ -40,19 +36,11 @@ use Rattle.places.specs.Places.{number_faults, other_faults, faults_of}
 use Rattle.dispatch.specs.OneCall.{own_at, call_at, call_word, answer_words}
 use Rattle.guovssalu.proofs.Rows.{done_room, done_first}
 use Rattle.dispatch.proofs.Alike.{send_alike, finish_alike, other_alike}
-use Rattle.dispatch.proofs.OneCall.{event_other}
+use Rattle.dispatch.proofs.OneCall.{event_other, length_started}
 
 either : (b : Bool) (s t : Outcome) → length s.event ≡ 16 → length t.event ≡ 16 → length (cond b s t).event ≡ 16
 either true s t p q = p
 either false s t p q = q
-
-length_started : (w : List ℕ) (m : NetworkModel) → length (event_start_words w m) ≡ 16
-unfolding settled words_from
-length_started w m = go (eqb (event_start_number w m) 0)
-  where
-    go : (t : Bool) → length (cond t (event_words (event_next m (event_from w) (sample_from w) (acked_of w))) (event_in w)) ≡ 16
-    go true = round_trip.event_length (event_next m (event_from w) (sample_from w) (acked_of w))
-    go false = refl
 
 length_event : (m : NetworkModel) (y : Cycle) (src lists : List ℕ) (at : ℕ) → length (outcome_at m y src lists at).event ≡ 16
 unfolding outcome_at outcome_of other_outcome send_outcome event_outcome finish_outcome
@@ -174,12 +162,12 @@ module _ (m : NetworkModel) (y : Cycle) (src lists : List ℕ) (at : ℕ) (put :
       carried is r p q b
 
 -- a call in a part of the calls, whose answer fills a part of the answers
-pub in_place :
+pub in_room :
     (m : NetworkModel) (y : Cycle) (src lists : List ℕ) (at k : ℕ) (out : List ℕ) (to j : ℕ) (out' : List ℕ) (m' : NetworkModel) (y' : Cycle) (fine' : Bool) →
     k ≡ 392 → at + 392 ≤ length src → j ≡ 144 → to + 144 ≤ length out →
     Carried m y (mid_of at k src) lists 0 (λ (l : List ℕ). put_mid to j out (sets (mid_of to j out) 0 l)) out' m' y' fine' → Carried m y src lists at (sets out to) out' m' y' fine'
 unfolding outcome_at
-in_place m y src lists at k out to j out' m' y' fine' e h f g did =
+in_room m y src lists at k out to j out' m' y' fine' e h f g did =
     let answer = all_bytes (answer_words (call_at src lists at) m (outcome_at m y src lists at)) in
     let long : length answer ≡ j = length_answer m y src lists at ∙ sym f in
     let room : to + j ≤ length out = omega arith in
@@ -188,6 +176,18 @@ in_place m y src lists at k out to j out' m' y' fine' e h f g did =
     let own = words_of_part src at k 0 49 (omega arith) (omega arith) ∙ rw add-zero in
     let there = rw own at did in
     (there.0 ∙ filled, there.1, there.2, there.3)
+
+-- the same of an answer that is put there whole, in place of that part
+pub in_place :
+    (m : NetworkModel) (y : Cycle) (src lists : List ℕ) (at k : ℕ) (out : List ℕ) (to j : ℕ) (out' : List ℕ) (m' : NetworkModel) (y' : Cycle) (fine' : Bool) →
+    k ≡ 392 → at + 392 ≤ length src → j ≡ 144 → to + 144 ≤ length out →
+    Carried m y (mid_of at k src) lists 0 (put_mid to j out) out' m' y' fine' → Carried m y src lists at (sets out to) out' m' y' fine'
+in_place m y src lists at k out to j out' m' y' fine' e h f g did =
+    let own = mid_of at k src in
+    let answer = all_bytes (answer_words (call_at own lists 0) m (outcome_at m y own lists 0)) in
+    let part : length (mid_of to j out) ≡ j = length-take-le j (drop to out) (omega (arith, length-drop to out)) in
+    let whole = sets_whole (mid_of to j out) answer (length_answer m y own lists 0 ∙ sym f ∙ sym part) in
+    in_room m y src lists at k out to j out' m' y' fine' e h f g (did.0 ∙ ap (put_mid to j out) (sym whole), did.1, did.2, did.3)
 
 -- ---- what a run that is done has been lent
 pub run_room : (state src : List ℕ) (room : ℕ) → eqb (model_row state src room) 0 ≡ true → 144 * calls_in src ≤ room

@@ -6,7 +6,7 @@ use borrow.Rule.Slice.PartMut.{mid_of, put_mid}
 use lib.Seq.{sets}
 use Rattle.words.specs.Words.{all_bytes}
 use Rattle.guovssalu.specs.ModelRun.{answers_to, left_by}
-use Rattle.guovssalu.proofs.ModelRun.{Carried, in_place, by_send, by_start, by_end, by_other, left_later, write_answer}
+use Rattle.guovssalu.proofs.ModelRun.{Carried, in_room, by_send, by_start, by_end, by_other, left_later, write_answer}
 use Rattle.guovssalu.proofs.model_run.run_calls.Goals as goal
 use Rattle.guovssalu.proofs.model_run.run_calls.Goals.{in-1, in-3, in-4, in_default}
 
@@ -33,7 +33,7 @@ loop-i-preserved c =
       | in_default w ↦ by_other _ _ _ _ _ put _ _ _ _ number (omega arith) (omega arith) (omega arith) (w.m-is ∙ w.other.ensures.model) (w.y-is ∙ w.other.ensures.cycle) (w.fine-is ∙ w.ok-fine-in_default.ensures ∙ ap model_ok (sym w.m-is)) (w.answers-is ∙ ap back w.other.ensures.answer_after)
     ]
     in
-    let carried = in_place _ _ calls lists at _ loop.answers to _ _ _ _ _ (omega arith) (omega arith) (omega arith) (omega arith) did in
+    let carried = in_room _ _ calls lists at _ loop.answers to _ _ _ _ _ (omega arith) (omega arith) (omega arith) (omega arith) did in
     record {
       written = rw (carried.0, carried.1, carried.2) (write_answer calls lists loop.i count test loop.m loop.y loop.answers loop.invariant.written);
       left = rw (carried.1, carried.2) (left_later calls lists loop.i count test loop.m loop.y loop.invariant.left);
