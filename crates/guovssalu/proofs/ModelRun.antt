@@ -161,6 +161,12 @@ module _ (m : NetworkModel) (y : Cycle) (src lists : List ℕ) (at : ℕ) (put :
       let is : other_outcome (own_at src at) m y ≡ outcome_at m y src lists at = sym (other_at w m y (λ x. f (number ∙ x)) (λ x. g (number ∙ x)) (λ x. h (number ∙ x)) ∙ other_alike w (own_at src at) alike m y) in
       carried is r p q b
 
+-- an answer as long as a part fills it
+fills : (out : List ℕ) (to j : ℕ) (answer : List ℕ) → length answer ≡ j → to + j ≤ length out → sets (mid_of to j out) 0 answer ≡ answer
+fills out to j answer long room =
+    let part : length (mid_of to j out) ≡ j = length-take-le j (drop to out) (omega (arith, length-drop to out)) in
+    sets_whole (mid_of to j out) answer (long ∙ sym part)
+
 -- a call in a part of the calls, whose answer fills a part of the answers
 pub in_room :
     (m : NetworkModel) (y : Cycle) (src lists : List ℕ) (at k : ℕ) (out : List ℕ) (to j : ℕ) (out' : List ℕ) (m' : NetworkModel) (y' : Cycle) (fine' : Bool) →
@@ -171,13 +177,12 @@ in_room m y src lists at k out to j out' m' y' fine' e h f g did =
     let answer = all_bytes (answer_words (call_at src lists at) m (outcome_at m y src lists at)) in
     let long : length answer ≡ j = length_answer m y src lists at ∙ sym f in
     let room : to + j ≤ length out = omega arith in
-    let part : length (mid_of to j out) ≡ j = length-take-le j (drop to out) (omega (arith, length-drop to out)) in
-    let filled = ap (put_mid to j out) (sets_whole (mid_of to j out) answer (long ∙ sym part)) ∙ put_part to j out answer long room in
+    let filled = ap (put_mid to j out) (fills out to j answer long room) ∙ put_part to j out answer long room in
     let own = words_of_part src at k 0 49 (omega arith) (omega arith) ∙ rw add-zero in
     let there = rw own at did in
     (there.0 ∙ filled, there.1, there.2, there.3)
 
--- the same of an answer that is put there whole, in place of that part
+-- the same where the answer is put there in place of that part
 pub in_place :
     (m : NetworkModel) (y : Cycle) (src lists : List ℕ) (at k : ℕ) (out : List ℕ) (to j : ℕ) (out' : List ℕ) (m' : NetworkModel) (y' : Cycle) (fine' : Bool) →
     k ≡ 392 → at + 392 ≤ length src → j ≡ 144 → to + 144 ≤ length out →
@@ -185,9 +190,8 @@ pub in_place :
 in_place m y src lists at k out to j out' m' y' fine' e h f g did =
     let own = mid_of at k src in
     let answer = all_bytes (answer_words (call_at own lists 0) m (outcome_at m y own lists 0)) in
-    let part : length (mid_of to j out) ≡ j = length-take-le j (drop to out) (omega (arith, length-drop to out)) in
-    let whole = sets_whole (mid_of to j out) answer (length_answer m y own lists 0 ∙ sym f ∙ sym part) in
-    in_room m y src lists at k out to j out' m' y' fine' e h f g (did.0 ∙ ap (put_mid to j out) (sym whole), did.1, did.2, did.3)
+    let filled = fills out to j answer (length_answer m y own lists 0 ∙ sym f) (omega arith) in
+    in_room m y src lists at k out to j out' m' y' fine' e h f g (did.0 ∙ ap (put_mid to j out) (sym filled), did.1, did.2, did.3)
 
 -- ---- what a run that is done has been lent
 pub run_room : (state src : List ℕ) (room : ℕ) → eqb (model_row state src room) 0 ≡ true → 144 * calls_in src ≤ room
